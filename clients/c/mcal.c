@@ -1,5 +1,6 @@
 /* The standard's services over the lines of `mcal_live`. The C stack has a loop for each frame under way. */
 #include <stdarg.h>
+#include <stddef.h>
 #include <stdio.h>
 #include <stdlib.h>
 #include <string.h>
@@ -10,6 +11,7 @@
 #include "Icu.h"
 #include "Mcal.h"
 #include "Mcal_Link.h"
+#include "Mcal_Text.h"
 #include "Mcu.h"
 #include "Port.h"
 #include "Pwm.h"
@@ -24,10 +26,17 @@
 
 /* What the answer to a line tells: of a step at most one callback or report, the end of its frame, and a reset. */
 typedef struct {
-  char held[WORD], note[WORD], service[WORD], error[WORD], name[WORD], reset[WORD], next[WORD], reg[WORD];
-  uint32 note_number, dropped, count, words[NUMBERS], value;
   boolean has_note, has_error, runtime, ended, is_reset;
+  uint32 note_number, dropped, value, count, words[NUMBERS];
+  char held[WORD], note[WORD], service[WORD], error[WORD], name[WORD], reset[WORD], next[WORD], reg[WORD];
 } Told;
+
+/* Nothing is told yet. */
+static void clear(Told *told) {
+  memset(told, 0, offsetof(Told, words));
+  told->held[0] = told->note[0] = told->service[0] = told->error[0] = 0;
+  told->name[0] = told->reset[0] = told->next[0] = told->reg[0] = 0;
+}
 
 typedef void (*Row)(char *row, void *to);
 
@@ -59,64 +68,58 @@ static void copy(char *to, const char *from) {
   to[length] = 0;
 }
 
-/* The numbers behind a word of a state line. */
+/* ---- answers */
+
+/* A state line: `> FRAMES at LEVEL masked pending LINE ..`, without what isn't so. */
 static void take_state(char *line) {
-  char *at = strstr(line, " at "), *lines = strstr(line, " pending");
-  frames = (uint32)strtoul(line + 1, NULL, 10);
-  top_level = at ? (uint32)strtoul(at + 4, NULL, 10) : 0;
-  pending = 0;
-  for (char *word = lines ? lines + 8 : NULL; word && *word;) {
-    char *end;
-    unsigned long number = strtoul(word, &end, 10);
-    if (end == word) break;
-    pending |= (uint32)1 << (number & 31u);
-    word = end;
+  char *rest = line + 1, *word;
+  frames = next_number(&rest);
+  top_level = pending = 0;
+  while ((word = next_word(&rest)) != NULL) {
+    const char *end;
+    if (*word == 'a') top_level = next_number(&rest);
+    else if (*word <= '9') pending |= (uint32)1 << (number_of(word, &end) & 31u);
   }
 }
 
-static void take_answer(Told *told) {
-  for (char *word; (word = strtok(NULL, " ")) != NULL;) {
-    char *end;
-    unsigned long value = strtoul(word, &end, 10);
+static void take_answer(Told *told, char *rest) {
+  for (char *word; (word = next_word(&rest)) != NULL;) {
+    const char *end;
+    uint32 value = number_of(word, &end);
     if (*end) { if (!told->name[0]) copy(told->name, word); }
-    else if (told->count < NUMBERS) told->words[told->count++] = (uint32)value;
+    else if (told->count < NUMBERS) told->words[told->count++] = value;
   }
   told->ended = TRUE;
-}
-
-static uint32 next_number(void) {
-  char *word = strtok(NULL, " ");
-  return word ? (uint32)strtoul(word, NULL, 10) : 0;
 }
 
 /* Takes a line of an answer, without its number. */
 static void take_line(char *row, void *to) {
   Told *told = to;
-  char *kind = strtok(row, " ");
+  char *rest = row, *kind = next_word(&rest);
   if (!kind) return;
-  if (!strcmp(kind, "held")) copy(told->held, strtok(NULL, " "));
+  if (!strcmp(kind, "return")) {
+    next_word(&rest);
+    take_answer(told, rest);
+  } else if (!strcmp(kind, "held")) copy(told->held, next_word(&rest));
   else if (!strcmp(kind, "fault")) copy(told->held, "refused");
   else if (!strcmp(kind, "note")) {
-    copy(told->note, strtok(NULL, " "));
-    told->note_number = next_number();
+    copy(told->note, next_word(&rest));
+    told->note_number = next_number(&rest);
     told->has_note = TRUE;
   } else if (!strcmp(kind, "error") || !strcmp(kind, "runtime")) {
     told->runtime = kind[0] == 'r';
-    copy(told->service, strtok(NULL, " "));
-    copy(told->error, strtok(NULL, " "));
+    copy(told->service, next_word(&rest));
+    copy(told->error, next_word(&rest));
     told->has_error = TRUE;
-  } else if (!strcmp(kind, "return")) {
-    strtok(NULL, " ");
-    take_answer(told);
   } else if (!strcmp(kind, "left")) told->ended = TRUE;
   else if (!strcmp(kind, "reset")) {
-    copy(told->reset, strtok(NULL, " "));
-    told->dropped = next_number();
+    copy(told->reset, next_word(&rest));
+    told->dropped = next_number(&rest);
     told->is_reset = TRUE;
   } else if (!strcmp(kind, "next")) {
-    copy(told->next, strtok(NULL, " "));
-    copy(told->reg, strtok(NULL, " "));
-    told->value = next_number();
+    copy(told->next, next_word(&rest));
+    copy(told->reg, next_word(&rest));
+    told->value = next_number(&rest);
   }
 }
 
@@ -128,8 +131,7 @@ static boolean read_answer(Row row, void *to) {
       take_state(line);
       return TRUE;
     }
-    if (line[0] == '#') continue;
-    if (!strncmp(line, "configuration", 13) || !strncmp(line, "too long", 8) || !strncmp(line, "no program", 10)) {
+    if (line[0] == 'c' || line[0] == 't' || line[0] == 'n') { /* configuration fault .., too long .., no program .. */
       snprintf(refusal, sizeof refusal, "%s", line);
       Mcal_Refusal = refusal;
       return FALSE;
@@ -151,19 +153,20 @@ static void ask_rows(Row row, void *to, const char *line) {
 }
 
 /* Says a line, and hears what it tells. */
-static Told ask_line(const char *line) {
-  Told told = {0};
+static void ask_line(const char *line, Told *told) {
+  clear(told);
   say(line);
-  if (!read_answer(take_line, &told)) stop(line, Mcal_Refusal);
-  return told;
+  if (!read_answer(take_line, told)) stop(line, Mcal_Refusal);
 }
 static Told ask(const char *format, ...) {
   char line[128];
+  Told told;
   va_list arguments;
   va_start(arguments, format);
-  vsnprintf(line, sizeof line, format, arguments);
+  put(line, line + sizeof line, format, arguments);
   va_end(arguments);
-  return ask_line(line);
+  ask_line(line, &told);
+  return told;
 }
 
 /* ---- callbacks, errors, and steps */
@@ -276,54 +279,57 @@ static void refresh(void);
 static boolean goes_by_steps(void) { return Mcal_Hook || Mcal_Exchange; }
 
 /* Makes a step of the top frame, or all to the next that tells something. */
-static Told move_on(void) {
+static void move_on(Told *told) {
   hook();
   if (Mcal_Exchange) exchange();
-  if (!goes_by_steps()) return ask("next");
-  Mcal_Steps++;
-  return ask("step");
+  if (goes_by_steps()) Mcal_Steps++;
+  ask_line(goes_by_steps() ? "step" : "next", told);
 }
 
-/* Makes steps of the top frame until it ends, the first of which were `moved` where that isn't NULL, and gives its answer, with
-   whether an error was reported. */
-static Told finish(const Told *moved) {
+/* Makes steps of the top frame until it ends, the first of which were made where `moved`, and tells its answer, with whether an
+   error was reported. */
+static void finish(Told *told, boolean moved) {
   boolean erred = FALSE;
-  for (;; moved = NULL) {
-    Told told = moved ? *moved : move_on();
-    if (told.held[0]) stop("a step", told.held);
-    meet_reset(&told);
-    erred = erred || told.has_error;
-    if (told.has_error) tell_error(&told);
-    if (told.has_note) {
+  for (;; moved = FALSE) {
+    if (!moved) move_on(told);
+    if (told->held[0]) stop("a step", told->held);
+    meet_reset(told);
+    erred = erred || told->has_error;
+    if (told->has_error) tell_error(told);
+    if (told->has_note) {
       uint8 level = Mcal_Level;
       Mcal_Level = (uint8)top_level;
-      call_back(told.note, told.note_number);
+      call_back(told->note, told->note_number);
       Mcal_Level = level;
     }
-    if (told.ended) {
-      told.has_error = erred;
-      if (frames == 0) refresh();
-      return told;
-    }
+    if (told->ended) break;
   }
+  told->has_error = erred;
+  if (frames == 0) refresh();
 }
 
 /* Calls a service with arguments as text; an empty answer where it is held. Without a hook its first steps are asked for in the
    same go. */
 static Told call(const char *service, const char *format, ...) {
-  char line[160];
+  char line[160], *end = line + sizeof line, *to;
+  Told told;
   boolean in_one_go = !goes_by_steps();
   va_list arguments;
+  to = put_number(put_word(line, end, in_one_go ? "next do " : "call "), Mcal_Level);
+  *to++ = ' ';
+  to = put_word(to, end, service);
+  *to++ = ' ';
   va_start(arguments, format);
-  int at = snprintf(line, 80, "%s %u %s ", in_one_go ? "next do" : "call", (unsigned)Mcal_Level, service);
-  vsnprintf(line + at, 80, format, arguments);
+  put(to, end, format, arguments);
   va_end(arguments);
-  Told told = ask_line(line);
+  ask_line(line, &told);
   if (told.held[0]) {
     Mcal_OnHeld(service, told.held);
-    return (Told){0};
+    clear(&told);
+  } else {
+    finish(&told, in_one_go);
   }
-  return finish(in_one_go ? &told : NULL);
+  return told;
 }
 
 /* The place of the answer's name among these, the last of which is NULL; of no answer this one. */
@@ -335,7 +341,8 @@ static uint32 named(const Told *told, uint32 none, const char *const *names) {
 #define NAMES(...) ((const char *const[]){__VA_ARGS__, NULL})
 
 static Std_ReturnType ok(const Told *told) { return strcmp(told->name, "E_OK") ? E_NOT_OK : E_OK; }
-static uint32 number(const Told *told) { return told->count ? told->words[0] : 0; }
+static uint32 number_at(const Told *told, uint32 place) { return place < told->count ? told->words[place] : 0; }
+static uint32 number(const Told *told) { return number_at(told, 0); }
 
 /* ---- power and what happens outside */
 
@@ -374,10 +381,11 @@ static void outside(Told told) {
   meet_reset(&told);
 }
 void Mcal_Tick(uint32 ticks) {
-  Told reset = {0};
+  Told reset;
+  clear(&reset);
   for (uint32 left = ticks, piece; ; left -= piece) {
     piece = left < MOST_TICKS ? left : MOST_TICKS;
-    Told told = ask("tick %lu", (unsigned long)piece);
+    Told told = ask("tick %u", piece);
     if (told.held[0]) outside(told);
     if (told.is_reset) reset = told;
     if (left == piece) break;
@@ -401,7 +409,7 @@ const char *Mcal_Interrupt(uint8 line) {
     copy(cause, told.held);
     return cause;
   }
-  finish(in_one_go ? &told : NULL);
+  finish(&told, in_one_go);
   return NULL;
 }
 
@@ -415,8 +423,9 @@ uint32 Mcal_Serve(void) {
 typedef struct { uint32 pin; int level; } Seen;
 static void take_pin(char *row, void *to) {
   Seen *seen = to;
-  unsigned pin, level;
-  if (sscanf(row, "pin %u: %u", &pin, &level) == 2 && pin == seen->pin) seen->level = (int)level;
+  char *rest = row, *kind = next_word(&rest);
+  uint32 pin = next_number(&rest);
+  if (kind && !strcmp(kind, "pin") && pin == seen->pin) seen->level = (int)next_number(&rest);
 }
 int Mcal_Pin(uint8 pin) {
   Seen seen = { pin, -1 };
@@ -432,27 +441,26 @@ static struct { const Spi_DataBufferType *source; Spi_DataBufferType *destinatio
 static uint32 lengths[16];
 static boolean has_arrays;
 
-/* Copies a row of `show buffers` to the array that it is of. */
+/* Copies a row of `show buffers` to the array that it is of: `adc 0 1: ..`, `icu 0: ..`, `spi 0 src: ..`. */
 static void take_row(char *row, void *to) {
-  char kind[8] = "", side[8] = "";
-  unsigned object = 0, buffer = 0;
-  char *values = strchr(row, ':');
+  char *values = strchr(row, ':'), *rest = row;
+  const char *end;
   (void)to;
   if (!values) return;
   *values++ = 0;
-  int parts = sscanf(row, "%7s %u %7s", kind, &object, side);
-  if (parts < 2 || object > 15) return;
-  buffer = (unsigned)strtoul(side, NULL, 10) & 1u;
-  Adc_ValueGroupType *result = strcmp(kind, "adc") ? NULL : results[object][buffer];
+  char *kind = next_word(&rest);
+  uint32 object = next_number(&rest), place = 0;
+  char *side = next_word(&rest);
+  if (!kind || object > 15) return;
+  if (!side) side = rest;
+  Adc_ValueGroupType *result = strcmp(kind, "adc") ? NULL : results[object][number_of(side, &end) & 1u];
   Icu_ValueType *stamp = strcmp(kind, "icu") || object > 7 ? NULL : stamps[object];
   Spi_DataBufferType *word = strcmp(side, "dst") ? NULL : external[object].destination;
-  uint32 place = 0;
-  for (char *end; ; values = end, place++) {
-    unsigned long value = strtoul(values, &end, 10);
-    if (end == values) break;
-    if (result) result[place] = (Adc_ValueGroupType)value;
-    if (stamp) stamp[place] = (Icu_ValueType)value;
-    if (word && place < external[object].length) word[place] = (Spi_DataBufferType)value;
+  for (char *value; (value = next_word(&values)) != NULL; place++) {
+    uint32 number = number_of(value, &end);
+    if (result) result[place] = (Adc_ValueGroupType)number;
+    if (stamp) stamp[place] = (Icu_ValueType)number;
+    if (word && place < external[object].length) word[place] = (Spi_DataBufferType)number;
   }
   if (!strcmp(side, "src")) lengths[object] = place;
 }
@@ -470,15 +478,18 @@ static void forget(void) {
 }
 /* Stores words in a serial channel's source array; a channel that is in use keeps what it has. */
 static void fill(uint32 channel, const Spi_DataBufferType *words, uint32 count) {
-  char line[512];
-  int at = snprintf(line, sizeof line, "fill %lu", (unsigned long)channel);
-  for (uint32 place = 0; place < count && at < (int)sizeof line - 8; place++) at += snprintf(line + at, sizeof line - (size_t)at, " %u", (unsigned)words[place]);
+  char line[512], *end = line + sizeof line, *to = put_number(put_word(line, end, "fill "), channel);
+  for (uint32 place = 0; place < count && end - to > 12; place++) {
+    *to++ = ' ';
+    to = put_number(to, words[place]);
+  }
+  *to = 0;
   if (count) ask_rows(NULL, NULL, line);
 }
 
 /* ---- the services */
 
-#define ONE(service, type) void service(type first) { call(#service, "%lu", (unsigned long)first); }
+#define ONE(service, type) void service(type first) { call(#service, "%u", (unsigned)first); }
 #define NONE(service) void service(void) { call(#service, ""); }
 #define INIT(module) void module##_Init(const module##_ConfigType *ConfigPtr) { (void)ConfigPtr; call(#module "_Init", ""); }
 
@@ -503,7 +514,7 @@ INIT(Gpt)
 NONE(Gpt_DeInit)
 Gpt_ValueType Gpt_GetTimeElapsed(Gpt_ChannelType channel) { Told t = call("Gpt_GetTimeElapsed", "%u", (unsigned)channel); return number(&t); }
 Gpt_ValueType Gpt_GetTimeRemaining(Gpt_ChannelType channel) { Told t = call("Gpt_GetTimeRemaining", "%u", (unsigned)channel); return number(&t); }
-void Gpt_StartTimer(Gpt_ChannelType channel, Gpt_ValueType value) { call("Gpt_StartTimer", "%u %lu", (unsigned)channel, (unsigned long)value); }
+void Gpt_StartTimer(Gpt_ChannelType channel, Gpt_ValueType value) { call("Gpt_StartTimer", "%u %u", (unsigned)channel, (unsigned)value); }
 ONE(Gpt_StopTimer, Gpt_ChannelType)
 ONE(Gpt_EnableNotification, Gpt_ChannelType)
 ONE(Gpt_DisableNotification, Gpt_ChannelType)
@@ -544,8 +555,8 @@ ONE(Icu_StopSignalMeasurement, Icu_ChannelType)
 Icu_ValueType Icu_GetTimeElapsed(Icu_ChannelType channel) { Told t = call("Icu_GetTimeElapsed", "%u", (unsigned)channel); return number(&t); }
 void Icu_GetDutyCycleValues(Icu_ChannelType channel, Icu_DutyCycleType *values) {
   Told t = call("Icu_GetDutyCycleValues", "%u", (unsigned)channel);
-  values->ActiveTime = t.words[0];
-  values->PeriodTime = t.words[1];
+  values->ActiveTime = number_at(&t, 0);
+  values->PeriodTime = number_at(&t, 1);
 }
 
 INIT(Adc)
@@ -578,12 +589,14 @@ Adc_StreamNumSampleType Adc_GetStreamLastPointer(Adc_GroupType group, Adc_ValueG
   return (Adc_StreamNumSampleType)number(&t);
 }
 static void take_chosen(char *row, void *to) {
-  unsigned *found = to, group, buffer;
-  if (sscanf(row, "adc %u %u:", &group, &buffer) == 2 && group == found[0]) found[1] = buffer;
+  uint32 *found = to;
+  char *rest = row, *kind = next_word(&rest);
+  uint32 group = next_number(&rest);
+  if (kind && !strcmp(kind, "adc") && group == found[0]) found[1] = next_number(&rest);
 }
 /* The buffer that is chosen; where services are under way the first one. */
 static Adc_ValueGroupType *chosen(Adc_GroupType group) {
-  unsigned found[2] = { group, 0 };
+  uint32 found[2] = { group, 0 };
   if (frames == 0) ask_rows(take_chosen, found, "show buffers");
   return results[group & 15u][found[1] & 1u];
 }

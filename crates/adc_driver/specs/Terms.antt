@@ -57,8 +57,10 @@ pub use Rattle.word_shapes.specs.{declared.choosing.Front.{Front}, declared.choo
 pub use Rattle.word_shapes.specs.{declared.put.Put.{Put}, declared.search.Search.{Search}, declared.take.Take.{Take}}
 pub use Rattle.service_outline.specs.{Acts.{Cleans, is_quiet, KeepsClean}, Both.{both}, DeferredWrites.{AreFree}}
 pub use Rattle.service_outline.specs.{DeferredWrites.{AreWindows, GoesFree, GoesOwing, is_fill, is_simple, or_owed}}
-pub use Rattle.service_outline.specs.{DeferredWrites.{spot_or, Under, Windows}, Done.{ends, goes, named, named_with}}
-pub use Rattle.service_outline.specs.{Done.{tells_error}, FrameHistory.{FrameHistory, fresh_history, Is_this_frame}}
+pub use Rattle.run_model.specs.{Machine.{named, named_with}}
+pub use Rattle.service_outline.specs.{DeferredWrites.{spot_or, Under, Windows}, Done.{ends, goes}}
+pub use Rattle.run_model.specs.{Machine.{tells_error}}
+pub use Rattle.service_outline.specs.{FrameHistory.{FrameHistory, fresh_history, Is_this_frame}}
 pub use Rattle.service_outline.specs.{FrameHistory.{IsThisFrame, past_wrote}, Fuel.{Shortens, ShortensTo}}
 pub use Rattle.service_outline.specs.{Services.{AllLet, AllLower, AreEnding, AreEndingServices, AreLong, AssertedAt}}
 pub use Rattle.service_outline.specs.{Services.{Beside, CanBegin, Continues, Decides, ended_at, entering, gap_at}}

@@ -7,9 +7,8 @@ use Rattle.mcal_base.specs.declared.moves.Event.{Event}
 use Rattle.mcal_base.specs.declared.moves.Event.TheVariants as events
 use Rattle.mcal_base.specs.declared.notice.NoticeKind.TheVariants.{AdcNotification}
 use Rattle.run_model.specs.Frame.{Origin, Called, Entered}
-use Rattle.run_model.specs.Machine.{no_answer}
+use Rattle.run_model.specs.Machine.{no_answer, named, named_with, numbers}
 use Rattle.run_model.specs.World.{World}
-use Rattle.service_outline.specs.Done.{named, named_with, numbers}
 use Rattle.service_outline.specs.DeferredWrites.{deferring_writes, Under, Windows, windows as windows_of}
 use Rattle.service_outline.specs.FrameHistory.{FrameHistory, fresh_history, IsThisFrame}
 use Rattle.service_outline.specs.Services.{SharedRefinement, PointAssertion, Within, Outside, Looking, LongBodies}

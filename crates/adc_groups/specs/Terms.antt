@@ -62,7 +62,8 @@ pub use Rattle.word_shapes.specs.{PriorityQueue.{next_left, search_move, waiting
 pub use Rattle.word_shapes.specs.{TripleBuffer.{own_of, put_gave, put_left, take_gave, take_left, word_at}}
 pub use Rattle.word_shapes.specs.{declared.choosing.Front.{Front}, declared.search.Search.{Search}}
 pub use Rattle.service_outline.specs.{DeferredWrites.{AreOwed, CommitsTo, deferring_writes, is_fill, is_simple}}
-pub use Rattle.service_outline.specs.{Done.{answers, named, numbers, tells_error}, FrameHistory.{FrameHistory}}
+pub use Rattle.run_model.specs.{Machine.{answers, named, numbers, tells_error}}
+pub use Rattle.service_outline.specs.{FrameHistory.{FrameHistory}}
 pub use Rattle.service_outline.specs.{FrameHistory.{fresh_history, Is_this_frame, IsThisFrame}, Services.{Adding}}
 pub use Rattle.service_outline.specs.{Services.{AssertedAt, ended_at, IsBasis, Looking, MakesTo, MayCome, MayStop}}
 pub use Rattle.service_outline.specs.{Services.{Outside, PointAssertion, ReservedBy, RightOr, SharedRefinement, Steady}}

@@ -9,8 +9,7 @@ use Rattle.mcal_base.specs.declared.error_name.ErrorName.{ErrorName}
 use Rattle.mcal_base.specs.declared.notice.Notice.{Notice}
 use Rattle.mcal_base.specs.declared.notice.NoticeKind.TheVariants.{AdcNotification}
 use Rattle.run_model.specs.World.{World}
-use Rattle.run_model.specs.Machine.{Happening, Acts, Serves, Starts, Aborts, Moves, Restarts, Outcome, Machine, no_answer, tells_nothing, outcome}
-use Rattle.service_outline.specs.Done.{answers, named, named_with, numbers, tells_error}
+use Rattle.run_model.specs.Machine.{Happening, Acts, Serves, Starts, Aborts, Moves, Restarts, Outcome, Machine, no_answer, tells_nothing, outcome, answers, named, named_with, numbers, tells_error}
 use Rattle.adc_machine.specs.Table.{group_of, all_groups, by_group}
 use Rattle.adc_machine.specs.Checks.{Circumstances, service_of, error_by, zero_null, answer_refused}
 use Rattle.adc_machine.specs.Groups.{Status, Idle, Busy, Completed, StreamCompleted, GroupState, Round, untouched, is_continuous, samples_of, values_of, is_finished, name_of, is_idle, status_after, status_read, ends_with_stream, is_full, newest, place_in, with_round_of, held_in}

@@ -34,7 +34,8 @@ pub use Rattle.word_shapes.specs.{PriorityQueue.{Holds as HoldsOrder, own_of as 
 pub use Rattle.word_shapes.specs.{TripleBuffer.{Fits, free, IsBank, listed, own_of, pin_of, put_start, PutIn}}
 pub use Rattle.word_shapes.specs.{TripleBuffer.{PutStands, Stands, word_at}, declared.put.Put.{Put}}
 pub use Rattle.word_shapes.specs.{declared.take.Take.{Take}, declared.triple_buffer.TripleBuffer.{TripleBuffer}}
-pub use Rattle.service_outline.specs.{DeferredWrites.{CommitsTo}, Done.{answers, goes, named_with}}
+pub use Rattle.run_model.specs.{Machine.{answers, named_with}}
+pub use Rattle.service_outline.specs.{DeferredWrites.{CommitsTo}, Done.{goes}}
 pub use Rattle.service_outline.specs.{FrameHistory.{FrameHistory, fresh_history, Is_this_frame, past_after}}
 pub use Rattle.service_outline.specs.{Services.{AssertedAt, Beside, ended_at, MakesTo, mark_of, ReservedBy, RightOr}}
 pub use Rattle.service_outline.specs.{Services.{with_holds}, Short.{ended_by}}

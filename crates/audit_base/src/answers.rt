@@ -1,6 +1,6 @@
 ghost use Rattle.std.specs.Prelude.{◌≡◌, [], ◌∷◌};
 ghost use Rattle.run_model.specs.Machine.{no_answer};
-ghost use Rattle.service_outline.specs.Done as spec;
+ghost use Rattle.run_model.specs.Machine as spec;
 
 use mcal_base::{Answer, AnswerName, Head, Words};
 

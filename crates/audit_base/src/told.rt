@@ -1,6 +1,5 @@
 ghost use Rattle.std.specs.Prelude.{◌≡◌};
-ghost use Rattle.run_model.specs.Machine.{tells_nothing};
-ghost use Rattle.service_outline.specs.Done.{answers, tells_error};
+ghost use Rattle.run_model.specs.Machine.{tells_nothing, answers, tells_error};
 ghost use Rattle.audit_base.specs.Tells.{listed, gives};
 
 use crate::answers::nothing;

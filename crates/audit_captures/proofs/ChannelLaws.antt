@@ -7,12 +7,12 @@ use Rattle.std.proofs.lemmas.Bool.Decides.{nat_tests}
 use Rattle.std.proofs.lemmas.List.Elements.{filter_map-append}
 use Rattle.mcal_base.specs.declared.config.icu.IcuSignalMeasurementProperty.{IcuSignalMeasurementProperty}
 use Rattle.mcal_base.specs.declared.config.icu.IcuSignalMeasurementProperty.TheVariants.{HighTime, LowTime, PeriodTime, DutyCycle}
-use Rattle.icu_driver.specs.Edges as edges
-use Rattle.icu_driver.specs.Edges.{begins_rising, ends_rising, measures, newest, value_of, values_by}
-use Rattle.icu_driver.specs.Machine as machine
-use Rattle.icu_driver.specs.Table.{channel_of}
-use Rattle.icu_driver.specs.declared.driver.Channel.{Channel}
-use Rattle.icu_driver.specs.declared.driver.IcuDriver.{IcuDriver}
+use Rattle.icu_machine.specs.Edges as edges
+use Rattle.icu_machine.specs.Edges.{begins_rising, ends_rising, measures, newest, value_of, values_by}
+use Rattle.icu_machine.specs.Machine as machine
+use Rattle.icu_machine.specs.Table.{channel_of}
+use Rattle.icu_machine.specs.declared.table.Channel.{Channel}
+use Rattle.icu_machine.specs.declared.table.IcuTable.{IcuTable}
 use Rattle.audit_captures.specs.Measures.{waiting, ended, seen_of, Nothing_seen, told_with}
 use Rattle.audit_captures.specs.Stands.{seen_as, value_as, seen_by, seen_after, told_after, capture_of, Follows, FollowsIf, SameMeasures, NoMeasures, LeavesMeasures, left_served, ChannelStands, ServedWithin}
 use Rattle.audit_captures.specs.declared.capture.Capture as kept
@@ -21,7 +21,7 @@ use Rattle.audit_captures.specs.declared.measure.Value.{Value}
 use Rattle.audit_captures.proofs.MeasureLaws.{measures_more, newest_append, one_added, seen_more, told_more}
 
 -- a configured channel is one of eight
-pub channel-below : (d : IcuDriver) (c : ℕ) (k : Channel) → channel_of d c ≡ Some k → c < 8
+pub channel-below : (d : IcuTable) (c : ℕ) (k : Channel) → channel_of d c ≡ Some k → c < 8
 channel-below d c k e = by (nat_lt c 8) refl e
   where
     by : (q : Bool) → nat_lt c 8 ≡ q → (if q then slice_index_or d.channels c None else None) ≡ Some k → c < 8

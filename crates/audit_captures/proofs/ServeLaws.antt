@@ -1,11 +1,11 @@
 -- What a serving is: the oldest edge of the line's channel, where one waits.
 use Rattle.std.proofs.Common.{◌≡◌, ℕ, nat_lt, Bool, true, false, ◌&&◌, Option, Some, None, List, [], ◌∷◌, ◌∙◌, refl, sym, ap}
 use Rattle.std.specs.Prelude.{if◌then◌else◌}
-use Rattle.icu_driver.specs.Edges.{Edge}
-use Rattle.icu_driver.specs.Machine.{IcuState, capture_at, served_edge, waits}
-use Rattle.icu_driver.specs.Table.{channel_of, channel_of_line, channel_number}
-use Rattle.icu_driver.specs.declared.driver.Channel.{Channel}
-use Rattle.icu_driver.specs.declared.driver.IcuDriver.{IcuDriver}
+use Rattle.icu_machine.specs.Edges.{Edge}
+use Rattle.icu_machine.specs.Machine.{IcuState, capture_at, served_edge, waits}
+use Rattle.icu_machine.specs.Table.{channel_of, channel_of_line, channel_number}
+use Rattle.icu_machine.specs.declared.table.Channel.{Channel}
+use Rattle.icu_machine.specs.declared.table.IcuTable.{IcuTable}
 use Rattle.audit_captures.specs.Stands.{served_if, served_on, split}
 
 -- ---- a list and its parts
@@ -26,7 +26,7 @@ split-none es h = sym (joined-is es) ∙ sym (ap joined h)
 
 -- ---- the channel of a line
 
-pub line-channel : (d : IcuDriver) (l : ℕ) (k : Channel) → channel_of_line d l ≡ Some k → channel_of d (channel_number l) ≡ Some k
+pub line-channel : (d : IcuTable) (l : ℕ) (k : Channel) → channel_of_line d l ≡ Some k → channel_of d (channel_number l) ≡ Some k
 line-channel d l k e = by (nat_lt l 16) e
   where
     by : (q : Bool) → (if q then None else channel_of d (channel_number l)) ≡ Some k → channel_of d (channel_number l) ≡ Some k

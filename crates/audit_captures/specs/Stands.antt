@@ -1,14 +1,14 @@
 -- How what the program keeps stands for the machine's state, which keeps all edges that were served and all times that were stored.
 use Rattle.std.specs.Prelude.{◌≡◌, ℕ, ◌+◌, ◌*◌, ◌<◌, ◌≤◌, Bool, true, false, List, [], ◌∷◌, ◌++◌, Option, Some, None, length, option_map, nat_lt, if◌then◌else◌, slice_index_or, slice_set}
-use Rattle.icu_driver.specs.Edges as edges
-use Rattle.icu_driver.specs.Edges.{begins_rising, ends_rising, values, newest}
-use Rattle.icu_driver.specs.Machine as machine
-use Rattle.icu_driver.specs.Machine.{IcuState, capture_at, stamp_in}
-use Rattle.icu_driver.specs.Table.{channel_of}
-use Rattle.icu_driver.specs.declared.call.ChannelCall.{ChannelCall}
-use Rattle.icu_driver.specs.declared.call.ChannelCall.TheVariants.{StartTimestamp, StartSignalMeasurement}
-use Rattle.icu_driver.specs.declared.driver.Channel.{Channel}
-use Rattle.icu_driver.specs.declared.driver.IcuDriver.{IcuDriver}
+use Rattle.icu_machine.specs.Edges as edges
+use Rattle.icu_machine.specs.Edges.{begins_rising, ends_rising, values, newest}
+use Rattle.icu_machine.specs.Machine as machine
+use Rattle.icu_machine.specs.Machine.{IcuState, capture_at, stamp_in}
+use Rattle.icu_machine.specs.Table.{channel_of}
+use Rattle.icu_machine.specs.declared.call.ChannelCall.{ChannelCall}
+use Rattle.icu_machine.specs.declared.call.ChannelCall.TheVariants.{StartTimestamp, StartSignalMeasurement}
+use Rattle.icu_machine.specs.declared.table.Channel.{Channel}
+use Rattle.icu_machine.specs.declared.table.IcuTable.{IcuTable}
 use Rattle.mcal_base.specs.declared.config.icu.IcuMeasurementMode.{IcuMeasurementMode}
 use Rattle.mcal_base.specs.declared.config.icu.IcuMeasurementMode.TheVariants.{Timestamp, SignalMeasurement}
 use Rattle.mcal_base.specs.declared.config.icu.IcuSignalMeasurementProperty.{IcuSignalMeasurementProperty}
@@ -153,7 +153,7 @@ pub record ChannelStands (k : Option Channel) (y : kept.Capture) (x : machine.Ca
 
 -- What is kept: the table, how many servings there were, whether the module is initialised, each channel, and the stamps, 64 a channel.
 pub record CapturesKept : Type 0 where
-  pub driver : IcuDriver
+  pub driver : IcuTable
   pub servings : ℕ
   pub initialised : Bool
   pub channels : List kept.Capture

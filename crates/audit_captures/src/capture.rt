@@ -1,15 +1,15 @@
 ghost use Rattle.std.specs.Prelude.{◌≡◌, ◌<◌, ◌≤◌, ◌+◌, ◌%◌, ◌^◌, ◌++◌, [], ◌∷◌, true, false, List, Some, option_map, option_to_list, length, if◌then◌else◌};
 ghost use Rattle.std.specs.Option.{option_or};
-ghost use Rattle.icu_driver.specs.Edges as edges;
-ghost use Rattle.icu_driver.specs.Machine as spec;
-ghost use Rattle.icu_driver.specs.Machine.{Stamp};
-ghost use Rattle.icu_driver.specs.Table as table;
+ghost use Rattle.icu_machine.specs.Edges as edges;
+ghost use Rattle.icu_machine.specs.Machine as spec;
+ghost use Rattle.icu_machine.specs.Machine.{Stamp};
+ghost use Rattle.icu_machine.specs.Table as table;
 ghost use Rattle.audit_captures.specs.Stands.{capture_of, edge_of, start_of, seen_as, value_as, seen_after, told_after, restarts, left_served, keeps_edge, more_served, more_stored, FollowsIf, SameMeasures, NoMeasures, LeavesMeasures};
-ghost use Rattle.icu_driver.specs.Table.{is_timestamp};
+ghost use Rattle.icu_machine.specs.Table.{is_timestamp};
 
 use crate::measure::{Seen, Value, begins_rising, ends_rising};
 use crate::queue::{Edge, Queue};
-use icu_driver::{Channel, ChannelCall};
+use icu_machine::{Channel, ChannelCall};
 use mcal_base::{IcuMeasurementMode, IcuStartEdge, IcuTimestampMeasurementProperty, NoticeKind};
 
 /// A start of timestamps.

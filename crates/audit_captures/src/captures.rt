@@ -2,11 +2,11 @@ ghost use Rattle.std.specs.Prelude.{◌≡◌, ◌<◌, ◌≤◌, ◌+◌, ◌^
 ghost use Rattle.mcal_base.specs.declared.directive.Order.TheVariants.{Level};
 ghost use Rattle.run_model.specs.Machine.{Acts, Serves, Moves, outcome, tells_nothing};
 ghost use Rattle.run_model.specs.World.{World};
-ghost use Rattle.icu_driver.specs.Checks as checks;
-ghost use Rattle.icu_driver.specs.Edges as edges;
-ghost use Rattle.icu_driver.specs.Machine as spec;
-ghost use Rattle.icu_driver.specs.Machine.{IcuState, capture_at, stamp_in};
-ghost use Rattle.icu_driver.specs.Table.{channel_of, channel_of_line, is_timestamp};
+ghost use Rattle.icu_machine.specs.Checks as checks;
+ghost use Rattle.icu_machine.specs.Edges as edges;
+ghost use Rattle.icu_machine.specs.Machine as spec;
+ghost use Rattle.icu_machine.specs.Machine.{IcuState, capture_at, stamp_in};
+ghost use Rattle.icu_machine.specs.Table.{channel_of, channel_of_line, is_timestamp};
 ghost use Rattle.audit_base.specs.Comes.{Comes, ComesIf, Gives};
 ghost use Rattle.audit_base.specs.Tells.{listed, gives};
 ghost use Rattle.audit_captures.specs.Stands.{StandsFor, ChannelStands, ServedWithin, blank, edge_of, served_if, served_on, with_kept, stored_if};
@@ -16,14 +16,14 @@ use crate::checks::{answer, facts, refused};
 use crate::queue::Edge;
 use audit_base::{Notices, Told};
 use det_errors::first_error;
-use icu_driver::{Call, Channel, ChannelCall, IcuDriver};
+use icu_machine::{Call, Channel, ChannelCall, IcuTable};
 use mcal_base::{ErrorName, IcuMeasurementMode, Notice, NoticeKind};
 use std::marker::Model;
 
 /// The machine of the capture channels under a configuration. Times are in peripheral ticks.
 #[derive(Drop)]
 pub struct Captures {
-    driver: IcuDriver,
+    driver: IcuTable,
     servings: u32,
     initialised: bool,
     channels: [Capture; 8],
@@ -61,7 +61,7 @@ fn notices(channel: u32, kind: Option<NoticeKind>) -> Notices
 
 impl Captures {
     /// After power on.
-    pub fn new(driver: IcuDriver) -> Captures
+    pub fn new(driver: IcuTable) -> Captures
         ensures is { StandsFor result spec.first_state }
         ensures driver { result.driver ≡ driver }
         ensures servings { result.servings ≡ 0 }

@@ -1,11 +1,11 @@
 ghost use Rattle.std.specs.Prelude.{◌≡◌, Some, option_map};
-ghost use Rattle.icu_driver.specs.Edges as edges;
-ghost use Rattle.icu_driver.specs.Table as table;
+ghost use Rattle.icu_machine.specs.Edges as edges;
+ghost use Rattle.icu_machine.specs.Table as table;
 ghost use Rattle.audit_captures.specs.Measures as spec;
 ghost use Rattle.audit_captures.specs.Stands.{edge_of, seen_as, value_as};
 
 use crate::queue::Edge;
-use icu_driver::Channel;
+use icu_machine::Channel;
 use mcal_base::{IcuSignalMeasurementProperty, IcuStartEdge};
 
 /// What was seen of the newest measure that waits for its end. Times are in peripheral ticks, modulo 2^32.

@@ -4,12 +4,12 @@ use Rattle.std.specs.Prelude.{if◌then◌else◌, bit_and, not, slice_index_or}
 use Rattle.std.proofs.lemmas.Bool.Decides.{nat_tests}
 use Rattle.plain_facts.specs.Truths.{and_first}
 use Rattle.mcal_base.specs.Bits.{bit_of, bits_of, has_bit}
-use Rattle.port_driver.specs.Machine.{PinState, with_latch}
-use Rattle.dio_driver.specs.Table.{FitsDio, channel_of, channel_pins, configured, has_pin, pins_of, some_pins, those_configured}
-use Rattle.dio_driver.specs.declared.access.PortPins.{PortPins}
-use Rattle.dio_driver.specs.declared.call.Call.{Call}
-use Rattle.dio_driver.specs.declared.call.Call.TheVariants.{ReadChannel, WriteChannel, FlipChannel, ReadPort, WritePort, ReadChannelGroup, WriteChannelGroup}
-use Rattle.dio_driver.specs.declared.driver.DioDriver.{DioDriver}
+use Rattle.port_machine.specs.Machine.{PinState, with_latch}
+use Rattle.dio_machine.specs.Table.{FitsDio, channel_of, channel_pins, configured, has_pin, pins_of, some_pins, those_configured}
+use Rattle.dio_machine.specs.declared.table.PortPins.{PortPins}
+use Rattle.dio_machine.specs.declared.call.Call.{Call}
+use Rattle.dio_machine.specs.declared.call.Call.TheVariants.{ReadChannel, WriteChannel, FlipChannel, ReadPort, WritePort, ReadChannelGroup, WriteChannelGroup}
+use Rattle.dio_machine.specs.declared.table.DioTable.{DioTable}
 use Rattle.audit_clock.specs.PinStands.{latched}
 
 -- ---- a word that is put to port q: its pin of place n is 8q + n
@@ -77,16 +77,16 @@ inverted_there q p old now current c e = by (p == q) refl e
 -- ---- the pins of a call
 
 -- a channel is one of 64 pins, in one of eight ports
-pin_few : (d : DioDriver) (p : ℕ) (x : PortPins) (q : Bool) → has_pin d p ≡ q → (if q then Some (channel_pins p) else None) ≡ Some x → (p < 64) × (channel_pins p ≡ x)
+pin_few : (d : DioTable) (p : ℕ) (x : PortPins) (q : Bool) → has_pin d p ≡ q → (if q then Some (channel_pins p) else None) ≡ Some x → (p < 64) × (channel_pins p ≡ x)
 pin_few d p x true e is =
     let low = and_first (nat_lt p 64) _ e in
     (grind (arith, nat_tests), cc)
 pin_few d p x false e is = absurd (cc)
 
-pub low_channel : (d : DioDriver) (p : ℕ) (x : PortPins) → channel_of d p ≡ Some x → p < 64
+pub low_channel : (d : DioTable) (p : ℕ) (x : PortPins) → channel_of d p ≡ Some x → p < 64
 low_channel d p x is = (pin_few d p x (has_pin d p) refl is).0
 
-channel_port : (d : DioDriver) (p : ℕ) (x : PortPins) → channel_of d p ≡ Some x → x.port < 8
+channel_port : (d : DioTable) (p : ℕ) (x : PortPins) → channel_of d p ≡ Some x → x.port < 8
 channel_port d p x is =
     let k = pin_few d p x (has_pin d p) refl is in
     let lt : p < 64 = k.0 in
@@ -96,23 +96,23 @@ mask_by : (q mask : ℕ) (x : PortPins) (none : Bool) → (if none then None els
 mask_by q mask x true is = absurd (cc)
 mask_by q mask x false is = let at : record { port = q; mask = mask; offset = 0 } ≡ x = cc in sym (ap (λ (y : PortPins). y.port) at)
 
-port_few : (d : DioDriver) (q : ℕ) (x : PortPins) (low : Bool) → nat_lt q 8 ≡ low → (if low then some_pins q (configured d q) else None) ≡ Some x → x.port < 8
+port_few : (d : DioTable) (q : ℕ) (x : PortPins) (low : Bool) → nat_lt q 8 ≡ low → (if low then some_pins q (configured d q) else None) ≡ Some x → x.port < 8
 port_few d q x true e is = let lt : q < 8 = grind (arith, nat_tests) in subst (λ n. n < 8) (sym (mask_by q (configured d q) x (configured d q == 0) is)) lt
 port_few d q x false e is = absurd (cc)
 
 -- the configured pins of a group are of the group's port
-those_few : (d : DioDriver) (k : Option PortPins) (x : PortPins) → ((y : PortPins) → k ≡ Some y → y.port < 8) → those_configured d k ≡ Some x → x.port < 8
+those_few : (d : DioTable) (k : Option PortPins) (x : PortPins) → ((y : PortPins) → k ≡ Some y → y.port < 8) → those_configured d k ≡ Some x → x.port < 8
 those_few d None x few is = absurd (cc)
 those_few d (Some k) x few is =
     let at : record { port = k.port; mask = bit_and k.mask (configured d k.port); offset = k.offset } ≡ x = cc in
     subst (λ (y : PortPins). y.port < 8) at (few k refl)
 
-group_few : (d : DioDriver) → FitsDio d → (g : ℕ) (x : PortPins) (low : Bool) → nat_lt g 8 ≡ low → (if low then those_configured d (slice_index_or d.groups g None) else None) ≡ Some x → x.port < 8
+group_few : (d : DioTable) → FitsDio d → (g : ℕ) (x : PortPins) (low : Bool) → nat_lt g 8 ≡ low → (if low then those_configured d (slice_index_or d.groups g None) else None) ≡ Some x → x.port < 8
 group_few d fits g x true e is = those_few d (slice_index_or d.groups g None) x (λ k on. fits.port g k (grind (arith, nat_tests)) on) is
 group_few d fits g x false e is = absurd (cc)
 
 -- the pins that a call is about are of one of eight ports
-pub low_port : (d : DioDriver) → FitsDio d → (c : Call) (x : PortPins) → pins_of d c ≡ Some x → x.port < 8
+pub low_port : (d : DioTable) → FitsDio d → (c : Call) (x : PortPins) → pins_of d c ≡ Some x → x.port < 8
 low_port d fits (ReadChannel p) x is = channel_port d p x is
 low_port d fits (WriteChannel p high) x is = channel_port d p x is
 low_port d fits (FlipChannel p) x is = channel_port d p x is

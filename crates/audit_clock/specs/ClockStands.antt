@@ -1,14 +1,14 @@
 -- How what the program keeps stands for the machine of clock, RAM and resets, which keeps what was filled.
 use Rattle.std.specs.Prelude.{◌≡◌, ℕ, ◌<◌, ◌&&◌, not, nat_lt, List, Bool, Option, slice_index_or}
 use Rattle.mcal_base.specs.declared.directive.Reason.{Reason}
-use Rattle.mcu_driver.specs.Machine as machine
-use Rattle.mcu_driver.specs.Machine.{McuState, ram_at}
-use Rattle.mcu_driver.specs.declared.driver.McuDriver.{McuDriver}
+use Rattle.mcu_machine.specs.Machine as machine
+use Rattle.mcu_machine.specs.Machine.{McuState, ram_at}
+use Rattle.mcu_machine.specs.declared.table.McuTable.{McuTable}
 use Rattle.audit_clock.specs.declared.clock.Pll as code
 
 -- What is kept: the table, the module's state, and each RAM word as it is.
 pub record ClockKept : Type 0 where
-  pub driver : McuDriver
+  pub driver : McuTable
   pub initialised : Bool
   pub rate : ℕ
   pub pll : Option machine.Pll

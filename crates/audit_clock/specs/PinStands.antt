@@ -1,16 +1,16 @@
 -- How the pins that the program keeps stand for the machine's state, which keeps what was done to them.
 use Rattle.std.specs.Prelude.{◌≡◌, ℕ, ◌+◌, ◌<◌, List, Bool, Option, slice_index_or, if◌then◌else◌}
 use Rattle.mcal_base.specs.Bits.{has_bit}
-use Rattle.port_driver.specs.Machine.{PinState, PortState, untouched, pin_at, initial, refreshed, with_latch}
+use Rattle.port_machine.specs.Machine.{PinState, PortState, untouched, pin_at, initial, refreshed, with_latch}
 use Rattle.audit_clock.specs.declared.pin_state.PinState as code
 use Rattle.audit_clock.specs.declared.pin_state.Whole.{Whole}
 use Rattle.audit_clock.specs.declared.pin_state.Whole.TheVariants.{Configured, Refreshed}
-use Rattle.port_driver.specs.declared.driver.Pin.{Pin}
-use Rattle.port_driver.specs.declared.driver.PortDriver.{PortDriver}
+use Rattle.port_machine.specs.declared.table.Pin.{Pin}
+use Rattle.port_machine.specs.declared.table.PortTable.{PortTable}
 
 -- What is kept: the table, whether the module is initialised, and each pin as it is.
 pub record PinsKept : Type 0 where
-  pub driver : PortDriver
+  pub driver : PortTable
   pub initialised : Bool
   pub pins : List PinState
 

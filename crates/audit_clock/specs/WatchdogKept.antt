@@ -1,8 +1,8 @@
 -- What the program of the watchdog keeps.
-use Rattle.wdg_driver.specs.Machine.{WdgState}
-use Rattle.wdg_driver.specs.declared.driver.WdgDriver.{WdgDriver}
+use Rattle.wdg_machine.specs.Machine.{WdgState}
+use Rattle.wdg_machine.specs.declared.table.WdgTable.{WdgTable}
 
 -- The watchdog's machine under a configuration.
 pub record WatchdogKept : Type 0 where
-  pub driver : WdgDriver
+  pub driver : WdgTable
   pub state : WdgState

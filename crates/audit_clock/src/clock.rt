@@ -1,12 +1,12 @@
 ghost use Rattle.std.specs.Prelude.{◌≡◌, ◌==◌, ◌<◌, ◌+◌, ℕ, min, not, Some, option_map, slice_index_or, if◌then◌else◌};
 ghost use Rattle.mcal_base.specs.declared.answer_name.AnswerName.TheVariants.{EOk};
-ghost use Rattle.service_outline.specs.Done as done;
+ghost use Rattle.run_model.specs.Machine as done;
 ghost use Rattle.run_model.specs.Machine.{Acts};
 ghost use Rattle.run_model.specs.World.{World};
-ghost use Rattle.mcu_driver.specs.Checks as checks;
-ghost use Rattle.mcu_driver.specs.Machine as spec;
-ghost use Rattle.mcu_driver.specs.Machine.{McuState, ram_at};
-ghost use Rattle.mcu_driver.specs.Table.{section_of};
+ghost use Rattle.mcu_machine.specs.Checks as checks;
+ghost use Rattle.mcu_machine.specs.Machine as spec;
+ghost use Rattle.mcu_machine.specs.Machine.{McuState, ram_at};
+ghost use Rattle.mcu_machine.specs.Table.{section_of};
 ghost use Rattle.audit_base.specs.Comes.{Comes, Gives};
 ghost use Rattle.audit_clock.specs.ClockStands.{StandsFor, is_between, pll_of};
 
@@ -14,7 +14,7 @@ use crate::clock_checks::{facts, reason_name, refused, status_name};
 use audit_base::{Told, named};
 use det_errors::first_error;
 use mcal_base::{AnswerName, ErrorName, Reason};
-use mcu_driver::{Call, ClockCall, McuDriver, Section};
+use mcu_machine::{Call, ClockCall, McuTable, Section};
 use std::marker::Model;
 
 /// A PLL that was started.
@@ -29,7 +29,7 @@ pub struct Pll {
 /// The machine of clock, RAM and resets under a configuration. Times are in ticks of the oscillator.
 #[derive(Drop)]
 pub struct Clock {
-    driver: McuDriver,
+    driver: McuTable,
     initialised: bool,
     rate: u32,
     pll: Option<Pll>,
@@ -68,7 +68,7 @@ fn is_locked(pll: Option<Pll>, osc: u64) -> bool
 
 impl Clock {
     /// After power on.
-    pub fn new(driver: McuDriver) -> Clock
+    pub fn new(driver: McuTable) -> Clock
         ensures is { StandsFor result spec.first_state }
         ensures driver { result.driver ≡ driver }
     {

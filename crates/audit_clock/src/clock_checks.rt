@@ -1,14 +1,14 @@
 ghost use Rattle.std.specs.Prelude.{◌≡◌, false, [], ◌∷◌};
-ghost use Rattle.mcu_driver.specs.Checks as checks;
-ghost use Rattle.mcu_driver.specs.Machine as spec;
+ghost use Rattle.mcu_machine.specs.Checks as checks;
+ghost use Rattle.mcu_machine.specs.Machine as spec;
 
 use audit_base::{named, nothing};
 use det_errors::Facts;
 use mcal_base::{Answer, AnswerName, Reason};
-use mcu_driver::{Call, ClockCall, McuDriver};
+use mcu_machine::{Call, ClockCall, McuTable};
 
 /// Whether the errors of a call hold, in their order: the module is uninitialised, the PLL isn't locked.
-pub(crate) fn facts(driver: &McuDriver, call: Call, off: bool, unlocked: bool) -> Facts
+pub(crate) fn facts(driver: &McuTable, call: Call, off: bool, unlocked: bool) -> Facts
     ensures { result.holds ≡ checks.facts_by driver.now call off unlocked }
 {
     let holds = match call {

@@ -1,10 +1,10 @@
 ghost use Rattle.std.specs.Prelude.{◌≡◌, ◌==◌, ◌<◌, ℕ, not, slice_index_or, if◌then◌else◌};
 ghost use Rattle.run_model.specs.Machine.{Acts};
 ghost use Rattle.run_model.specs.World.{World};
-ghost use Rattle.port_driver.specs.Checks as checks;
-ghost use Rattle.port_driver.specs.Machine as spec;
-ghost use Rattle.port_driver.specs.Machine.{PortState};
-ghost use Rattle.port_driver.specs.Table.{pin_of};
+ghost use Rattle.port_machine.specs.Checks as checks;
+ghost use Rattle.port_machine.specs.Machine as spec;
+ghost use Rattle.port_machine.specs.Machine.{PortState};
+ghost use Rattle.port_machine.specs.Table.{pin_of};
 ghost use Rattle.audit_base.specs.Comes.{Comes};
 ghost use Rattle.audit_clock.specs.PinStands.{StandsFor, state_of, turned};
 
@@ -14,13 +14,13 @@ use crate::pin_state::{
 use audit_base::{Told, nothing};
 use det_errors::{Facts, first_error};
 use mcal_base::ErrorName;
-use port_driver::{Call, PortDriver};
+use port_machine::{Call, PortTable};
 use std::marker::Model;
 
 /// The machine of the pins under a configuration.
 #[derive(Drop)]
 pub struct Pins {
-    driver: PortDriver,
+    driver: PortTable,
     initialised: bool,
     pins: [PinState; 64],
 }
@@ -38,7 +38,7 @@ impl Model for Pins {
 
 impl Pins {
     /// After power on.
-    pub fn new(driver: PortDriver) -> Pins
+    pub fn new(driver: PortTable) -> Pins
         ensures is { StandsFor result spec.first_state }
         ensures driver { result.driver ≡ driver }
     {

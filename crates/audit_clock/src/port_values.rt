@@ -1,10 +1,10 @@
 ghost use Rattle.std.specs.Prelude.{◌≡◌, ◌<◌, ◌≤◌};
 ghost use Rattle.mcal_base.specs.Bits.{bit_of};
-ghost use Rattle.dio_driver.specs.Accesses as spec;
-ghost use Rattle.dio_driver.specs.Checks as checks;
+ghost use Rattle.dio_machine.specs.Values as spec;
+ghost use Rattle.dio_machine.specs.Checks as checks;
 
 use audit_base::{named, nothing, number};
-use dio_driver::{Call, PortPins};
+use dio_machine::{Call, PortPins};
 use mcal_base::{Answer, AnswerName};
 
 /// What the bit of the first of these pins counts in their port.

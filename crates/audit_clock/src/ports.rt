@@ -1,11 +1,11 @@
 ghost use Rattle.std.specs.Prelude.{◌≡◌, ◌<◌, ℕ, Bool, [], Some, Option};
-ghost use Rattle.service_outline.specs.Done as done;
-ghost use Rattle.dio_driver.specs.Accesses as accesses;
-ghost use Rattle.dio_driver.specs.Checks as checks;
-ghost use Rattle.dio_driver.specs.Machine as spec;
-ghost use Rattle.dio_driver.specs.Table as table;
-ghost use Rattle.dio_driver.specs.declared.access.PortPins as tables;
-ghost use Rattle.port_driver.specs.Machine.{PortState, level_at};
+ghost use Rattle.run_model.specs.Machine as done;
+ghost use Rattle.dio_machine.specs.Values as accesses;
+ghost use Rattle.dio_machine.specs.Checks as checks;
+ghost use Rattle.dio_machine.specs.Machine as spec;
+ghost use Rattle.dio_machine.specs.Table as table;
+ghost use Rattle.dio_machine.specs.declared.table.PortPins as tables;
+ghost use Rattle.port_machine.specs.Machine.{PortState, level_at};
 ghost use Rattle.run_model.specs.World.{World};
 ghost use Rattle.audit_base.specs.Comes.{Gives};
 ghost use Rattle.audit_clock.specs.PinStands.{StandsFor};
@@ -17,21 +17,21 @@ use crate::pins::Pins;
 use crate::port_values::{bit, level_answer, moved_down, refused, word_of};
 use audit_base::{Told, number};
 use det_errors::{Facts, first_error};
-use dio_driver::{Call, DioDriver, PortPins};
+use dio_machine::{Call, DioTable, PortPins};
 use std::marker::Model;
 
 /// Channels, ports and groups under a configuration. They have no state: their calls read the levels of pins and change their
 /// latches.
 #[derive(Drop)]
 pub struct Ports {
-    driver: DioDriver,
+    driver: DioTable,
 }
 
 impl Model for Ports {
-    ghost use Rattle.dio_driver.specs.Table.{FitsDio};
-    ghost use Rattle.dio_driver.specs.declared.driver.DioDriver.{DioDriver};
+    ghost use Rattle.dio_machine.specs.Table.{FitsDio};
+    ghost use Rattle.dio_machine.specs.declared.table.DioTable.{DioTable};
 
-    ghost Value = { DioDriver };
+    ghost Value = { DioTable };
 
     ghost view = { λ t. t.driver };
 
@@ -55,7 +55,7 @@ fn some_pins(port: u32, mask: u8) -> Option<PortPins>
 }
 
 /// A one for each configured pin of a port.
-fn configured(driver: &DioDriver, port: u8) -> u8
+fn configured(driver: &DioTable, port: u8) -> u8
     ensures { result ≡ table.configured driver.now port }
 {
     if port < 8 {
@@ -66,7 +66,7 @@ fn configured(driver: &DioDriver, port: u8) -> u8
 }
 
 /// A channel, which is a configured pin.
-fn channel(driver: &DioDriver, pin: u32) -> Option<PortPins>
+fn channel(driver: &DioTable, pin: u32) -> Option<PortPins>
     ensures { result ≡ table.channel_of driver.now pin }
 {
     if pin < 64 && has_bit(driver.ports[(pin / 8) as usize] as u32, pin % 8) {
@@ -81,7 +81,7 @@ fn channel(driver: &DioDriver, pin: u32) -> Option<PortPins>
 }
 
 /// The configured pins of a port, where there are some.
-fn port_pins(driver: &DioDriver, port: u32) -> Option<PortPins>
+fn port_pins(driver: &DioTable, port: u32) -> Option<PortPins>
     ensures { result ≡ table.port_of driver.now port }
 {
     if port < 8 {
@@ -92,7 +92,7 @@ fn port_pins(driver: &DioDriver, port: u32) -> Option<PortPins>
 }
 
 /// The configured ones of some pins.
-fn those_configured(driver: &DioDriver, pins: Option<PortPins>) -> Option<PortPins>
+fn those_configured(driver: &DioTable, pins: Option<PortPins>) -> Option<PortPins>
     ensures { result ≡ table.those_configured driver.now pins }
 {
     match pins {
@@ -106,7 +106,7 @@ fn those_configured(driver: &DioDriver, pins: Option<PortPins>) -> Option<PortPi
 }
 
 /// The configured pins of a group, where that is configured.
-fn group(driver: &DioDriver, number: u32) -> Option<PortPins>
+fn group(driver: &DioTable, number: u32) -> Option<PortPins>
     ensures { result ≡ table.group_of driver.now number }
 {
     if number < 8 {
@@ -117,7 +117,7 @@ fn group(driver: &DioDriver, number: u32) -> Option<PortPins>
 }
 
 /// The pins that a call is about, none where its channel, port or group isn't configured.
-fn pins_of(driver: &DioDriver, call: Call) -> Option<PortPins>
+fn pins_of(driver: &DioTable, call: Call) -> Option<PortPins>
     ensures { result ≡ table.pins_of driver.now call }
 {
     match call {
@@ -213,7 +213,7 @@ fn unknown(call: Call) -> Told
 
 impl Ports {
     /// Under a configuration, in which the port of each group is one of eight.
-    pub fn new(driver: DioDriver) -> Ports
+    pub fn new(driver: DioTable) -> Ports
         requires { table.FitsDio driver }
         ensures { result ≡ driver }
     {

@@ -1,19 +1,19 @@
 ghost use Rattle.std.specs.Prelude.{◌≡◌, ◌<◌, ◌^◌, ℕ, not, Some, is_some};
 ghost use Rattle.run_model.specs.Machine.{Acts, outcome};
 ghost use Rattle.run_model.specs.World.{World};
-ghost use Rattle.wdg_driver.specs.Checks as checks;
-ghost use Rattle.wdg_driver.specs.Machine as spec;
+ghost use Rattle.wdg_machine.specs.Checks as checks;
+ghost use Rattle.wdg_machine.specs.Machine as spec;
 
 use audit_base::{Told, named, nothing};
 use det_errors::{Facts, first_error};
 use mcal_base::{Answer, AnswerName, ErrorName, WdgMode};
 use std::marker::Model;
-use wdg_driver::{Call, WdgDriver};
+use wdg_machine::{Call, WdgTable};
 
 /// The watchdog's machine under a configuration. Times are in ticks of the oscillator.
 #[derive(Drop)]
 pub struct Watchdog {
-    driver: WdgDriver,
+    driver: WdgTable,
     mode: Option<WdgMode>,
     timeout: u32,
     deadline: Option<u64>,
@@ -41,7 +41,7 @@ fn deadline(osc: u64, timeout: u32, mode: WdgMode) -> Option<u64>
 
 /// Whether the errors of a call hold, in their order: the module is uninitialised, the mode is none, the timeout is above
 /// the largest.
-fn facts(driver: &WdgDriver, call: Call, off: bool) -> Facts
+fn facts(driver: &WdgTable, call: Call, off: bool) -> Facts
     ensures { result.holds ≡ checks.facts_by driver.now call off }
 {
     let holds = match call {
@@ -71,7 +71,7 @@ fn refused(call: Call) -> Answer
 
 impl Watchdog {
     /// After power on.
-    pub fn new(driver: WdgDriver) -> Watchdog
+    pub fn new(driver: WdgTable) -> Watchdog
         ensures { result ≡ record { driver = driver; state = spec.first_state } }
     {
         Watchdog {

@@ -1,8 +1,7 @@
 -- What is read of a group, by whether it is busy.
 use Rattle.std.proofs.Common.{◌≡◌, ℕ, ◌-◌, true, false, cond, not, ◌∷◌, [], length, min, refl}
 use Rattle.mcal_base.specs.declared.answer_name.AnswerName.TheVariants.{EOk, ENotOk}
-use Rattle.run_model.specs.Machine.{outcome}
-use Rattle.service_outline.specs.Done.{answers, named, named_with, numbers}
+use Rattle.run_model.specs.Machine.{outcome, answers, named, named_with, numbers}
 use Rattle.adc_machine.specs.Checks.{zero_null}
 use Rattle.adc_machine.specs.Groups.{Status, Idle, Busy, Completed, StreamCompleted, is_idle, newest, place_in, samples_of}
 use Rattle.adc_machine.specs.Machine.{is_group_busy, is_start_busy, reads, points, read_from}

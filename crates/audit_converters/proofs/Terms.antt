@@ -22,7 +22,7 @@ pub use Rattle.mcal_base.specs.declared.directive.Order.TheVariants.{Trigger}
 pub use Rattle.plain_facts.specs.Numbers.{lt_from, lt_since}
 pub use Rattle.run_model.specs.Machine.{Aborts, Acts, Moves, outcome, Starts, tells_nothing}
 pub use Rattle.run_model.specs.World.{Sample}
-pub use Rattle.service_outline.specs.Done.{answers, named, named_with, numbers, tells_error}
+pub use Rattle.run_model.specs.Machine.{answers, named, named_with, numbers, tells_error}
 pub use Rattle.audit_converters.proofs.Last.{level_at, levels_more, none_more}
 pub use Rattle.audit_converters.proofs.Levels.{ended_fits, has_room, le_known, left_within, levels_next, levels_none, levels_past, newest_is, range_is, range_length, some_mapped, take_within}
 pub use Rattle.audit_converters.proofs.Places.{all_groups_stand, both_units, no_marks, no_rounds, same_results, set_groups, set_marks, set_units, skip_groups, skip_marks, skip_units, untouched_groups, within_blank, within_more}

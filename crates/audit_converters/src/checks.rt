@@ -1,7 +1,7 @@
 ghost use Rattle.std.specs.Prelude.{◌≡◌};
 ghost use Rattle.adc_machine.specs.Checks as checks;
 ghost use Rattle.adc_machine.specs.Table.{group_of};
-ghost use Rattle.service_outline.specs.Done as done;
+ghost use Rattle.run_model.specs.Machine as done;
 ghost use Rattle.mcal_base.specs.declared.answer_name.AnswerName.TheVariants.{EOk};
 ghost use Rattle.audit_converters.specs.Stands.{circumstances_as, sets_up};
 

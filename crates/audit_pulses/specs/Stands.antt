@@ -1,10 +1,10 @@
 -- How what the program keeps stands for the machine's state.
 use Rattle.std.specs.Prelude.{◌+◌, ◌<◌, ◌≤◌, ℕ, List, [], Bool, map, slice_index_or, if◌then◌else◌}
 use Rattle.chip_pulses.specs.declared.regime.Commit.{Commit}
-use Rattle.pwm_driver.specs.Machine as machine
-use Rattle.pwm_driver.specs.Output as outputs
-use Rattle.pwm_driver.specs.Refinement.{IsBegun}
-use Rattle.pwm_driver.specs.declared.driver.PwmDriver.{PwmDriver}
+use Rattle.pwm_machine.specs.Machine as machine
+use Rattle.pwm_machine.specs.Output as outputs
+use Rattle.pwm_machine.specs.Units.{IsBegun}
+use Rattle.pwm_machine.specs.declared.table.PwmTable.{PwmTable}
 use Rattle.audit_pulses.specs.declared.output.Output.{Output}
 use Rattle.audit_pulses.specs.declared.output.Output.TheVariants.{Idle, Runs, GivesWay}
 use Rattle.audit_pulses.specs.declared.pulse.Pulse.{Pulse}
@@ -13,7 +13,7 @@ use Rattle.audit_pulses.specs.declared.regime.Regime.{Regime}
 
 -- The machine of the pulse outputs under a configuration, and the latest time that it was told.
 pub record Kept : Type 0 where
-  pub driver : PwmDriver
+  pub driver : PwmTable
   pub latest : ℕ
   pub state : machine.PwmState
 

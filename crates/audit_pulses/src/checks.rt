@@ -1,13 +1,13 @@
 ghost use Rattle.std.specs.Prelude.{◌≡◌};
-ghost use Rattle.pwm_driver.specs.Checks as checks;
+ghost use Rattle.pwm_machine.specs.Checks as checks;
 
 use audit_base::{named, nothing};
 use det_errors::Facts;
 use mcal_base::{Answer, AnswerName};
-use pwm_driver::{Call, Channel, ChannelCall, PwmDriver};
+use pwm_machine::{Call, Channel, ChannelCall, PwmTable};
 
 /// Whether the errors of a call hold, in their order: the module is uninitialised, or its argument is wrong.
-pub(crate) fn facts(driver: &PwmDriver, call: Call, off: bool) -> Facts
+pub(crate) fn facts(driver: &PwmTable, call: Call, off: bool) -> Facts
     ensures { result.holds ≡ checks.facts_by driver.now call off }
 {
     let holds = match call {

@@ -1,13 +1,13 @@
 ghost use Rattle.std.specs.Prelude.{◌≡◌, ◌≤◌};
-ghost use Rattle.pwm_driver.specs.Machine as spec;
-ghost use Rattle.pwm_driver.specs.Output as outputs;
-ghost use Rattle.pwm_driver.specs.Refinement.{IsBegun};
-ghost use Rattle.pwm_driver.specs.Table as table;
+ghost use Rattle.pwm_machine.specs.Machine as spec;
+ghost use Rattle.pwm_machine.specs.Output as outputs;
+ghost use Rattle.pwm_machine.specs.Units.{IsBegun};
+ghost use Rattle.pwm_machine.specs.Table as table;
 ghost use Rattle.audit_pulses.specs.Stands.{output_of, pulse_of, PulseFits};
 
 use crate::output::Output;
 use crate::regime::{Regime, absolute};
-use pwm_driver::{Channel, ChannelCall, PwmEdge};
+use pwm_machine::{Channel, ChannelCall, PwmEdge};
 
 /// A channel. Times are in peripheral ticks.
 #[derive(Clone, Copy)]

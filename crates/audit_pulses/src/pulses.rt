@@ -1,9 +1,9 @@
 ghost use Rattle.std.specs.Prelude.{◌≡◌, ◌==◌, ◌<◌, ◌≤◌, ℕ, Some, None, is_some, not, option_map, if◌then◌else◌};
 ghost use Rattle.run_model.specs.Machine.{Acts, Serves, outcome};
 ghost use Rattle.run_model.specs.World.{World};
-ghost use Rattle.pwm_driver.specs.Checks as checks;
-ghost use Rattle.pwm_driver.specs.Machine as spec;
-ghost use Rattle.pwm_driver.specs.Table.{channel_of, channel_of_line};
+ghost use Rattle.pwm_machine.specs.Checks as checks;
+ghost use Rattle.pwm_machine.specs.Machine as spec;
+ghost use Rattle.pwm_machine.specs.Table.{channel_of, channel_of_line};
 ghost use Rattle.audit_pulses.specs.Stands.{pulse_of, times_of, ArePast, PulseFits};
 
 use crate::checks::{facts, level_answer, refused};
@@ -11,13 +11,13 @@ use crate::pulse::{Pulse, SILENT, polarity};
 use audit_base::{Notices, Told};
 use det_errors::first_error;
 use mcal_base::{ErrorName, Notice, NoticeKind};
-use pwm_driver::{Call, ChannelCall, PwmDriver};
+use pwm_machine::{Call, ChannelCall, PwmTable};
 use std::marker::Model;
 
 /// The machine of the pulse outputs under a configuration, and the latest time that it was told, in peripheral ticks.
 #[derive(Drop)]
 pub struct Pulses {
-    driver: PwmDriver,
+    driver: PwmTable,
     latest: u64,
     initialised: bool,
     touched: bool,
@@ -38,7 +38,7 @@ impl Model for Pulses {
 
 impl Pulses {
     /// After power on.
-    pub fn new(driver: PwmDriver) -> Pulses
+    pub fn new(driver: PwmTable) -> Pulses
         ensures { result ≡ record { driver = driver; latest = 0; state = spec.first_state } }
     {
         Pulses {

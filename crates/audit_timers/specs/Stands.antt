@@ -1,11 +1,11 @@
 -- How what the program keeps stands for the machine's state.
 use Rattle.std.specs.Prelude.{◌<◌, List, [], Bool, map, if◌then◌else◌}
-use Rattle.gpt_driver.specs.Machine as machine
-use Rattle.gpt_driver.specs.declared.call.Call.{Call}
-use Rattle.gpt_driver.specs.declared.call.Call.TheVariants.{Channel}
-use Rattle.gpt_driver.specs.declared.call.ChannelCall.{ChannelCall}
-use Rattle.gpt_driver.specs.declared.call.ChannelCall.TheVariants.{StartTimer}
-use Rattle.gpt_driver.specs.declared.driver.GptDriver.{GptDriver}
+use Rattle.gpt_machine.specs.Machine as machine
+use Rattle.gpt_machine.specs.declared.call.Call.{Call}
+use Rattle.gpt_machine.specs.declared.call.Call.TheVariants.{Channel}
+use Rattle.gpt_machine.specs.declared.call.ChannelCall.{ChannelCall}
+use Rattle.gpt_machine.specs.declared.call.ChannelCall.TheVariants.{StartTimer}
+use Rattle.gpt_machine.specs.declared.table.GptTable.{GptTable}
 use Rattle.audit_timers.specs.declared.course.Course.{Course}
 use Rattle.audit_timers.specs.declared.course.Course.TheVariants.{Never, Running, Stopped}
 use Rattle.audit_timers.specs.declared.timers.Mode.{Mode}
@@ -14,7 +14,7 @@ use Rattle.audit_timers.specs.declared.timing.Timing as code
 
 -- The timers' machine under a configuration.
 pub record Kept : Type 0 where
-  pub driver : GptDriver
+  pub driver : GptTable
   pub state : machine.GptState
 
 -- what a channel is about

@@ -1,13 +1,13 @@
 ghost use Rattle.std.specs.Prelude.{◌≡◌};
-ghost use Rattle.gpt_driver.specs.Checks as checks;
+ghost use Rattle.gpt_machine.specs.Checks as checks;
 
 use audit_base::{nothing, number};
 use det_errors::Facts;
-use gpt_driver::{Call, Change, Channel, ChannelCall, GptDriver};
+use gpt_machine::{Call, Change, Channel, ChannelCall, GptTable};
 use mcal_base::Answer;
 
 /// Whether the errors of a call hold, in their order: the module is uninitialised, it sleeps, a channel is busy.
-pub(crate) fn facts(driver: &GptDriver, call: Call, off: bool, asleep: bool, busy: bool) -> Facts
+pub(crate) fn facts(driver: &GptTable, call: Call, off: bool, asleep: bool, busy: bool) -> Facts
     ensures { result.holds ≡ checks.facts_by driver.now call off asleep busy }
 {
     let holds = match call {

@@ -1,9 +1,9 @@
 ghost use Rattle.std.specs.Prelude.{◌≡◌, ◌==◌, ℕ, Some, None, is_some, option_map, if◌then◌else◌};
 ghost use Rattle.run_model.specs.Machine.{Acts, Serves, outcome};
 ghost use Rattle.run_model.specs.World.{World};
-ghost use Rattle.gpt_driver.specs.Machine as spec;
-ghost use Rattle.gpt_driver.specs.Checks as checks;
-ghost use Rattle.gpt_driver.specs.Table.{channel_of};
+ghost use Rattle.gpt_machine.specs.Machine as spec;
+ghost use Rattle.gpt_machine.specs.Checks as checks;
+ghost use Rattle.gpt_machine.specs.Table.{channel_of};
 ghost use Rattle.audit_timers.specs.Stands.{timing_of, HasTarget, TakesTarget, CallTakes, mode_of};
 
 use crate::checks::{facts, refused};
@@ -11,7 +11,7 @@ use crate::course::Course;
 use crate::timing::{Timing, UNTOUCHED, changed, tells};
 use audit_base::{Notices, Told, number};
 use det_errors::first_error;
-use gpt_driver::{Call, Change, ChannelCall, GptDriver, GptMode, Switches};
+use gpt_machine::{Call, Change, ChannelCall, GptMode, GptTable, Switches};
 use mcal_base::{ErrorName, Notice, NoticeKind};
 use std::marker::Model;
 
@@ -29,7 +29,7 @@ pub enum Mode {
 /// The timers' machine under a configuration. Times are in peripheral ticks.
 #[derive(Drop)]
 pub struct Timers {
-    driver: GptDriver,
+    driver: GptTable,
     mode: Mode,
     touched: bool,
     channels: [Timing; 8],
@@ -60,7 +60,7 @@ fn notes(owed: bool, kind: NoticeKind, channel: u32) -> Told
 
 impl Timers {
     /// After power on.
-    pub fn new(driver: GptDriver) -> Timers
+    pub fn new(driver: GptTable) -> Timers
         ensures { result ≡ record { driver = driver; state = spec.first_state } }
     {
         Timers {

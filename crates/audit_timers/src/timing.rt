@@ -1,9 +1,9 @@
 ghost use Rattle.std.specs.Prelude.{◌≡◌};
-ghost use Rattle.gpt_driver.specs.Machine as spec;
+ghost use Rattle.gpt_machine.specs.Machine as spec;
 ghost use Rattle.audit_timers.specs.Stands.{timing_of, HasTarget};
 
 use crate::course::Course;
-use gpt_driver::{Change, Channel, Switches};
+use gpt_machine::{Change, Channel, Switches};
 
 /// A channel.
 #[derive(Clone, Copy)]

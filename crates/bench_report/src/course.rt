@@ -1,6 +1,9 @@
-ghost use Rattle.std.specs.Prelude.{ℕ, List, ◌≡◌, [], OnOk, IfOk, Some, None, Err, false, map, string_bytes};
+ghost use Rattle.std.specs.Prelude.{ℕ, Bool, List, ◌≡◌, [], OnOk, IfOk, Some, None, Err, false, map, string_bytes};
 ghost use Rattle.std.specs.Bool.{OnTrue};
-ghost use Rattle.run_model.specs.Entry.{entries, entry_at, words_at, answer_at, step_at};
+ghost use Rattle.mcal_base.specs.declared.directive.Directive.{Directive};
+ghost use Rattle.run_model.specs.Entry.{entry_at, words_at, answer_at, step_at};
+ghost use Rattle.run_model.specs.Packing.{item_of, entries_in};
+ghost use Rattle.run_model.specs.declared.kept.JournalLists.{JournalLists};
 ghost use Rattle.bench_report.specs.Lines.{line_of};
 ghost use Rattle.bench_report.specs.Report as spec;
 ghost use Rattle.bench_report.specs.Pages as pages;
@@ -10,7 +13,7 @@ use crate::limit::ReportEnd;
 use crate::lines::Line;
 use crate::page::Page;
 use mcal_base::{Directive, Move};
-use run_model::{Hardware, Item, Logged, LoggedAnswer, Span, What};
+use run_model::{Hardware, JournalLists, Kept, KeptWhat, Logged, LoggedAnswer, Span, What};
 use std::alloc::{AllocError, Global};
 use std::marker::Model;
 
@@ -23,21 +26,31 @@ fn stretch(words: &[u32], span: Span) -> &[u32]
     &rest[..rest.len().min(span.count as usize)]
 }
 
+/// Whether an item is a step.
+fn is_step(item: &Kept) -> bool
+    ensures { (lists : JournalLists) → result ≡ spec.is_stepped (entry_at lists.words.now (item_of lists.rests.now item.now)).said }
+{
+    matches!(item.what, KeptWhat::Stepped(..) | KeptWhat::SteppedWith(..))
+}
+
 /// Whether the next item is a step of a directive at this line.
-fn steps_next(line: u32, items: &[Item]) -> bool
-    ensures { (words : List ℕ) → result ≡ spec.steps_next (spec.own_entries line (entries words items.now)) }
+fn steps_next(line: u32, items: &[Kept]) -> bool
+    ensures { (lists : JournalLists) → result ≡ spec.steps_next (spec.own_entries line (entries_in lists items.now)) }
 {
     match items {
-        [item, ..] => item.line == line && matches!(item.what, What::Stepped(_)),
+        [item, ..] => item.line == line && is_step(item),
         [] => false,
     }
 }
 
-/// Whether a step prints nothing where steps aren't traced.
-fn is_silent(logged: &Logged) -> bool
-    ensures { (c : pages.ReportWriter) (number depth : ℕ) (words : List ℕ) → OnTrue result (pages.step_put false c number depth (step_at words logged.now) ≡ c) }
+/// Whether an item is a step that prints nothing where steps aren't traced. One that has a rest isn't looked at.
+fn is_silent(item: &Kept) -> bool
+    ensures { (directive : Directive) (c : pages.ReportWriter) (next : Bool) (lists : JournalLists) → OnTrue result (pages.entry_put false directive c next (entry_at lists.words.now (item_of lists.rests.now item.now)) ≡ c) }
 {
-    logged.ended.is_none() && !matches!(logged.made, Move::Note(_) | Move::Report(_))
+    match item.what {
+        KeptWhat::Stepped(made, _) => !matches!(made, Move::Note(_) | Move::Report(_)),
+        _ => false,
+    }
 }
 
 /// A report under way: its lines, what the frames were begun for, whether the directive printed nothing but steps and waits
@@ -130,8 +143,8 @@ impl<'a> ReportWriter<'a> {
         }
     }
 
-    /// Prints the lines of a step that has some.
-    fn step_lines(
+    /// Prints the lines of a step.
+    fn step(
         &mut self,
         traced: bool,
         number: u32,
@@ -147,23 +160,6 @@ impl<'a> ReportWriter<'a> {
             Some(answer) => self.left(number, words, answer),
             None => Ok(()),
         }
-    }
-
-    /// Prints the lines of a step.
-    fn step(
-        &mut self,
-        traced: bool,
-        number: u32,
-        depth: u32,
-        words: &[u32],
-        logged: &Logged,
-    ) -> Result<(), AllocError>
-        ensures { OnOk result (self.new ≡ pages.step_put traced self.old number depth (step_at words.now logged.now)) }
-    {
-        if !traced && is_silent(logged) {
-            return Ok(());
-        }
-        self.step_lines(traced, number, depth, words, logged)
     }
 
     /// Prints the lines of the show that comes next.
@@ -188,30 +184,30 @@ impl<'a> ReportWriter<'a> {
         Ok(())
     }
 
-    /// Prints the lines of an item that is no step, with those behind it.
-    fn other(
+    /// Prints the lines of an item of a directive that isn't silent, with those behind it.
+    fn told(
         &mut self,
         traced: bool,
         directive: &Directive,
-        words: &[u32],
-        item: &Item,
-        after: &[Item],
+        lists: &JournalLists<'_>,
+        item: &Kept,
+        after: &[Kept],
     ) -> Result<(), AllocError>
-        ensures { OnOk result (self.new ≡ pages.entry_put traced directive.now self.old (spec.steps_next (spec.own_entries directive.now.line (entries words.now after.now))) (entry_at words.now item.now)) }
+        ensures { OnOk result (self.new ≡ pages.entry_put traced directive.now self.old (spec.steps_next (spec.own_entries directive.now.line (entries_in lists.now after.now))) (entry_at lists.now.words.now (item_of lists.now.rests.now item.now))) }
     {
-        match &item.what {
+        let number = directive.line;
+        match item.says(lists.rests) {
             What::Happened(Hardware::Show(_)) => self.show(),
             What::Happened(Hardware::Tick(ticks)) => {
-                let waited = traced && steps_next(directive.line, after);
-                self.waited(waited, directive.line, *ticks)
+                self.waited(traced && steps_next(number, after), number, ticks)
             }
             What::Happened(_) => Ok(()),
             What::Begun => self.frames.begin(purpose_of(&directive.order)),
-            What::Held(cause) => self.say(directive.line, Line::Holds(*cause)),
-            What::Stepped(logged) => self.step(traced, directive.line, item.depth, words, logged),
+            What::Held(cause) => self.say(number, Line::Holds(cause)),
+            What::Stepped(logged) => self.step(traced, number, item.depth, lists.words, &logged),
             What::Reset(reason, dropped) => {
                 self.frames.clear();
-                self.say(directive.line, Line::Restarts(*reason, *dropped))
+                self.say(number, Line::Restarts(reason, dropped))
             }
         }
     }
@@ -221,16 +217,16 @@ impl<'a> ReportWriter<'a> {
         &mut self,
         traced: bool,
         directive: &Directive,
-        words: &[u32],
-        item: &Item,
-        after: &[Item],
+        lists: &JournalLists<'_>,
+        item: &Kept,
+        after: &[Kept],
     ) -> Result<(), AllocError>
-        ensures { OnOk result (self.new ≡ pages.entry_put traced directive.now self.old (spec.steps_next (spec.own_entries directive.now.line (entries words.now after.now))) (entry_at words.now item.now)) }
+        ensures { OnOk result (self.new ≡ pages.entry_put traced directive.now self.old (spec.steps_next (spec.own_entries directive.now.line (entries_in lists.now after.now))) (entry_at lists.now.words.now (item_of lists.now.rests.now item.now))) }
     {
-        match &item.what {
-            What::Stepped(logged) => self.step(traced, directive.line, item.depth, words, logged),
-            _ => self.other(traced, directive, words, item, after),
+        if !traced && is_silent(item) {
+            return Ok(());
         }
+        self.told(traced, directive, lists, item, after)
     }
 
     /// Prints the lines of the items that stand next with the line of a directive, and gives those behind them.
@@ -238,18 +234,18 @@ impl<'a> ReportWriter<'a> {
         &mut self,
         traced: bool,
         directive: &Directive,
-        words: &[u32],
-        items: &'b [Item],
-    ) -> Result<&'b [Item], AllocError>
-        ensures put { OnOk result (self.new ≡ pages.entries_put traced directive.now self.old (spec.own_entries directive.now.line (entries words.now items.now))) }
-        ensures rest { IfOk result (λ later. entries words.now later.now ≡ spec.later_entries directive.now.line (entries words.now items.now)) }
+        lists: &JournalLists<'_>,
+        items: &'b [Kept],
+    ) -> Result<&'b [Kept], AllocError>
+        ensures put { OnOk result (self.new ≡ pages.entries_put traced directive.now self.old (spec.own_entries directive.now.line (entries_in lists.now items.now))) }
+        ensures rest { IfOk result (λ later. entries_in lists.now later.now ≡ spec.later_entries directive.now.line (entries_in lists.now items.now)) }
     {
         let mut rest = items;
         while let [item, after @ ..] = rest {
             if item.line != directive.line {
                 break;
             }
-            self.entry(traced, directive, words, item, after)?;
+            self.entry(traced, directive, lists, item, after)?;
             rest = after;
         }
         Ok(rest)
@@ -270,14 +266,14 @@ impl<'a> ReportWriter<'a> {
         &mut self,
         traced: bool,
         directive: &Directive,
-        words: &[u32],
-        items: &'b [Item],
-    ) -> Result<&'b [Item], AllocError>
-        ensures put { OnOk result (self.new ≡ pages.chapter_put traced directive.now self.old (entries words.now items.now)) }
-        ensures rest { IfOk result (λ later. entries words.now later.now ≡ spec.later_entries directive.now.line (entries words.now items.now)) }
+        lists: &JournalLists<'_>,
+        items: &'b [Kept],
+    ) -> Result<&'b [Kept], AllocError>
+        ensures put { OnOk result (self.new ≡ pages.chapter_put traced directive.now self.old (entries_in lists.now items.now)) }
+        ensures rest { IfOk result (λ later. entries_in lists.now later.now ≡ spec.later_entries directive.now.line (entries_in lists.now items.now)) }
     {
         self.silent = true;
-        let rest = self.entries(traced, directive, words, items)?;
+        let rest = self.entries(traced, directive, lists, items)?;
         self.close(directive.line)?;
         Ok(rest)
     }

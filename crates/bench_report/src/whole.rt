@@ -4,30 +4,29 @@ ghost use Rattle.bench_report.specs.Report as spec;
 ghost use Rattle.bench_report.specs.Rows.{Row};
 ghost use Rattle.bench_report.specs.Shown.{kept, texts_of};
 ghost use Rattle.bench_report.specs.Pages as pages;
-ghost use Rattle.run_model.specs.Entry.{entries};
+ghost use Rattle.run_model.specs.Packing.{entries_in};
 
 use crate::course::ReportWriter;
 use crate::limit::ReportEnd;
 use crate::shown::ShownTexts;
 use mcal_base::Directive;
-use run_model::{Item, Journal};
+use run_model::{Journal, JournalLists};
 use std::alloc::{AllocError, Global};
 
 /// Writes the lines of a script, directive by directive.
 fn written<'a>(
     alloc: Global,
     script: &[Directive],
-    words: &[u32],
-    items: &[Item],
+    lists: &JournalLists<'_>,
     shows: &'a [String],
     traced: bool,
 ) -> Result<ReportWriter<'a>, AllocError>
-    ensures { IfOk result (λ c. c ≡ pages.script_put traced (pages.beginning (map string_bytes shows.now)) script.now (entries words.now items.now)) }
+    ensures { IfOk result (λ c. c ≡ pages.script_put traced (pages.beginning (map string_bytes shows.now)) script.now (entries_in lists.now lists.now.items.now)) }
 {
     let mut course = ReportWriter::new(alloc, shows);
-    let mut rest = items;
+    let mut rest = lists.items;
     for directive in script {
-        rest = course.chapter(traced, directive, words, rest)?;
+        rest = course.chapter(traced, directive, lists, rest)?;
     }
     Ok(course)
 }
@@ -50,14 +49,7 @@ pub fn report(
     let Some(shows) = shown.texts() else {
         return Err(ReportEnd::TooLong);
     };
-    match written(
-        alloc,
-        script,
-        journal.words(),
-        journal.items(),
-        shows,
-        traced,
-    ) {
+    match written(alloc, script, &journal.lists(), shows, traced) {
         Ok(course) => course.end(),
         Err(_) => Err(ReportEnd::NoMemory),
     }

@@ -19,6 +19,8 @@ use Rattle.serial_devices.specs.Lines.{Line, extended}
 use Rattle.script_runner.specs.Scripts.{chip_for}
 use Rattle.mcal_system.specs.Runs.{SystemRun, IsSameRun, CallsDevices, moment_after}
 use Rattle.mcal_system.specs.Setting.{system_setting, call_of}
+use Rattle.bench_top.specs.Calls.{Stream}
+use Rattle.bench_top.specs.declared.top.Outcome.{Outcome}
 use Rattle.bench_top.specs.Judged.{Ending, Judgement, Prints}
 use Rattle.bench_top.specs.Outcomes.{Concludes, Keeps, LeavesRun}
 use Rattle.bench_top.proofs.Judging.{forgot_of}
@@ -81,20 +83,25 @@ told_nothing devices es old new e there same =
     subst (λ (xs : List Entry). AreToldBy devices xs old new) (sym e) (subst (λ (ls : List Line). AreToldBy devices [] old ls) (sym same) (told_still devices old there))
 
 -- nothing ran where a call was to print a text
-pub none_ran : (devices : ℕ) (printed : Ending) (status : ℕ) (entries : List Entry) (before after : Option (List ℕ)) (faults now : ℕ) → Concludes devices (Prints printed) status entries before after faults now → entries ≡ []
-none_ran devices printed status entries before after faults now c = by (status == 3) (status == 4) refl refl
+pub none_ran : (devices : ℕ) (printed : Ending) (outcome : Outcome) (sink : Stream) → Concludes devices (Prints printed) outcome sink → outcome.journal.entries ≡ []
+none_ran devices printed outcome sink c = by (outcome.status == 3) (outcome.status == 4) refl refl
   where
-    by : (cut wanting : Bool) → (status == 3) ≡ cut → (status == 4) ≡ wanting → entries ≡ []
-    by true wanting e f = let at : status ≡ 3 = grind (arith, nat_tests, e) in (c.front at).ends.1
-    by false true e f = let at : status ≡ 4 = grind (arith, nat_tests, f) in c.memory at
+    by : (cut wanting : Bool) → (outcome.status == 3) ≡ cut → (outcome.status == 4) ≡ wanting → outcome.journal.entries ≡ []
+    by true wanting e f = let at : outcome.status ≡ 3 = grind (arith, nat_tests, e) in (c.front at).ends.1
+    by false true e f = let at : outcome.status ≡ 4 = grind (arith, nat_tests, f) in c.memory at
     by false false e f = (c.ends (grind (arith, nat_tests, e)) (grind (arith, nat_tests, f))).ends.1
+
+-- so that the devices are as they were
+pub told_printed : (devices : ℕ) (printed : Ending) (outcome : Outcome) (sink : Stream) (lines : List Line) → Concludes devices (Prints printed) outcome sink → length lines ≡ devices →
+    AreToldBy devices outcome.journal.entries lines lines
+told_printed devices printed outcome sink lines c there = told_nothing devices outcome.journal.entries lines lines (none_ran devices printed outcome sink c) there refl
 
 -- a journal that is handed on
 pub told_so : (devices : ℕ) (es es1 : List Entry) (old new : List Line) → es1 ≡ es → AreToldBy devices es old new → AreToldBy devices es1 old new
 told_so devices es es1 old new e h = subst (λ (xs : List Entry). AreToldBy devices xs old new) (sym e) h
 
 -- memory was wanting for what is to be told of a run
-pub left_so : (devices : ℕ) (j : Judgement) (status : ℕ) (es es1 : List Entry) (sink : Option (List ℕ)) (faults : ℕ) → status ≡ 4 → es1 ≡ es → LeavesRun devices j es → Keeps devices j es →
-    Concludes devices j status es1 sink sink faults faults
-left_so devices j status es es1 sink faults four e leaves keeps =
-    forgot_of devices j status es1 sink faults four (subst (λ (xs : List Entry). LeavesRun devices j xs) (sym e) leaves) (subst (λ (xs : List Entry). Keeps devices j xs) (sym e) keeps)
+pub left_so : (devices : ℕ) (j : Judgement) (outcome : Outcome) (sink : Stream) (es : List Entry) → outcome.status ≡ 4 → outcome.journal.entries ≡ es → sink.after ≡ sink.before →
+    sink.faults_after ≡ sink.faults_before → LeavesRun devices j es → Keeps devices j es → Concludes devices j outcome sink
+left_so devices j outcome sink es four e same still leaves keeps =
+    forgot_of devices j outcome sink four same still (subst (λ (xs : List Entry). LeavesRun devices j xs) (sym e) leaves) (subst (λ (xs : List Entry). Keeps devices j xs) (sym e) keeps)

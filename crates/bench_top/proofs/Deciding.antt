@@ -1,10 +1,7 @@
 -- The status that a file comes to, by its bytes.
-use Rattle.std.proofs.Common.{◌≡◌, ◌≢◌, ℕ, ◌<◌, ◌≤◌, refl, ap, sym, subst, ◌∙◌, arith, List, [], length, replicate, Bool, true, false, Option, Some, None, Ok, Err, inl, inr}
+use Rattle.std.proofs.Common.{◌≡◌, ℕ, ◌<◌, ◌≤◌, refl, ap, sym, subst, ◌∙◌, arith, List, length, Bool, true, false, Option, Some, None, Ok, Err, inl, inr}
 use Rattle.std.specs.Prelude.{◌⊎◌, Result, nat_lt, IsSome}
-use Rattle.std.specs.Option.{IfSome}
-use Rattle.std.proofs.lemmas.List.{length-replicate}
 use Rattle.std.proofs.lemmas.Bool.{false≢true, ltb-true, ltb-false}
-use Rattle.std.proofs.lemmas.Bool.Decides.{nat_tests}
 use Rattle.mcal_base.specs.declared.config.whole.Config.{Config}
 use Rattle.mcal_base.specs.declared.directive.Directive.{Directive}
 use Rattle.run_model.specs.Entry.{Entry}
@@ -17,31 +14,24 @@ use Rattle.bench_script.specs.declared.fault.ScriptFault.{ScriptFault}
 use Rattle.bench_script.specs.declared.fault.ScriptFault.TheVariants.{NotText, Word, Count, Number, Long, NoMemory}
 use Rattle.bench_report.specs.Limit.{most_bytes, is_too_long}
 use Rattle.bench_top.specs.declared.refusal.Refusal.TheVariants as refusals
-use Rattle.bench_top.specs.declared.words.Form.{Form}
-use Rattle.bench_top.specs.declared.words.Form.TheVariants.{File, Gen}
+use Rattle.bench_top.specs.declared.top.Outcome.{Outcome}
 use Rattle.bench_top.specs.declared.words.Printing.{Printing}
 use Rattle.bench_top.specs.declared.words.Task.{Task}
 use Rattle.bench_top.specs.declared.words.Task.TheVariants.{Check, Run}
-use Rattle.bench_top.specs.Judged.{Ending, Judgement, Prints, Runs, Generates, ending_of, judged, judged_bytes, judged_whole, judged_script, configuration_of, judged_parts, judged_file, too_many_bytes, too_many_steps, usage, read_fault, checked, fault_or_record}
-use Rattle.bench_top.proofs.Promised.{empty_keeps}
-use Rattle.bench_top.specs.Outcomes.{Concludes, Ends, Keeps, IsCutOff, IsEnded, EndsOnSome, FrontOnSome, LeavesOnSome, LeavesRun, reported}
+use Rattle.bench_top.specs.Calls.{Stream}
+use Rattle.bench_top.specs.Judged.{Ending, Judgement, Prints, Runs, ending_of, judged_bytes, judged_whole, judged_script, configuration_of, judged_parts, judged_file, too_many_bytes, too_many_steps, checked, fault_or_record}
+use Rattle.bench_top.specs.Outcomes.{Ends, IsEnded, reported}
 use Rattle.script_runner.specs.Scripts.{IsScript}
 use Rattle.bench_top.specs.Runs.{IsWholeRun, IsStoppedRun, report_of}
 use Rattle.bench_top.specs.Statuses.{HasParts, HasConfig, HasScript, is_long, IsTooLong, IsConfigRefused, IsScriptRefused, IsChecked, IsRunnable, IsRunTooLong, IsRunDone, IsDecided}
 use Rattle.bench_top.specs.Statuses as causes
-use Rattle.bench_top.specs.Tail.{is_traced, printed}
+use Rattle.bench_top.specs.Tail.{is_traced}
 use Rattle.bench_top.proofs.Configurations.{record_is, fault_is}
-use Rattle.bench_top.proofs.Judging.{JudgesSo, exact_of, reported_by, long_by}
+use Rattle.bench_top.proofs.Judging.{few_are, long_by, many_are, reported_by}
 use Rattle.bench_top.proofs.Scripts.{may_run}
 use Rattle.bench_top.proofs.Stopping.{not_both}
 
 -- ---- what a cause makes of the judgement
-
-many_are : (task : Task) (bytes : List ℕ) → 1048576 < length bytes → judged_bytes task bytes ≡ Prints too_many_bytes
-many_are task bytes h = grind (arith, nat_tests, h)
-
-few_are : (task : Task) (bytes : List ℕ) → length bytes ≤ 1048576 → judged_bytes task bytes ≡ judged_file task (file bytes)
-few_are task bytes h = grind (arith, nat_tests, h)
 
 parts_are : (task : Task) (bytes front back : List ℕ) → HasParts bytes front back → judged_bytes task bytes ≡ judged_parts task (configuration_of front) back
 parts_are task bytes front back h = few_are task bytes h.few ∙ ap (λ p. judged_file task p) h.parts
@@ -88,27 +78,12 @@ runs_are task bytes printing config directives h = script_is task bytes config d
 lawful : (task : Task) (bytes : List ℕ) (printing : Printing) (config : Config) (directives : List Directive) → IsRunnable task bytes printing config directives → IsScript directives
 lawful task bytes printing config directives h = may_run directives (record { text = h.read.back; is = h.read.read })
 
--- the bytes on which it ends so
-usage_is : (words : Option Form) → words ≡ None → judged words [] ≡ Prints usage
-usage_is words e = ap (λ (w : Option Form). judged w []) e
-
-file_is : (words : Option Form) (task : Task) (bytes : List ℕ) → words ≡ Some (File task) → length bytes ≤ 1048576 → judged words bytes ≡ judged_file task (file bytes)
-file_is words task bytes e few = ap (λ (w : Option Form). judged w bytes) e ∙ few_are task bytes few
-
-generated_is : (words : Option Form) (seed count : ℕ) → words ≡ Some (Gen seed count) → judged words [] ≡ Generates seed count
-generated_is words seed count e = ap (λ (w : Option Form). judged w []) e
-
-so_many : (n : ℕ) → (bytes : List ℕ) × (length bytes ≡ n)
-so_many n = (replicate n 0, length-replicate n 0)
-
-many_is : (words : Option Form) (task : Task) → words ≡ Some (File task) → judged words (so_many 1048577).0 ≡ Prints too_many_bytes
-many_is words task e = let size = (so_many 1048577).1 in ap (λ (w : Option Form). judged w (so_many 1048577).0) e ∙ many_are task (so_many 1048577).0 (omega (arith, size))
-
 -- ---- the same of a call, with so many devices
 
 module _ (devices : ℕ) where
-  status_at : (j : Judgement) (n status : ℕ) (entries : List Entry) (before after : Option (List ℕ)) → PrintsAt n j → IsEnded devices j status entries before after → status ≡ n
-  status_at j n status entries before after p e = e.status_is ∙ ap (λ (x : Ending). x.status) (subst (λ (k : Judgement). Ends devices k e.ending entries) p.1.0 e.ends).0 ∙ p.1.1
+  status_at : (j : Judgement) (n : ℕ) (outcome : Outcome) (sink : Stream) → PrintsAt n j → IsEnded devices j outcome sink → outcome.status ≡ n
+  status_at j n outcome sink p e =
+      e.status_is ∙ ap (λ (x : Ending). x.status) (subst (λ (k : Judgement). Ends devices k e.ending outcome.journal.entries) p.1.0 e.ends).0 ∙ p.1.1
 
   -- ---- what a judgement says of the cause
 
@@ -229,90 +204,23 @@ module _ (devices : ℕ) where
   -- ---- both together
 
   -- a status by either of its causes
-  done_by : (task : Task) (bytes : List ℕ) (status : ℕ) (entries : List Entry) (before after : Option (List ℕ)) → IsEnded devices (judged_bytes task bytes) status entries before after →
-      IsChecked task bytes ⊎ IsRunDone devices task bytes entries → status ≡ 0
-  done_by task bytes status entries before after e (inl h) = status_at (judged_bytes task bytes) 0 status entries before after (checked_prints task bytes h) e
-  done_by task bytes status entries before after e (inr h) = e.status_is ∙ done_at task bytes e.ending entries e.ends h
+  done_by : (task : Task) (bytes : List ℕ) (outcome : Outcome) (sink : Stream) → IsEnded devices (judged_bytes task bytes) outcome sink →
+      IsChecked task bytes ⊎ IsRunDone devices task bytes outcome.journal.entries → outcome.status ≡ 0
+  done_by task bytes outcome sink e (inl h) = status_at (judged_bytes task bytes) 0 outcome sink (checked_prints task bytes h) e
+  done_by task bytes outcome sink e (inr h) = e.status_is ∙ done_at task bytes e.ending outcome.journal.entries e.ends h
 
-  too_long_by : (task : Task) (bytes : List ℕ) (status : ℕ) (entries : List Entry) (before after : Option (List ℕ)) → IsEnded devices (judged_bytes task bytes) status entries before after →
-      IsTooLong bytes ⊎ IsRunTooLong devices task bytes entries → status ≡ 5
-  too_long_by task bytes status entries before after e (inl h) = status_at (judged_bytes task bytes) 5 status entries before after (limit_prints task bytes h) e
-  too_long_by task bytes status entries before after e (inr h) = e.status_is ∙ long_at task bytes e.ending entries e.ends h
+  too_long_by : (task : Task) (bytes : List ℕ) (outcome : Outcome) (sink : Stream) → IsEnded devices (judged_bytes task bytes) outcome sink →
+      IsTooLong bytes ⊎ IsRunTooLong devices task bytes outcome.journal.entries → outcome.status ≡ 5
+  too_long_by task bytes outcome sink e (inl h) = status_at (judged_bytes task bytes) 5 outcome sink (limit_prints task bytes h) e
+  too_long_by task bytes outcome sink e (inr h) = e.status_is ∙ long_at task bytes e.ending outcome.journal.entries e.ends h
 
-  decided : (task : Task) (bytes : List ℕ) (status : ℕ) (entries : List Entry) (before after : Option (List ℕ)) → IsEnded devices (judged_bytes task bytes) status entries before after → IsDecided devices task bytes status entries
-  decided task bytes status entries before after e =
+  pub decided : (task : Task) (bytes : List ℕ) (outcome : Outcome) (sink : Stream) → IsEnded devices (judged_bytes task bytes) outcome sink → IsDecided devices task bytes outcome
+  decided task bytes outcome sink e =
+      let entries = outcome.journal.entries in
       let cause = subst (λ (n : ℕ). HasCause task bytes entries n) (sym e.status_is) (judged_by task bytes (nat_lt 1048576 (length bytes)) refl e.ending entries e.ends) in
       record {
-        done = (cause.done, done_by task bytes status entries before after e);
-        too_long = (cause.too_long, too_long_by task bytes status entries before after e);
-        configuration = (cause.configuration, λ h. status_at (judged_bytes task bytes) 6 status entries before after (config_prints task bytes h) e);
-        script = (cause.script, λ h. status_at (judged_bytes task bytes) 7 status entries before after (script_prints task bytes h) e);
+        done = (cause.done, done_by task bytes outcome sink e);
+        too_long = (cause.too_long, too_long_by task bytes outcome sink e);
+        configuration = (cause.configuration, λ h. status_at (judged_bytes task bytes) 6 outcome sink (config_prints task bytes h) e);
+        script = (cause.script, λ h. status_at (judged_bytes task bytes) 7 outcome sink (script_prints task bytes h) e);
       }
-
-  pub decided_of : (left : Option (List ℕ)) (words : Option Form) (j : Judgement) (status : ℕ) (entries : List Entry) (before after : Option (List ℕ)) (faults now : ℕ) → JudgesSo left words j →
-      Concludes devices j status entries before after faults now → status ≢ 3 → status ≢ 4 → IfSome left (λ bytes. (task : Task) → words ≡ Some (File task) → IsDecided devices task bytes status entries)
-  decided_of None words j status entries before after faults now h c s m = tt
-  decided_of (Some bytes) words j status entries before after faults now h c s m =
-      let ended = exact_of devices (Some bytes) words j status entries before after faults now h c s m in
-      λ task e. decided task bytes status entries before after (subst (λ (w : Option Form). IsEnded devices (judged w bytes) status entries before after) e ended)
-
-  -- ---- on some bytes
-
-  ends_on : (words : Option Form) (bytes : List ℕ) (j : Judgement) (status : ℕ) (entries : List Entry) (before after : Option (List ℕ)) (faults now : ℕ) → judged words bytes ≡ j → Concludes devices j status entries before after faults now →
-      status ≢ 3 → status ≢ 4 → EndsOnSome devices words status entries before after
-  ends_on words bytes j status entries before after faults now is c s m = record { bytes = bytes; ended = subst (λ (k : Judgement). IsEnded devices k status entries before after) (sym is) (c.ends s m); keeps = subst (λ (k : Judgement). Keeps devices k entries) (sym is) c.keeps }
-
-  pub usage_ends_on : (words : Option Form) (status : ℕ) (entries : List Entry) (before after : Option (List ℕ)) (faults now : ℕ) → words ≡ None → Concludes devices (Prints usage) status entries before after faults now →
-      status ≢ 3 → status ≢ 4 → EndsOnSome devices words status entries before after
-  usage_ends_on words status entries before after faults now e c s m = ends_on words [] (Prints usage) status entries before after faults now (usage_is words e) c s m
-
-  pub file_ends_on : (words : Option Form) (task : Task) (bytes : List ℕ) (status : ℕ) (entries : List Entry) (before after : Option (List ℕ)) (faults now : ℕ) → words ≡ Some (File task) → length bytes ≤ 1048576 →
-      Concludes devices (judged_file task (file bytes)) status entries before after faults now → status ≢ 3 → status ≢ 4 → EndsOnSome devices words status entries before after
-  file_ends_on words task bytes status entries before after faults now e few c s m = ends_on words bytes (judged_file task (file bytes)) status entries before after faults now (file_is words task bytes e few) c s m
-
-  pub many_ends_on : (words : Option Form) (task : Task) (status : ℕ) (entries : List Entry) (before after : Option (List ℕ)) (faults now : ℕ) → words ≡ Some (File task) →
-      Concludes devices (Prints too_many_bytes) status entries before after faults now → status ≢ 3 → status ≢ 4 → EndsOnSome devices words status entries before after
-  many_ends_on words task status entries before after faults now e c s m = ends_on words (so_many 1048577).0 (Prints too_many_bytes) status entries before after faults now (many_is words task e) c s m
-
-  -- a front of the output
-  front_on : (words : Option Form) (bytes : List ℕ) (j : Judgement) (failed : Type 0) (status : ℕ) (entries : List Entry) (before after : Option (List ℕ)) (faults now : ℕ) → judged words bytes ≡ j →
-      Concludes devices j status entries before after faults now → status ≡ 3 → FrontOnSome devices words failed entries before after
-  front_on words bytes j failed status entries before after faults now is c s =
-      record { bytes = bytes; front = inl (subst (λ (k : Judgement). IsCutOff devices k entries before after) (sym is) (c.front s)); keeps = subst (λ (k : Judgement). Keeps devices k entries) (sym is) c.keeps }
-
-  pub usage_front_on : (words : Option Form) (failed : Type 0) (status : ℕ) (entries : List Entry) (before after : Option (List ℕ)) (faults now : ℕ) → words ≡ None → Concludes devices (Prints usage) status entries before after faults now →
-      status ≡ 3 → FrontOnSome devices words failed entries before after
-  usage_front_on words failed status entries before after faults now e c s = front_on words [] (Prints usage) failed status entries before after faults now (usage_is words e) c s
-
-  pub file_front_on : (words : Option Form) (task : Task) (bytes : List ℕ) (failed : Type 0) (status : ℕ) (entries : List Entry) (before after : Option (List ℕ)) (faults now : ℕ) → words ≡ Some (File task) → length bytes ≤ 1048576 →
-      Concludes devices (judged_file task (file bytes)) status entries before after faults now → status ≡ 3 → FrontOnSome devices words failed entries before after
-  file_front_on words task bytes failed status entries before after faults now e few c s = front_on words bytes (judged_file task (file bytes)) failed status entries before after faults now (file_is words task bytes e few) c s
-
-  pub many_front_on : (words : Option Form) (task : Task) (failed : Type 0) (status : ℕ) (entries : List Entry) (before after : Option (List ℕ)) (faults now : ℕ) → words ≡ Some (File task) →
-      Concludes devices (Prints too_many_bytes) status entries before after faults now → status ≡ 3 → FrontOnSome devices words failed entries before after
-  many_front_on words task failed status entries before after faults now e c s = front_on words (so_many 1048577).0 (Prints too_many_bytes) failed status entries before after faults now (many_is words task e) c s
-
-  pub fault_front_on : (words : Option Form) (failed : Type 0) (status : ℕ) (entries : List Entry) (before after : Option (List ℕ)) (faults now : ℕ) → failed → Concludes devices (Prints read_fault) status entries before after faults now →
-      status ≡ 3 → FrontOnSome devices words failed entries before after
-  fault_front_on words failed status entries before after faults now h c s = record { bytes = []; front = inr (h, c.front s); keeps = empty_keeps devices (judged words []) entries (c.front s).ends.1 }
-
-  -- a generated bench, and the journal where memory was wanting
-  pub generated_ends_on : (words : Option Form) (seed count status : ℕ) (entries : List Entry) (before after : Option (List ℕ)) (faults now : ℕ) → words ≡ Some (Gen seed count) → Concludes devices (Generates seed count) status entries before after faults now →
-      status ≢ 3 → status ≢ 4 → EndsOnSome devices words status entries before after
-  generated_ends_on words seed count status entries before after faults now e c s m = ends_on words [] (Generates seed count) status entries before after faults now (generated_is words seed count e) c s m
-
-  pub generated_front_on : (words : Option Form) (seed count : ℕ) (failed : Type 0) (status : ℕ) (entries : List Entry) (before after : Option (List ℕ)) (faults now : ℕ) → words ≡ Some (Gen seed count) →
-      Concludes devices (Generates seed count) status entries before after faults now → status ≡ 3 → FrontOnSome devices words failed entries before after
-  generated_front_on words seed count failed status entries before after faults now e c s = front_on words [] (Generates seed count) failed status entries before after faults now (generated_is words seed count e) c s
-
-  memory_on : (words : Option Form) (bytes : List ℕ) (j : Judgement) (status : ℕ) (entries : List Entry) (before after : Option (List ℕ)) (faults now : ℕ) → judged words bytes ≡ j → Concludes devices j status entries before after faults now →
-      status ≡ 4 → LeavesOnSome devices words entries
-  memory_on words bytes j status entries before after faults now is c m = record { bytes = bytes; leaves = subst (λ (k : Judgement). LeavesRun devices k entries) (sym is) (c.memory m); keeps = subst (λ (k : Judgement). Keeps devices k entries) (sym is) c.keeps }
-
-  pub file_memory_on : (words : Option Form) (task : Task) (bytes : List ℕ) (status : ℕ) (entries : List Entry) (before after : Option (List ℕ)) (faults now : ℕ) → words ≡ Some (File task) → length bytes ≤ 1048576 →
-      Concludes devices (judged_file task (file bytes)) status entries before after faults now → status ≡ 4 → LeavesOnSome devices words entries
-  file_memory_on words task bytes status entries before after faults now e few c m = memory_on words bytes (judged_file task (file bytes)) status entries before after faults now (file_is words task bytes e few) c m
-
-  pub generated_memory_on : (words : Option Form) (seed count status : ℕ) (entries : List Entry) (before after : Option (List ℕ)) (faults now : ℕ) → words ≡ Some (Gen seed count) → Concludes devices (Generates seed count) status entries before after faults now →
-      status ≡ 4 → LeavesOnSome devices words entries
-  generated_memory_on words seed count status entries before after faults now e c m = memory_on words [] (Generates seed count) status entries before after faults now (generated_is words seed count e) c m

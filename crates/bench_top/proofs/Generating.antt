@@ -1,9 +1,8 @@
 -- The run of a generated bench comes to its end.
-use Rattle.std.proofs.Common.{◌≡◌, ◌≢◌, ℕ, ◌≤◌, ◌++◌, Bool, true, false, List, [], Option, Some, refl, ap, sym, subst, ◌∙◌, arith}
+use Rattle.std.proofs.Common.{◌≡◌, ◌≢◌, ℕ, ◌≤◌, ◌++◌, Bool, true, false, List, [], ap, sym, subst, ◌∙◌, arith}
 use Rattle.std.specs.Bool.{OnFalse, OnTrue}
 use Rattle.mcal_base.specs.declared.config.whole.Config.{Config}
 use Rattle.mcal_base.specs.declared.directive.Directive.{Directive}
-use Rattle.mcal_base.specs.Causes.{Rose}
 use Rattle.run_model.specs.Entry.{Entry}
 use Rattle.script_runner.specs.Scripts.{IsScript, AllOffered}
 use Rattle.bench_report.specs.Report.{end_of, report_lines}
@@ -16,10 +15,10 @@ use Rattle.mcal_system.specs.Setting.{has_service}
 use Rattle.generator_laws.proofs.Generated.{generated_is_script, generated_offered}
 use Rattle.generator_laws.proofs.Within.{generated_within}
 use Rattle.bench_top.specs.Judged.{Ending, Generates}
-use Rattle.bench_top.specs.Outcomes.{Concludes, Ends, Keeps, LeavesInput}
+use Rattle.bench_top.specs.Calls.{Stream}
+use Rattle.bench_top.specs.Outcomes.{Concludes, Ends, Keeps}
 use Rattle.bench_top.specs.Runs.{IsWholeRun, IsStoppedRun, end_line_of, shows_of}
-use Rattle.bench_top.specs.declared.words.Form.{Form}
-use Rattle.bench_top.specs.declared.words.Form.TheVariants.{File, Gen}
+use Rattle.bench_top.specs.declared.top.Outcome.{Outcome}
 use Rattle.bench_top.proofs.Promised.{whole_keeps}
 
 pub script_may_run : (seed count : ℕ) (script : List Directive) → count ≤ 20000 → script ≡ generated seed count → IsScript script
@@ -57,36 +56,10 @@ pub generated_keeps : (devices seed count : ℕ) (es : List Entry) → count ≤
 generated_keeps devices seed count es few whole = whole_keeps devices board (generated seed count) es board_is_valid (generated_is_script seed count few) whole
 
 -- its status
-pub generated_status : (devices seed count status : ℕ) (es : List Entry) (before after : Option (List ℕ)) (faults now : ℕ) → Concludes devices (Generates seed count) status es before after faults now → status ≢ 3 → status ≢ 4 → status ≡ 0
-generated_status devices seed count status es before after faults now c s m = let e = c.ends s m in e.status_is ∙ ap (λ (x : Ending). x.status) e.ends.1
+pub generated_status : (devices seed count : ℕ) (outcome : Outcome) (sink : Stream) → Concludes devices (Generates seed count) outcome sink → outcome.status ≢ 3 → outcome.status ≢ 4 → outcome.status ≡ 0
+generated_status devices seed count outcome sink c s m = let e = c.ends s m in e.status_is ∙ ap (λ (x : Ending). x.status) e.ends.1
 
-pub generated_done : (devices seed count status : ℕ) (es : List Entry) (before after : Option (List ℕ)) (faults now : ℕ) → Concludes devices (Generates seed count) status es before after faults now → (Rose faults now → ⊥) → status ≢ 4 → status ≡ 0
-generated_done devices seed count status es before after faults now c still m = generated_status devices seed count status es before after faults now c (λ s. still (c.fault s)) m
-
-never : (devices seed count status : ℕ) (es : List Entry) (before after : Option (List ℕ)) (faults now n : ℕ) → Concludes devices (Generates seed count) status es before after faults now → n ≢ 0 → n ≢ 3 → n ≢ 4 → status ≡ n → ⊥
-never devices seed count status es before after faults now n c zero three four e =
-    zero (sym e ∙ generated_status devices seed count status es before after faults now c (λ s. three (sym e ∙ s)) (λ m. four (sym e ∙ m)))
-
--- never 1, 2 or 5
-pub generated_not : (devices seed count status : ℕ) (es : List Entry) (before after : Option (List ℕ)) (faults now : ℕ) → Concludes devices (Generates seed count) status es before after faults now → (status ≢ 1) × (status ≢ 2) × ((status ≢ 2) × (status ≢ 5))
-generated_not devices seed count status es before after faults now c =
-    let not : (n : ℕ) → n ≢ 0 → n ≢ 3 → n ≢ 4 → status ≡ n → ⊥ = λ n zero three four e. never devices seed count status es before after faults now n c zero three four e in
-    (λ e. not 1 (λ f. cc) (λ f. cc) (λ f. cc) e, λ e. not 2 (λ f. cc) (λ f. cc) (λ f. cc) e, (λ e. not 2 (λ f. cc) (λ f. cc) (λ f. cc) e, λ e. not 5 (λ f. cc) (λ f. cc) (λ f. cc) e))
-
--- the words tell the seed and the number of directives
-same_words : (words : Option Form) (s n seed count : ℕ) → words ≡ Some (Gen s n) → words ≡ Some (Gen seed count) → Gen s n ≡ Gen seed count
-same_words words s n seed count e f = let g : Some (Gen s n) ≡ Some (Gen seed count) = sym e ∙ f in cc
-
-abbrev seeds : Form → ℕ × ℕ
-seeds (Gen seed count) = (seed, count)
-seeds (File task) = (0, 0)
-
-pub generated_as : (devices : ℕ) (words : Option Form) (s n seed count status : ℕ) (es : List Entry) (before after : Option (List ℕ)) (faults now : ℕ) → words ≡ Some (Gen s n) → words ≡ Some (Gen seed count) →
-    Concludes devices (Generates s n) status es before after faults now → Concludes devices (Generates seed count) status es before after faults now
-generated_as devices words s n seed count status es before after faults now e f c =
-    let same : (s, n) ≡ (seed, count) = ap seeds (same_words words s n seed count e f) in
-    subst (λ (p : ℕ × ℕ). Concludes devices (Generates p.0 p.1) status es before after faults now) same c
-
--- its input is left as it was
-pub generated_leaves : (words : Option Form) (seed count : ℕ) (left : Option (List ℕ)) → words ≡ Some (Gen seed count) → LeavesInput words left left
-generated_leaves words seed count left e = rw e refl
+-- with no other, but where the sink fails or memory is wanting
+pub generated_not : (devices seed count : ℕ) (outcome : Outcome) (sink : Stream) (n : ℕ) → Concludes devices (Generates seed count) outcome sink → n ≢ 0 → n ≢ 3 → n ≢ 4 → outcome.status ≡ n → ⊥
+generated_not devices seed count outcome sink n c zero three four e =
+    zero (sym e ∙ generated_status devices seed count outcome sink c (λ s. three (sym e ∙ s)) (λ m. four (sym e ∙ m)))

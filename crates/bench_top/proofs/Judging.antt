@@ -1,15 +1,13 @@
--- What a judgement of the bytes says of the outcome, where the source tells its bytes.
-use Rattle.std.proofs.Common.{◌≡◌, ◌≢◌, refl, ap, ℕ, ◌<◌, ◌≤◌, ◌++◌, [], List, Bool, true, false, length, Option, Some, None, inl, inr, subst, sym, arith, ◌∙◌}
-use Rattle.std.specs.Prelude.{Result, Ok, Err}
-use Rattle.std.specs.Option.{IfSome}
-use Rattle.std.specs.Io.KnownBytes.{Appends, Consumes, IsAtEnd}
+-- What a judgement says of the outcome.
+use Rattle.std.proofs.Common.{◌≡◌, ◌≢◌, refl, ap, ℕ, ◌<◌, ◌≤◌, [], List, Bool, true, false, length, Option, Some, None, inl, inr, subst, sym, arith, ◌∙◌}
+use Rattle.std.specs.Prelude.{Result, Ok, Err, nat_lt}
+use Rattle.std.specs.Io.KnownBytes.{Appends}
 use Rattle.std.proofs.lemmas.List.{append-nil}
 use Rattle.std.proofs.lemmas.Bool.{ltb-true, ltb-false}
 use Rattle.std.proofs.lemmas.Bool.Decides.{nat_tests}
 use Rattle.mcal_base.specs.declared.config.whole.Config.{Config}
 use Rattle.mcal_base.specs.declared.directive.Directive.{Directive}
 use Rattle.run_model.specs.Entry.{Entry}
-use Rattle.mcal_base.specs.Causes.{Rose}
 use Rattle.config_keys.specs.declared.fault.ConfigFault.{ConfigFault}
 use Rattle.bench_report.specs.Limit.{most_bytes, is_too_long}
 use Rattle.bench_script.specs.Lines.{file}
@@ -18,20 +16,18 @@ use Rattle.bench_script.specs.declared.fault.ScriptFault.{ScriptFault}
 use Rattle.bench_script.specs.declared.fault.ScriptFault.TheVariants.{NotText, Word, Count, Number, Long, NoMemory}
 use Rattle.bench_top.specs.declared.refusal.Refusal.{Refusal}
 use Rattle.bench_top.specs.declared.refusal.Refusal.TheVariants as refusals
+use Rattle.bench_top.specs.declared.top.Outcome.{Outcome}
 use Rattle.bench_top.specs.declared.words.Form.{Form}
 use Rattle.bench_top.specs.declared.words.Form.TheVariants.{File, Gen}
 use Rattle.bench_top.specs.declared.words.Printing.{Printing}
 use Rattle.bench_top.specs.declared.words.Task.{Task}
 use Rattle.bench_top.specs.declared.words.Task.TheVariants.{Check, Run}
-use Rattle.bench_top.specs.Judged.{Ending, Judgement, Prints, Runs, Generates, ending_of, judged, judged_whole, judged_script, configuration_of, judged_parts, judged_file, too_many_bytes, too_long_report, usage, read_fault}
-use Rattle.bench_top.specs.Outcomes.{Concludes, Ends, IsEnded, IsCutOff, FrontOf, Keeps, LeavesRun, WritesFront, reported}
+use Rattle.bench_top.specs.Calls.{Stream, MeetsFault, Writes}
+use Rattle.bench_top.specs.Judged.{Ending, Judgement, Prints, Runs, Generates, ending_of, judged, judged_whole, judged_script, configuration_of, judged_bytes, judged_parts, judged_file, too_many_bytes, too_long_report}
+use Rattle.bench_top.specs.Outcomes.{Concludes, Ends, IsEnded, IsCutOff, Keeps, LeavesRun, WritesFront, reported}
 use Rattle.bench_top.specs.Runs.{IsWholeRun, report_of}
 use Rattle.bench_top.specs.Tail.{is_traced, printed}
 use Rattle.mcal_system.specs.Runs.{bound_of}
-
--- the bytes are judged so, where they are told
-pub record JudgesSo (left : Option (List ℕ)) (form : Option Form) (judgement : Judgement) : Type 0 where
-  pub judges : IfSome left (λ bytes. judged form bytes ≡ judgement)
 
 -- what one result ends with the other does too
 pub same_end : {A B E : Type 0} (s : Result B E) (x y : E) (r : Result A E) → r ≡ Err x → r ≡ Err y → s ≡ Err x → s ≡ Err y
@@ -43,9 +39,9 @@ reported_by true printing report h few = absurd (let more = ltb-true most_bytes 
 reported_by false printing report h few = rw h refl
 
 -- a call that found no memory has written nothing
-appends_nothing : (sink : Option (List ℕ)) → Appends sink sink []
-appends_nothing None = tt
-appends_nothing (Some bytes) = sym (append-nil bytes)
+appends_nothing : (before after : Option (List ℕ)) → after ≡ before → Appends before after []
+appends_nothing None after e = tt
+appends_nothing (Some bytes) after e = rw e (sym (append-nil bytes))
 
 -- how a whole run ends
 report_by : (b : Bool) (printing : Printing) (report : List ℕ) → is_too_long report ≡ b → length report ≤ most_bytes → record { status = 0; text = printed printing report } ≡ reported printing report
@@ -73,68 +69,34 @@ reported_before : (b : Bool) (printing : Printing) (report : List ℕ) → is_to
 reported_before true printing report h = rw h (λ f. cc, λ f. cc)
 reported_before false printing report h = rw h (λ f. cc, λ f. cc)
 
+-- ---- too many bytes, and as many as may come
+
+pub many_are : (task : Task) (bytes : List ℕ) → 1048576 < length bytes → judged_bytes task bytes ≡ Prints too_many_bytes
+many_are task bytes h = grind (arith, nat_tests, h)
+
+pub few_are : (task : Task) (bytes : List ℕ) → length bytes ≤ 1048576 → judged_bytes task bytes ≡ judged_file task (file bytes)
+few_are task bytes h = grind (arith, nat_tests, h)
+
 -- ---- what becomes of a call, with so many devices
 
 module _ (devices : ℕ) where
-  pub exact_of : (left : Option (List ℕ)) (form : Option Form) (j : Judgement) (status : ℕ) (entries : List Entry) (before after : Option (List ℕ)) (faults now : ℕ) →
-      JudgesSo left form j → Concludes devices j status entries before after faults now → status ≢ 3 → status ≢ 4 →
-      IfSome left (λ bytes. IsEnded devices (judged form bytes) status entries before after)
-  exact_of None form j status entries before after faults now h c s m = tt
-  exact_of (Some bytes) form j status entries before after faults now h c s m = subst (λ (k : Judgement). IsEnded devices k status entries before after) (sym h.judges) (c.ends s m)
-
-  pub front_of : (left : Option (List ℕ)) (form : Option Form) (j : Judgement) (failed : Type 0) (status : ℕ) (entries : List Entry) (before after : Option (List ℕ)) (faults now : ℕ) →
-      JudgesSo left form j → Concludes devices j status entries before after faults now → status ≡ 3 →
-      IfSome left (λ bytes. FrontOf devices (judged form bytes) failed entries before after)
-  front_of None form j failed status entries before after faults now h c s = tt
-  front_of (Some bytes) form j failed status entries before after faults now h c s =
-      subst (λ (k : Judgement). FrontOf devices k failed entries before after) (sym h.judges) (inl (c.front s))
-
-  pub fault_front_of : (left : Option (List ℕ)) (form : Option Form) (failed : Type 0) (status : ℕ) (entries : List Entry) (before after : Option (List ℕ)) (faults now : ℕ) →
-      failed → Concludes devices (Prints read_fault) status entries before after faults now → status ≡ 3 →
-      IfSome left (λ bytes. FrontOf devices (judged form bytes) failed entries before after)
-  fault_front_of None form failed status entries before after faults now h c s = tt
-  fault_front_of (Some bytes) form failed status entries before after faults now h c s = inr (h, c.front s)
-
   -- the whole report of a run, of which some is printed
   abbrev pub whole_report : Printing → Config → List Directive → List Entry → List ℕ
   whole_report printing config script entries = report_of devices (is_traced printing) config script entries
 
   -- a script whose bounds are within the limit, and whose report is not too long, is run to its end
-  whole_at : (printing : Printing) (config : Config) (script : List Directive) (ending : Ending) (entries : List Entry) → Ends devices (Runs printing config script) ending entries → bound_of config script ≤ 1000000 →
-      length (whole_report printing config script entries) ≤ most_bytes → ending.status ≡ 0
+  whole_at : (printing : Printing) (config : Config) (script : List Directive) (ending : Ending) (entries : List Entry) → Ends devices (Runs printing config script) ending entries →
+      bound_of config script ≤ 1000000 → length (whole_report printing config script entries) ≤ most_bytes → ending.status ≡ 0
   whole_at printing config script ending entries (inl e) few short =
       ap (λ (x : Ending). x.status) e.1 ∙ reported_by (is_too_long (whole_report printing config script entries)) printing (whole_report printing config script entries) refl short
   whole_at printing config script ending entries (inr e) few short = absurd (let more = e.0.bound in omega (arith, few, more))
 
-  pub whole_of : (j : Judgement) (status : ℕ) (entries : List Entry) (before after : Option (List ℕ)) (printing : Printing) (config : Config) (script : List Directive) → IsEnded devices j status entries before after → j ≡ Runs printing config script →
-      bound_of config script ≤ 1000000 → length (whole_report printing config script entries) ≤ most_bytes → status ≡ 0
-  whole_of j status entries before after printing config script e is few short =
-      e.status_is ∙ whole_at printing config script e.ending entries (subst (λ (k : Judgement). Ends devices k e.ending entries) is e.ends) few short
+  pub whole_of : (outcome : Outcome) (sink : Stream) (printing : Printing) (config : Config) (script : List Directive) → IsEnded devices (Runs printing config script) outcome sink →
+      bound_of config script ≤ 1000000 → length (whole_report printing config script outcome.journal.entries) ≤ most_bytes → outcome.status ≡ 0
+  whole_of outcome sink printing config script e few short = e.status_is ∙ whole_at printing config script e.ending outcome.journal.entries e.ends few short
 
-  pub printed_of : (j : Judgement) (status : ℕ) (entries : List Entry) (before after : Option (List ℕ)) (ending : Ending) → IsEnded devices j status entries before after → j ≡ Prints ending → status ≡ ending.status
-  printed_of j status entries before after ending e is = e.status_is ∙ ap (λ (x : Ending). x.status) (subst (λ (k : Judgement). Ends devices k e.ending entries) is e.ends).0
-
-  -- no fault was met, so the call ended as it was judged
-  pub complete_of : (left : Option (List ℕ)) (form : Option Form) (j : Judgement) (status : ℕ) (entries : List Entry) (before after : Option (List ℕ)) (faults now : ℕ) →
-      JudgesSo left form j → Concludes devices j status entries before after faults now → (Rose faults now → ⊥) →
-      IfSome left (λ bytes. (printing : Printing) (config : Config) (script : List Directive) → judged form bytes ≡ Runs printing config script → bound_of config script ≤ 1000000 →
-      length (report_of devices (is_traced printing) config script entries) ≤ most_bytes → status ≢ 4 → status ≡ 0)
-  complete_of None form j status entries before after faults now h c still = tt
-  complete_of (Some bytes) form j status entries before after faults now h c still =
-      λ printing config script e few short m. whole_of j status entries before after printing config script (c.ends (λ s. still (c.fault s)) m) (sym h.judges ∙ e) few short
-
-  pub checks_of : (left : Option (List ℕ)) (form : Option Form) (j : Judgement) (status : ℕ) (entries : List Entry) (before after : Option (List ℕ)) (faults now : ℕ) →
-      JudgesSo left form j → Concludes devices j status entries before after faults now → (Rose faults now → ⊥) →
-      IfSome left (λ bytes. (ending : Ending) → judged form bytes ≡ Prints ending → status ≢ 4 → status ≡ ending.status)
-  checks_of None form j status entries before after faults now h c still = tt
-  checks_of (Some bytes) form j status entries before after faults now h c still =
-      λ ending e m. printed_of j status entries before after ending (c.ends (λ s. still (c.fault s)) m) (sym h.judges ∙ e)
-
-  -- the journal where memory was wanting
-  pub memory_of : (left : Option (List ℕ)) (form : Option Form) (j : Judgement) (status : ℕ) (entries : List Entry) (before after : Option (List ℕ)) (faults now : ℕ) →
-      JudgesSo left form j → Concludes devices j status entries before after faults now → status ≡ 4 → IfSome left (λ bytes. LeavesRun devices (judged form bytes) entries)
-  memory_of None form j status entries before after faults now h c m = tt
-  memory_of (Some bytes) form j status entries before after faults now h c m = subst (λ (k : Judgement). LeavesRun devices k entries) (sym h.judges) (c.memory m)
+  pub printed_of : (outcome : Outcome) (sink : Stream) (printed : Ending) → IsEnded devices (Prints printed) outcome sink → outcome.status ≡ printed.status
+  printed_of outcome sink printed e = e.status_is ∙ ap (λ (x : Ending). x.status) e.ends.0
 
   -- nothing was run
   pub left_empty : (j : Judgement) (entries : List Entry) → entries ≡ [] → LeavesRun devices j entries
@@ -142,68 +104,56 @@ module _ (devices : ℕ) where
   left_empty (Runs printing config script) entries e = inl e
   left_empty (Generates seed count) entries e = inl e
 
-  -- where memory was wanting before any judgement
-  pub left_empty_of : (left : Option (List ℕ)) (form : Option Form) (entries : List Entry) → entries ≡ [] → IfSome left (λ bytes. LeavesRun devices (judged form bytes) entries)
-  left_empty_of None form entries e = tt
-  left_empty_of (Some bytes) form entries e = left_empty (judged form bytes) entries e
-
-  -- what is promised of the journal
-  pub keeps_of : (left : Option (List ℕ)) (form : Option Form) (j : Judgement) (status : ℕ) (entries : List Entry) (before after : Option (List ℕ)) (faults now : ℕ) →
-      JudgesSo left form j → Concludes devices j status entries before after faults now → IfSome left (λ bytes. Keeps devices (judged form bytes) entries)
-  keeps_of None form j status entries before after faults now h c = tt
-  keeps_of (Some bytes) form j status entries before after faults now h c = subst (λ (k : Judgement). Keeps devices k entries) (sym h.judges) c.keeps
-
   -- what was cut off of a text that is printed
-  pub printed_front : (printed : Ending) (entries : List Entry) (before after : Option (List ℕ)) → IsCutOff devices (Prints printed) entries before after → WritesFront before after printed.text × (entries ≡ [])
-  printed_front printed entries before after h = (subst (λ (x : Ending). WritesFront before after x.text) h.ends.0 h.front, h.ends.1)
+  pub printed_front : (printed : Ending) (outcome : Outcome) (sink : Stream) → IsCutOff devices (Prints printed) outcome sink → WritesFront sink printed.text × (outcome.journal.entries ≡ [])
+  printed_front printed outcome sink h = (subst (λ (x : Ending). WritesFront sink x.text) h.ends.0 h.front, h.ends.1)
 
   -- a call that is to print a text
-  pub printed_status : (printed : Ending) (status : ℕ) (entries : List Entry) (before after : Option (List ℕ)) (faults now : ℕ) → Concludes devices (Prints printed) status entries before after faults now → status ≢ 3 → status ≢ 4 → status ≡ printed.status
-  printed_status printed status entries before after faults now c s m = printed_of (Prints printed) status entries before after printed (c.ends s m) refl
+  pub printed_status : (printed : Ending) (outcome : Outcome) (sink : Stream) → Concludes devices (Prints printed) outcome sink → outcome.status ≢ 3 → outcome.status ≢ 4 → outcome.status ≡ printed.status
+  printed_status printed outcome sink c s m = printed_of outcome sink printed (c.ends s m)
 
-  pub printed_text : (printed : Ending) (status : ℕ) (entries : List Entry) (before after : Option (List ℕ)) (faults now : ℕ) → Concludes devices (Prints printed) status entries before after faults now → status ≢ 3 → status ≢ 4 →
-      Appends before after printed.text
-  printed_text printed status entries before after faults now c s m = let e = c.ends s m in subst (λ (x : Ending). Appends before after x.text) e.ends.0 e.written
+  pub printed_text : (printed : Ending) (outcome : Outcome) (sink : Stream) → Concludes devices (Prints printed) outcome sink → outcome.status ≢ 3 → outcome.status ≢ 4 → Writes sink printed.text
+  printed_text printed outcome sink c s m = let e = c.ends s m in subst (λ (x : Ending). Writes sink x.text) e.ends.0 e.written
 
   -- with no other status, but where the sink fails or memory is wanting
-  pub printed_not : (printed : Ending) (status : ℕ) (entries : List Entry) (before after : Option (List ℕ)) (faults now n : ℕ) → Concludes devices (Prints printed) status entries before after faults now → n ≢ 3 → n ≢ 4 → n ≢ printed.status → status ≡ n → ⊥
-  printed_not printed status entries before after faults now n c three four other e =
-      other (sym e ∙ printed_status printed status entries before after faults now c (λ s. three (sym e ∙ s)) (λ m. four (sym e ∙ m)))
+  pub printed_not : (printed : Ending) (outcome : Outcome) (sink : Stream) (n : ℕ) → Concludes devices (Prints printed) outcome sink → n ≢ 3 → n ≢ 4 → n ≢ printed.status → outcome.status ≡ n → ⊥
+  printed_not printed outcome sink n c three four other e = other (sym e ∙ printed_status printed outcome sink c (λ s. three (sym e ∙ s)) (λ m. four (sym e ∙ m)))
 
   -- by whatever number and bytes the text and its status are told
-  pub printed_as : (printed : Ending) (n : ℕ) (text : List ℕ) (status : ℕ) (entries : List Entry) (before after : Option (List ℕ)) (faults now : ℕ) → n ≡ printed.status → text ≡ printed.text →
-      Concludes devices (Prints (record { status = n; text = text })) status entries before after faults now → Concludes devices (Prints printed) status entries before after faults now
-  printed_as printed n text status entries before after faults now e f c =
-      subst (λ (t : List ℕ). Concludes devices (Prints (record { status = printed.status; text = t })) status entries before after faults now) f
-      (subst (λ (k : ℕ). Concludes devices (Prints (record { status = k; text = text })) status entries before after faults now) e c)
+  pub printed_as : (printed : Ending) (n : ℕ) (text : List ℕ) (outcome : Outcome) (sink : Stream) → n ≡ printed.status → text ≡ printed.text →
+      Concludes devices (Prints (record { status = n; text = text })) outcome sink → Concludes devices (Prints printed) outcome sink
+  printed_as printed n text outcome sink e f c =
+      subst (λ (t : List ℕ). Concludes devices (Prints (record { status = printed.status; text = t })) outcome sink) f
+      (subst (λ (k : ℕ). Concludes devices (Prints (record { status = k; text = text })) outcome sink) e c)
 
   -- a call that writes the text with which it is to end
-  pub concludes_of : (j : Judgement) (ending : Ending) (status : ℕ) (entries : List Entry) (before after : Option (List ℕ)) (faults now : ℕ) → Ends devices j ending entries → Keeps devices j entries → ending.status ≢ 3 →
-      ending.status ≢ 4 → status ≤ 7 → (status ≢ 3 → status ≡ ending.status) → (status ≢ 3 → Appends before after ending.text) → (status ≢ 3 → now ≡ faults) → (status ≡ 3 → Rose faults now) →
-      (status ≡ 3 → WritesFront before after ending.text) → Concludes devices j status entries before after faults now
-  concludes_of j ending status entries before after faults now ends keeps three four known is wrote still fault front =
-      let never : (A : Type 0) → status ≡ 4 → A = λ A e. absurd (let f : status ≢ 3 = λ g. absurd (omega (arith, e, g)) in four (sym (is f) ∙ e)) in
+  pub concludes_of : (j : Judgement) (ending : Ending) (outcome : Outcome) (sink : Stream) → Ends devices j ending outcome.journal.entries → Keeps devices j outcome.journal.entries → ending.status ≢ 4 → outcome.status ≤ 7 →
+      (outcome.status ≢ 3 → outcome.status ≡ ending.status) → (outcome.status ≢ 3 → Writes sink ending.text) → (outcome.status ≢ 3 → sink.faults_after ≡ sink.faults_before) →
+      (outcome.status ≡ 3 → MeetsFault sink) → (outcome.status ≡ 3 → WritesFront sink ending.text) → Concludes devices j outcome sink
+  concludes_of j ending outcome sink ends keeps four known is wrote still fault front =
+      let never : (A : Type 0) → outcome.status ≡ 4 → A = λ A e. absurd (let f : outcome.status ≢ 3 = λ g. absurd (omega (arith, e, g)) in four (sym (is f) ∙ e)) in
       record {
         known = known;
         ends = λ a b. record { ending = ending; ends = ends; status_is = is a; written = wrote a };
         front = λ e. record { ending = ending; ends = ends; front = front e };
         keeps = keeps;
-        nothing = never (Appends before after []);
-        memory = never (LeavesRun devices j entries);
+        nothing = never (Writes sink []);
+        memory = never (LeavesRun devices j outcome.journal.entries);
         still = still;
         fault = fault;
       }
 
-  pub forgot_of : (j : Judgement) (status : ℕ) (entries : List Entry) (sink : Option (List ℕ)) (faults : ℕ) → status ≡ 4 → LeavesRun devices j entries → Keeps devices j entries →
-      Concludes devices j status entries sink sink faults faults
-  forgot_of j status entries sink faults four leaves keeps = record {
+  -- a call that found no memory, and has met no fault of the sink
+  pub forgot_of : (j : Judgement) (outcome : Outcome) (sink : Stream) → outcome.status ≡ 4 → sink.after ≡ sink.before → sink.faults_after ≡ sink.faults_before →
+      LeavesRun devices j outcome.journal.entries → Keeps devices j outcome.journal.entries → Concludes devices j outcome sink
+  forgot_of j outcome sink four same still leaves keeps = record {
     known = omega (arith, four);
     ends = λ a b. absurd (b four);
     front = λ e. absurd (omega (arith, four, e));
     keeps = keeps;
-    nothing = λ e. appends_nothing sink;
+    nothing = λ e. appends_nothing sink.before sink.after same;
     memory = λ e. leaves;
-    still = λ e. refl;
+    still = λ e. still;
     fault = λ e. absurd (omega (arith, four, e));
   }
 
@@ -246,30 +196,35 @@ module _ (devices : ℕ) where
   parts_after task (Err fault) text = prints_after (refusals.Configuration fault)
   parts_after task (Ok config) text = script_after task config (script text)
 
-  pub file_after : (task : Task) (parts : Option (List ℕ × List ℕ)) → IsOfFile (judged_file task parts)
+  file_after : (task : Task) (parts : Option (List ℕ × List ℕ)) → IsOfFile (judged_file task parts)
   file_after task None = prints_after refusals.NoSeparator
   file_after task (Some parts) = parts_after task (configuration_of parts.0) parts.1
 
--- what was read to the end is judged
-file_judged_at : (t : Task) (xs bytes ys : List ℕ) → xs ≡ bytes ++ ys → ys ≡ [] → length bytes ≤ 1048576 → judged (Some (File t)) xs ≡ judged_file t (file bytes)
-file_judged_at t xs bytes ys e n h = rw (e, n, append-nil) (grind (arith, nat_tests))
+  bytes_after : (task : Task) (bytes : List ℕ) (many : Bool) → nat_lt 1048576 (length bytes) ≡ many → IsOfFile (judged_bytes task bytes)
+  bytes_after task bytes true h =
+      subst (λ (j : Judgement). IsOfFile j) (sym (many_are task bytes (ltb-true 1048576 (length bytes) h)))
+      (λ ending entries e. subst (λ (x : Ending). NotBefore x.status) (sym e.0) (λ f. cc, λ f. cc))
+  bytes_after task bytes false h =
+      let few : length bytes ≤ 1048576 = let no = ltb-false 1048576 (length bytes) h in omega (arith, no) in
+      subst (λ (j : Judgement). IsOfFile j) (sym (few_are task bytes few)) (file_after task (file bytes))
 
-pub file_judged : (left new : Option (List ℕ)) (form : Option Form) (t : Task) (bytes : List ℕ) → form ≡ Some (File t) → Consumes left new bytes → IsAtEnd new → length bytes ≤ 1048576 → JudgesSo left form (judged_file t (file bytes))
-file_judged None new form t bytes e c n h = record { judges = tt }
-file_judged (Some xs) None form t bytes e c n h = absurd c
-file_judged (Some xs) (Some ys) form t bytes e c n h = record { judges = rw e (file_judged_at t xs bytes ys c n h) }
+  -- whatever the words and the bytes, a judgement has status 1 for words of no form alone, and never status 2
+  pub status_after : (form : Option Form) (bytes : List ℕ) (ending : Ending) (entries : List Entry) → Ends devices (judged form bytes) ending entries → (ending.status ≡ 1 → form ≡ None) × (ending.status ≢ 2)
+  status_after None bytes ending entries e = (λ f. refl, λ f. let g : ending.status ≡ 1 = ap (λ (x : Ending). x.status) e.0 in absurd (omega (arith, f, g)))
+  status_after (Some (File task)) bytes ending entries e =
+      let after = bytes_after task bytes (nat_lt 1048576 (length bytes)) refl ending entries e in (λ f. absurd (after.0 f), after.1)
+  status_after (Some (Gen seed count)) bytes ending entries e =
+      let g : ending.status ≡ 0 = ap (λ (x : Ending). x.status) e.1 in (λ f. absurd (omega (arith, f, g)), λ f. absurd (omega (arith, f, g)))
 
-pub usage_judged : (left : Option (List ℕ)) (form : Option Form) → form ≡ None → JudgesSo left form (Prints usage)
-usage_judged None form e = record { judges = tt }
-usage_judged (Some bytes) form e = record { judges = rw e }
+  -- only a run leaves a journal, and its status is 0 or 5
+  by_report : (long : Bool) (printing : Printing) (report : List ℕ) → is_too_long report ≡ long → (reported printing report).status ≢ 0 → (reported printing report).status ≢ 5 → ⊥
+  by_report true printing report h zero five = five (rw h refl)
+  by_report false printing report h zero five = zero (rw h refl)
 
-pub generated_judged : (left : Option (List ℕ)) (form : Option Form) (seed count : ℕ) → form ≡ Some (Gen seed count) → JudgesSo left form (Generates seed count)
-generated_judged None form seed count e = record { judges = tt }
-generated_judged (Some bytes) form seed count e = record { judges = rw e }
-
-too_many_of : (t : Task) (bytes : List ℕ) → 1048576 < length bytes → judged (Some (File t)) bytes ≡ Prints too_many_bytes
-too_many_of t bytes h = grind (arith, nat_tests)
-
-pub too_many_judged : (left : Option (List ℕ)) (form : Option Form) (t : Task) → form ≡ Some (File t) → IfSome left (λ bytes. 1048576 < length bytes) → JudgesSo left form (Prints too_many_bytes)
-too_many_judged None form t e h = record { judges = tt }
-too_many_judged (Some bytes) form t e h = record { judges = rw e (too_many_of t bytes h) }
+  pub nothing_after : (j : Judgement) (ending : Ending) (entries : List Entry) → Ends devices j ending entries → ending.status ≢ 0 → ending.status ≢ 5 → entries ≡ []
+  nothing_after (Prints printed) ending entries e zero five = e.1
+  nothing_after (Runs printing config script) ending entries (inl e) zero five =
+      let report = whole_report printing config script entries in
+      absurd (by_report (is_too_long report) printing report refl (λ f. zero (ap (λ (x : Ending). x.status) e.1 ∙ f)) (λ f. five (ap (λ (x : Ending). x.status) e.1 ∙ f)))
+  nothing_after (Runs printing config script) ending entries (inr e) zero five = absurd (five (ap (λ (x : Ending). x.status) e.1))
+  nothing_after (Generates seed count) ending entries e zero five = absurd (zero (ap (λ (x : Ending). x.status) e.1))

@@ -10,5 +10,6 @@ pub mod LastLines
 pub mod Lines
 pub mod Numerals
 pub mod Promised
+pub mod Returning
 pub mod Scripts
 pub mod Stopping

@@ -69,7 +69,8 @@ abbrev pub ending_of : Refusal → Ending
 ending_of refusals.NoSeparator = record { status = 7; text = codes "script fault 0 NoSeparator\n" }
 ending_of (refusals.Configuration fault) = record { status = 6; text = codes "configuration fault " ++ (fault_text fault ++ codes "\n") }
 ending_of (refusals.Script (Long line)) = too_many_directives
-ending_of (refusals.Script fault) = record { status = 7; text = codes "script fault " ++ (decimal (line_of fault) ++ (codes " " ++ (kind_text fault ++ codes "\n"))) }
+ending_of (refusals.Script fault) =
+    record { status = 7; text = codes "script fault " ++ (decimal (line_of fault) ++ (codes " " ++ (kind_text fault ++ codes "\n"))) }
 
 -- ---- the order of the refusals
 

@@ -1,3 +1,6 @@
+pub mod Calls
+pub mod Contract
+pub mod Groups
 pub mod Judged
 pub mod Outcomes
 pub mod Runs

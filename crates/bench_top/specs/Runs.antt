@@ -35,7 +35,9 @@ shown_by _ = None
 
 -- the rows of each show of a run, as the machine's state is there
 abbrev pub shows_of : (devices : ℕ) → Config → List Directive → List Entry → List (List Row)
-shows_of devices config script journal = shows_from (system_setting config) call_of (show_rows config) script (start_moment (system_setting config) (chip_for devices config script)) journal
+shows_of devices config script journal =
+    shows_from (system_setting config) call_of (show_rows config) script
+    (start_moment (system_setting config) (chip_for devices config script)) journal
 
 -- the report of a run
 abbrev pub report_of : (devices : ℕ) → (traced : Bool) → Config → List Directive → List Entry → List ℕ

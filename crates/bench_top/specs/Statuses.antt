@@ -12,6 +12,7 @@ use Rattle.bench_script.specs.declared.fault.ScriptFault.TheVariants.{Long}
 use Rattle.bench_report.specs.Limit.{most_bytes}
 use Rattle.bench_top.specs.Runs.{IsWholeRun, IsStoppedRun, report_of}
 use Rattle.bench_top.specs.Tail.{is_traced}
+use Rattle.bench_top.specs.declared.top.Outcome.{Outcome}
 use Rattle.bench_top.specs.declared.words.Printing.{Printing}
 use Rattle.bench_top.specs.declared.words.Task.{Task}
 use Rattle.bench_top.specs.declared.words.Task.TheVariants.{Check, Run}
@@ -55,7 +56,8 @@ pub record IsConfigRefused (bytes : List ℕ) : Type 0 where
 -- Status 7: no separator, or a line that is refused.
 pub data IsScriptRefused (bytes : List ℕ) : Type 0 where
   NoParts : length bytes ≤ 1048576 → file bytes ≡ None → IsScriptRefused bytes
-  BadLine : (back : List ℕ) (config : Config) (fault : ScriptFault) → HasConfig bytes back config → script back ≡ Err fault → is_long fault ≡ false → IsScriptRefused bytes
+  BadLine : (back : List ℕ) (config : Config) (fault : ScriptFault) → HasConfig bytes back config → script back ≡ Err fault →
+      is_long fault ≡ false → IsScriptRefused bytes
 
 -- Both parts are right: `check` ends with status 0.
 pub record IsChecked (task : Task) (bytes : List ℕ) : Type 0 where
@@ -71,18 +73,21 @@ pub record IsRunnable (task : Task) (bytes : List ℕ) (printing : Printing) (co
 
 -- Status 5 of a run: it stopped where one more step than the most would be taken, or its report would be too long.
 pub data IsRunTooLong (devices : ℕ) (task : Task) (bytes : List ℕ) (entries : List Entry) : Type 0 where
-  Steps : (printing : Printing) (config : Config) (directives : List Directive) → IsRunnable task bytes printing config directives → IsStoppedRun devices config directives entries → IsRunTooLong devices task bytes entries
-  Report : (printing : Printing) (config : Config) (directives : List Directive) → IsRunnable task bytes printing config directives → IsWholeRun devices config directives entries →
-      most_bytes < length (report_of devices (is_traced printing) config directives entries) → IsRunTooLong devices task bytes entries
+  Steps : (printing : Printing) (config : Config) (directives : List Directive) → IsRunnable task bytes printing config directives →
+      IsStoppedRun devices config directives entries → IsRunTooLong devices task bytes entries
+  Report : (printing : Printing) (config : Config) (directives : List Directive) → IsRunnable task bytes printing config directives →
+      IsWholeRun devices config directives entries → most_bytes < length (report_of devices (is_traced printing) config directives entries) →
+      IsRunTooLong devices task bytes entries
 
 -- Status 0 of a run: it came to its end, and its report is no longer than it may be.
 pub data IsRunDone (devices : ℕ) (task : Task) (bytes : List ℕ) (entries : List Entry) : Type 0 where
-  Done : (printing : Printing) (config : Config) (directives : List Directive) → IsRunnable task bytes printing config directives → IsWholeRun devices config directives entries →
-      length (report_of devices (is_traced printing) config directives entries) ≤ most_bytes → IsRunDone devices task bytes entries
+  Done : (printing : Printing) (config : Config) (directives : List Directive) → IsRunnable task bytes printing config directives →
+      IsWholeRun devices config directives entries → length (report_of devices (is_traced printing) config directives entries) ≤ most_bytes →
+      IsRunDone devices task bytes entries
 
 -- The status that a file comes to, by its bytes and by the journal that its run left.
-pub record IsDecided (devices : ℕ) (task : Task) (bytes : List ℕ) (status : ℕ) (entries : List Entry) : Type 0 where
-  pub done : (status ≡ 0) ↔ (IsChecked task bytes ⊎ IsRunDone devices task bytes entries)
-  pub too_long : (status ≡ 5) ↔ (IsTooLong bytes ⊎ IsRunTooLong devices task bytes entries)
-  pub configuration : (status ≡ 6) ↔ IsConfigRefused bytes
-  pub script : (status ≡ 7) ↔ IsScriptRefused bytes
+pub record IsDecided (devices : ℕ) (task : Task) (bytes : List ℕ) (outcome : Outcome) : Type 0 where
+  pub done : (outcome.status ≡ 0) ↔ (IsChecked task bytes ⊎ IsRunDone devices task bytes outcome.journal.entries)
+  pub too_long : (outcome.status ≡ 5) ↔ (IsTooLong bytes ⊎ IsRunTooLong devices task bytes outcome.journal.entries)
+  pub configuration : (outcome.status ≡ 6) ↔ IsConfigRefused bytes
+  pub script : (outcome.status ≡ 7) ↔ IsScriptRefused bytes

@@ -1,25 +1,15 @@
-ghost use Rattle.std.specs.Prelude.{◌≡◌, ◌≢◌, ◌≤◌, ℕ, List, [], None, IfOk, codes, length, map, string_bytes, vec_len};
-ghost use Rattle.std.specs.Option.{IfSome};
-ghost use Rattle.std.specs.Io.KnownBytes.{Appends};
-ghost use Rattle.mcal_base.specs.Causes.{Rose};
-ghost use Rattle.mcal_base.specs.declared.config.whole.Config as records;
+ghost use Rattle.std.specs.Prelude.{◌≡◌, ◌≢◌, ◌≤◌, ℕ, [], IfOk, length, map, string_bytes, vec_len};
 ghost use Rattle.config_facts.specs.Valid.{IsValid};
 ghost use Rattle.run_model.specs.Exchanges.{AreToldBy};
-ghost use Rattle.bench_report.specs.Limit.{most_bytes};
 ghost use Rattle.bench_script.specs.Lines.{file};
-ghost use Rattle.mcal_system.specs.Runs.{bound_of};
 ghost use Rattle.mcal_system.specs.Setting.{has_service};
 ghost use Rattle.script_runner.specs.Scripts.{IsScript, AllOffered};
+ghost use Rattle.bench_top.specs.Calls.{stream_of};
+ghost use Rattle.bench_top.specs.Contract.{KeepsContract};
 ghost use Rattle.bench_top.specs.Judged as spec;
-ghost use Rattle.bench_top.specs.Judged.{Ending, Generates, IsRead, Judgement, Prints, Runs, judged};
-ghost use Rattle.bench_top.specs.Outcomes.{Concludes, Ends, EndsOnSome, IsEnded, FrontOf, FrontOnSome, Keeps, LeavesInput, LeavesOnSome, LeavesRun, WritesFront};
-ghost use Rattle.bench_top.specs.Runs.{report_of};
-ghost use Rattle.bench_top.specs.Statuses.{IsDecided};
-ghost use Rattle.bench_top.specs.Tail.{is_traced};
+ghost use Rattle.bench_top.specs.Judged.{Generates, IsRead, Judgement, Prints, Runs};
+ghost use Rattle.bench_top.specs.Outcomes.{Concludes, Ends, Keeps};
 ghost use Rattle.bench_top.specs.Words.{form_of};
-ghost use Rattle.bench_top.specs.declared.words.Form.{Form};
-ghost use Rattle.bench_top.specs.declared.words.Printing.{Printing};
-ghost use Rattle.bench_top.specs.declared.words.Task.{Task};
 
 use crate::file::{BenchFile, FileEnd, read_file};
 use crate::generated::generated_text;
@@ -70,8 +60,8 @@ fn finish<K: Sink>(out: &mut K, status: u8, text: &[u8], journal: Journal) -> Ou
     ensures remembers { result.status ≢ 4 }
     ensures journal { result.journal ≡ journal }
     // It ends as it was judged, where the call is to end with this status and this text.
-    ensures concludes { (devices : ℕ) (judgement : Judgement) → Ends devices judgement (record { status = status; text = text.now }) journal.entries → Keeps devices judgement journal.entries →
-        Concludes devices judgement result.status result.journal.entries (K.taken out.old) (K.taken out.new) (K.faults out.old) (K.faults out.new) }
+    ensures concludes { (devices : ℕ) (judgement : Judgement) → Ends devices judgement (record { status = status; text = text.now }) journal.entries →
+        Keeps devices judgement journal.entries → Concludes devices judgement result (stream_of K.taken K.faults out.old out.new) }
 {
     match write_all(out, text) {
         Ok(()) => Outcome { status, journal },
@@ -105,7 +95,8 @@ fn print<K: Sink>(alloc: Global, out: &mut K, status: u8, text: &str) -> Outcome
     requires memory { status ≢ 4 }
     requires known { status ≤ 7 }
     ensures remembers { result.status ≢ 4 }
-    ensures concludes { (devices : ℕ) → Concludes devices (Prints (record { status = status; text = text.now })) result.status result.journal.entries (K.taken out.old) (K.taken out.new) (K.faults out.old) (K.faults out.new) }
+    ensures concludes { (devices : ℕ) →
+        Concludes devices (Prints (record { status = status; text = text.now })) result (stream_of K.taken K.faults out.old out.new) }
     ensures keeps { (devices : ℕ) (judgement : Judgement) → Keeps devices judgement result.journal.entries }
 {
     finish(out, status, text.as_bytes(), Journal::empty(alloc))
@@ -113,7 +104,7 @@ fn print<K: Sink>(alloc: Global, out: &mut K, status: u8, text: &str) -> Outcome
 
 /// Writes the line of a file that is refused.
 fn refuse<K: Sink>(alloc: Global, out: &mut K, refusal: Refusal) -> Outcome
-    ensures { (devices : ℕ) → Concludes devices (Prints (spec.ending_of refusal)) result.status result.journal.entries (K.taken out.old) (K.taken out.new) (K.faults out.old) (K.faults out.new) }
+    ensures { (devices : ℕ) → Concludes devices (Prints (spec.ending_of refusal)) result (stream_of K.taken K.faults out.old out.new) }
 {
     match refusal.text(alloc) {
         Ok(text) => print(alloc, out, refusal.status(), text.as_str()),
@@ -130,7 +121,8 @@ fn checked_text(alloc: Global, directives: usize) -> Result<String, AllocError>
 
 /// Says that a file was read.
 fn check<K: Sink>(alloc: Global, out: &mut K, script: &[Directive]) -> Outcome
-    ensures { (devices : ℕ) → Concludes devices (Prints (spec.checked (length script.now))) result.status result.journal.entries (K.taken out.old) (K.taken out.new) (K.faults out.old) (K.faults out.new) }
+    ensures { (devices : ℕ) →
+        Concludes devices (Prints (spec.checked (length script.now))) result (stream_of K.taken K.faults out.old out.new) }
 {
     match checked_text(alloc, script.len()) {
         Ok(text) => print(alloc, out, 0, text.as_str()),
@@ -150,7 +142,7 @@ fn run_and_report<K: Sink>(
     requires valid { IsValid config }
     requires script { IsScript script.now }
     requires offered { AllOffered has_service script.now }
-    ensures concludes { Concludes (vec_len rack.old) (Runs printing config script.now) result.status result.journal.entries (K.taken out.old) (K.taken out.new) (K.faults out.old) (K.faults out.new) }
+    ensures concludes { Concludes (vec_len rack.old) (Runs printing config script.now) result (stream_of K.taken K.faults out.old out.new) }
     // The devices were called by the steps of its journal.
     ensures told { AreToldBy (vec_len rack.old) result.journal.entries (map (λ d. line d) rack.old.items) (map (λ d. line d) rack.new.items) }
 {
@@ -192,7 +184,7 @@ fn act<K: Sink>(
 ) -> Outcome
     requires valid { IsValid read.config }
     requires script { IsRead read.script.items }
-    ensures concludes { Concludes (vec_len rack.old) (spec.judged_whole task read.config read.script.items) result.status result.journal.entries (K.taken out.old) (K.taken out.new) (K.faults out.old) (K.faults out.new) }
+    ensures concludes { Concludes (vec_len rack.old) (spec.judged_whole task read.config read.script.items) result (stream_of K.taken K.faults out.old out.new) }
     ensures told { AreToldBy (vec_len rack.old) result.journal.entries (map (λ d. line d) rack.old.items) (map (λ d. line d) rack.new.items) }
 {
     let BenchFile { config, script } = read;
@@ -211,7 +203,7 @@ fn conclude<K: Sink>(
     rack: &mut Vec<Box<dyn SerialDevice>>,
 ) -> Outcome
     requires { length bytes.now ≤ 1048576 }
-    ensures concludes { Concludes (vec_len rack.old) (spec.judged_file task (file bytes.now)) result.status result.journal.entries (K.taken out.old) (K.taken out.new) (K.faults out.old) (K.faults out.new) }
+    ensures concludes { Concludes (vec_len rack.old) (spec.judged_file task (file bytes.now)) result (stream_of K.taken K.faults out.old out.new) }
     ensures told { AreToldBy (vec_len rack.old) result.journal.entries (map (λ d. line d) rack.old.items) (map (λ d. line d) rack.new.items) }
 {
     match read_file(alloc, bytes) {
@@ -231,7 +223,7 @@ fn generate<K: Sink>(
     rack: &mut Vec<Box<dyn SerialDevice>>,
 ) -> Outcome
     requires { count ≤ 20000 }
-    ensures concludes { Concludes (vec_len rack.old) (Generates seed count) result.status result.journal.entries (K.taken out.old) (K.taken out.new) (K.faults out.old) (K.faults out.new) }
+    ensures concludes { Concludes (vec_len rack.old) (Generates seed count) result (stream_of K.taken K.faults out.old out.new) }
     ensures told { AreToldBy (vec_len rack.old) result.journal.entries (map (λ d. line d) rack.old.items) (map (λ d. line d) rack.new.items) }
 {
     let Ok(script) = bench_generator::script(alloc, seed, count) else {
@@ -254,58 +246,18 @@ pub fn bench<S: Source, K: Sink>(
     out: &mut K,
     rack: &mut Vec<Box<dyn SerialDevice>>,
 ) -> Outcome
-    // Where no fault was met and memory was found, the status, the journal and the output are those of the definition.
-    ensures exact { result.status ≢ 2 → result.status ≢ 3 → result.status ≢ 4 → IfSome (S.left input.old) (λ bytes.
-        IsEnded (vec_len rack.old) (judged (form_of (map string_bytes words.now)) bytes) result.status result.journal.entries (K.taken out.old) (K.taken out.new)) }
-    // Whatever the source tells of its bytes, the call ends as it is to end on some bytes.
-    ensures on_some { result.status ≢ 2 → result.status ≢ 3 → result.status ≢ 4 → EndsOnSome (vec_len rack.old) (form_of (map string_bytes words.now)) result.status result.journal.entries (K.taken out.old) (K.taken out.new) }
-    // The status that the bytes come to, where the words ask for something with them.
-    ensures statuses { result.status ≢ 2 → result.status ≢ 3 → result.status ≢ 4 → IfSome (S.left input.old) (λ bytes. (task : Task) → form_of (map string_bytes words.now) ≡ Some (Form.File task) → IsDecided (vec_len rack.old) task bytes result.status result.journal.entries) }
-    // There are no other statuses.
-    ensures known { result.status ≤ 7 }
-    // The words alone decide on status 1, and on the line that is printed then.
-    ensures refused { form_of (map string_bytes words.now) ≡ None → result.status ≢ 3 → result.status ≡ 1 }
-    ensures usage { result.status ≡ 1 → form_of (map string_bytes words.now) ≡ None }
-    ensures usage_line { form_of (map string_bytes words.now) ≡ None → result.status ≢ 3 → Appends (K.taken out.old) (K.taken out.new) spec.usage.text }
-    ensures usage_front { form_of (map string_bytes words.now) ≡ None → result.status ≡ 3 → WritesFront (K.taken out.old) (K.taken out.new) spec.usage.text × (result.journal.entries ≡ []) }
-    // A fault of the source.
-    ensures read { result.status ≡ 2 → Rose (S.faults input.old) (S.faults input.new) × Appends (K.taken out.old) (K.taken out.new) (codes "read fault\n") × (result.journal.entries ≡ []) }
-    ensures read_only { S.faults input.new ≢ S.faults input.old → result.status ≢ 2 → result.status ≢ 3 → result.status ≡ 4 }
-    ensures later { S.faults input.old ≤ S.faults input.new }
-    // A fault of the sink: a front of the whole output was written.
-    ensures write { result.status ≡ 3 → Rose (K.faults out.old) (K.faults out.new) }
-    ensures write_only { result.status ≢ 3 → K.faults out.new ≡ K.faults out.old }
-    ensures front { result.status ≡ 3 → IfSome (S.left input.old) (λ bytes. FrontOf (vec_len rack.old) (judged (form_of (map string_bytes words.now)) bytes) (Rose (S.faults input.old) (S.faults input.new)) result.journal.entries (K.taken out.old) (K.taken out.new)) }
-    ensures front_on_some { result.status ≡ 3 → FrontOnSome (vec_len rack.old) (form_of (map string_bytes words.now)) (Rose (S.faults input.old) (S.faults input.new)) result.journal.entries (K.taken out.old) (K.taken out.new) }
-    ensures read_front { result.status ≡ 3 → S.faults input.new ≢ S.faults input.old → WritesFront (K.taken out.old) (K.taken out.new) (codes "read fault\n") × (result.journal.entries ≡ []) }
-    // Only a run leaves a journal.
-    ensures no_run { result.status ≢ 0 → result.status ≢ 3 → result.status ≢ 4 → result.status ≢ 5 → result.journal.entries ≡ [] }
-    // Want of memory: nothing is written, and the journal is empty, or that of the run.
-    ensures nothing { result.status ≡ 4 → Appends (K.taken out.old) (K.taken out.new) [] }
-    ensures memory { result.status ≡ 4 → IfSome (S.left input.old) (λ bytes. LeavesRun (vec_len rack.old) (judged (form_of (map string_bytes words.now)) bytes) result.journal.entries) }
-    ensures memory_on_some { result.status ≡ 4 → LeavesOnSome (vec_len rack.old) (form_of (map string_bytes words.now)) result.journal.entries }
-    // The devices were called by the journal's steps, each by those under its select, and dropped by what it says, whatever the status.
-    ensures devices { AreToldBy (vec_len rack.old) result.journal.entries (map (λ d. line d) rack.old.items) (map (λ d. line d) rack.new.items) }
-    // Status 0 comes only where all was read, or nothing where the bench was generated.
-    ensures ended { result.status ≡ 0 → LeavesInput (form_of (map string_bytes words.now)) (S.left input.old) (S.left input.new) }
-    // A file that is not refused is run to its end and reported, where no fault is met, memory is found, the bounds of its frames are within the limit of steps and its report
-    // within the limit of bytes.
-    ensures complete { (Rose (S.faults input.old) (S.faults input.new) → ⊥) → (Rose (K.faults out.old) (K.faults out.new) → ⊥) → IfSome (S.left input.old) (λ bytes.
-        (printing : Printing) (config : records.Config) (script : List Directive) → judged (form_of (map string_bytes words.now)) bytes ≡ Runs printing config script → bound_of config script ≤ 1000000 →
-        length (report_of (vec_len rack.old) (is_traced printing) config script result.journal.entries) ≤ most_bytes → result.status ≢ 4 → result.status ≡ 0) }
-    // What is promised of a whole run: whole rounds, each for a request of its own, the standard's order, one end of each request with
-    // the result that the events say, what each frame has told, a watchdog's reset exactly where its time is over, and reads of
-    // channels, ports and groups of one moment.
-    ensures promises { IfSome (S.left input.old) (λ bytes. Keeps (vec_len rack.old) (judged (form_of (map string_bytes words.now)) bytes) result.journal.entries) }
-    // And a file that is not refused is checked.
-    ensures checks { (Rose (S.faults input.old) (S.faults input.new) → ⊥) → (Rose (K.faults out.old) (K.faults out.new) → ⊥) → IfSome (S.left input.old) (λ bytes.
-        (ending : Ending) → judged (form_of (map string_bytes words.now)) bytes ≡ Prints ending → result.status ≢ 4 → result.status ≡ ending.status) }
-    // A generated bench needs no input, whatever the source tells or does: it is run to its end, and two lines tell of it.
-    ensures generated { (seed count : ℕ) → form_of (map string_bytes words.now) ≡ Some (Form.Gen seed count) →
-        Concludes (vec_len rack.old) (Generates seed count) result.status result.journal.entries (K.taken out.old) (K.taken out.new) (K.faults out.old) (K.faults out.new) }
-    ensures generated_statuses { (seed count : ℕ) → form_of (map string_bytes words.now) ≡ Some (Form.Gen seed count) → (result.status ≢ 2) × (result.status ≢ 5) }
-    ensures generated_complete { (seed count : ℕ) → form_of (map string_bytes words.now) ≡ Some (Form.Gen seed count) → (Rose (K.faults out.old) (K.faults out.new) → ⊥) → result.status ≢ 4 → result.status ≡ 0 }
-    ensures untouched { (seed count : ℕ) → form_of (map string_bytes words.now) ≡ Some (Form.Gen seed count) → (S.left input.new ≡ S.left input.old) × (S.faults input.new ≡ S.faults input.old) }
+    // The call as it is seen from outside keeps the contract of `specs/Contract.antt`. Its groups: `known`, the statuses that
+    // there are; `exact`, where nothing failed; `usage`, `source`, `sink` and `memory`, for statuses 1 to 4; `journal` and
+    // `devices`, whatever the status; `complete`, that nothing else fails; and `generated`, for benches from a seed.
+    ensures { KeepsContract (record {
+      form = form_of (map string_bytes words.now);
+      source = stream_of S.left S.faults input.old input.new;
+      sink = stream_of K.taken K.faults out.old out.new;
+      devices = vec_len rack.old;
+      lines_before = map (λ d. line d) rack.old.items;
+      lines_after = map (λ d. line d) rack.new.items;
+      outcome = result;
+    }) }
 {
     let Some(form) = form_of(words) else {
         return print(alloc, out, 1, USAGE);

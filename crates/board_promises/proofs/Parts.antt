@@ -9,24 +9,24 @@ use Rattle.step_runner.specs.Union.{first_call}
 use Rattle.step_runner.specs.declared.either.Either.{Either}
 use Rattle.step_runner.specs.declared.either.Either.TheVariants.{Left, Right}
 use Rattle.guest_runner.specs.Guest.{Guest, guest_happens, guest_machine}
-use Rattle.dio_driver.specs.Machine.{does_by}
-use Rattle.dio_driver.specs.Table as port_table
-use Rattle.dio_driver.specs.declared.access.PortPins.{PortPins}
-use Rattle.dio_driver.specs.declared.call.Call as port_calls
-use Rattle.dio_driver.specs.declared.call.Call.TheVariants as port_call
-use Rattle.pwm_driver.specs.Table as pulse_table
+use Rattle.dio_machine.specs.Machine.{does_by}
+use Rattle.dio_machine.specs.Table as port_table
+use Rattle.dio_machine.specs.declared.table.PortPins.{PortPins}
+use Rattle.dio_machine.specs.declared.call.Call as port_calls
+use Rattle.dio_machine.specs.declared.call.Call.TheVariants as port_call
+use Rattle.pwm_machine.specs.Table as pulse_table
 use Rattle.adc_machine.specs.Machine.{adc_machine}
 use Rattle.adc_machine.specs.Table as converter_table
 use Rattle.spi_machine.specs.Machine.{spi_machine}
 use Rattle.spi_machine.specs.Table as serial_table
-use Rattle.icu_driver.specs.Machine.{moved as captured}
-use Rattle.icu_driver.specs.Machine as captures
-use Rattle.icu_driver.specs.Table as capture_table
-use Rattle.mcu_driver.specs.Machine as clocks
-use Rattle.wdg_driver.specs.Machine as watchdogs
-use Rattle.port_driver.specs.Machine as pins
-use Rattle.gpt_driver.specs.Machine as timers
-use Rattle.pwm_driver.specs.Machine as pulses
+use Rattle.icu_machine.specs.Machine.{moved as captured}
+use Rattle.icu_machine.specs.Machine as captures
+use Rattle.icu_machine.specs.Table as capture_table
+use Rattle.mcu_machine.specs.Machine as clocks
+use Rattle.wdg_machine.specs.Machine as watchdogs
+use Rattle.port_machine.specs.Machine as pins
+use Rattle.gpt_machine.specs.Machine as timers
+use Rattle.pwm_machine.specs.Machine as pulses
 use Rattle.whole_runs.specs.Members.{IsPart, IsMute, Place, first_place, own_through, second_place}
 use Rattle.whole_runs.proofs.MemberRuns.{first_part, second_part, part_within, union_mute}
 use Rattle.whole_runs.proofs.Promises.{mute_by, converter_mute, serial_mute}
@@ -58,7 +58,7 @@ module _ {S C U E D G : Type 0} (small : Machine S C) (m : Machine U E) (g : Gue
 
 module _ (c : Config) where
   -- channels and ports leave the units' states
-  ports_still : (w : World) (s : SystemState) (call : port_calls.Call) (pins : Option PortPins) → (does_by (host_pins (pulse_table.driver_of c.pwm) (wiring_of c).outputs) w s call pins).state.1.1 ≡ s.1.1
+  ports_still : (w : World) (s : SystemState) (call : port_calls.Call) (pins : Option PortPins) → (does_by (host_pins (pulse_table.table_of c.pwm) (wiring_of c).outputs) w s call pins).state.1.1 ≡ s.1.1
   ports_still w s call None = refl
   ports_still w s (port_call.ReadChannel n) (Some pins) = refl
   ports_still w s (port_call.WriteChannel n high) (Some pins) = refl
@@ -88,7 +88,7 @@ module _ (c : Config) where
   pulse_mute = record { moves = λ w s order out e. mute_by s out e; restarts = λ w s reason out e. mute_by pulses.first_state out e }
 
   capture_mute : IsMute (capture_setting c).machine
-  capture_mute = record { moves = λ w s order out e. mute_by (captured (capture_table.driver_of c.icu) w s order) out e; restarts = λ w s reason out e. mute_by captures.first_state out e }
+  capture_mute = record { moves = λ w s order out e. mute_by (captured (capture_table.table_of c.icu) w s order) out e; restarts = λ w s reason out e. mute_by captures.first_state out e }
 
   first_mute : IsMute (first_modules c).machine
   first_mute = union_mute (watched_modules c).used (watched_modules c).machine (joined (pin_setting c) (timer_setting c)).machine watched_mute (union_mute (pin_setting c).used (pin_setting c).machine (timer_setting c).machine pin_mute timer_mute)
@@ -112,7 +112,7 @@ module _ (c : Config) where
   units_part : IsPart (unit_modules c).machine (system_setting c).machine (units_place c)
   unfolding system_setting
   units_part =
-      let d = port_table.driver_of c.port c.dio in
+      let d = port_table.table_of c.port c.dio in
       host_part (unit_modules c).machine (host_setting c).machine (port_guest c) (host_units_place c)
       (part_within (unit_modules c).machine (last_modules c).machine (host_setting c).machine (second_place (edge_modules c).used (edge_modules c).machine) (second_place (first_modules c).used (first_modules c).machine)
       (second_part (edge_modules c).used (edge_modules c).machine (unit_modules c).machine edge_mute unit_mute)

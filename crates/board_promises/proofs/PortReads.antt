@@ -10,18 +10,17 @@ use Rattle.mcal_base.specs.declared.moves.Event.{Event}
 use Rattle.mcal_base.specs.declared.moves.Event.TheVariants.{Act, Serve, Abort, Start}
 use Rattle.run_model.specs.declared.item.Stepped.{Stepped}
 use Rattle.run_model.specs.Frame.{Origin, Called, Entered, Open, Brought, brought_by, happening_at, outcome_of, state_by, acted_by}
-use Rattle.run_model.specs.Machine.{Outcome}
+use Rattle.run_model.specs.Machine.{Outcome, number}
 use Rattle.run_model.specs.Moment.{Moment, Transition, Begins, Enters, Steps, Happens, Resets, after}
 use Rattle.run_model.specs.World.{World}
-use Rattle.service_outline.specs.Done.{number}
 use Rattle.step_runner.specs.declared.either.Either.TheVariants.{Left, Right}
-use Rattle.dio_driver.specs.Accesses.{level_answer, moved_down}
-use Rattle.dio_driver.specs.Machine.{does_by}
-use Rattle.dio_driver.specs.Table.{driver_of, pins_of}
-use Rattle.dio_driver.specs.declared.access.PortPins.{PortPins}
-use Rattle.dio_driver.specs.declared.call.Call.{Call}
-use Rattle.dio_driver.specs.declared.call.Call.TheVariants.{ReadChannel, WriteChannel, FlipChannel, ReadPort, WritePort, ReadChannelGroup, WriteChannelGroup}
-use Rattle.pwm_driver.specs.Table as pulse_table
+use Rattle.dio_machine.specs.Values.{level_answer, moved_down}
+use Rattle.dio_machine.specs.Machine.{does_by}
+use Rattle.dio_machine.specs.Table.{table_of, pins_of}
+use Rattle.dio_machine.specs.declared.table.PortPins.{PortPins}
+use Rattle.dio_machine.specs.declared.call.Call.{Call}
+use Rattle.dio_machine.specs.declared.call.Call.TheVariants.{ReadChannel, WriteChannel, FlipChannel, ReadPort, WritePort, ReadChannelGroup, WriteChannelGroup}
+use Rattle.pwm_machine.specs.Table as pulse_table
 use Rattle.mcal_system.specs.Setting.{SystemState, SystemCall, host_pins, system_setting}
 use Rattle.mcal_system.specs.Shows.{level_at}
 use Rattle.mcal_system.proofs.Levels.{same_level}
@@ -30,10 +29,10 @@ use Rattle.board_promises.specs.PortReads.{AnswersBy, ActReads, StepReads, DeedR
 module _ (c : Config) (v : IsValid c) where
   -- what such a call does to these states, and what it answers
   abbrev done : World → SystemState → Call → Option PortPins → Outcome SystemState
-  done w s call pins = does_by (host_pins (pulse_table.driver_of c.pwm) (wiring_of c).outputs) w s call pins
+  done w s call pins = does_by (host_pins (pulse_table.table_of c.pwm) (wiring_of c).outputs) w s call pins
 
   -- a port's value by the levels
-  value_same : (w : World) (s : SystemState) (pins : PortPins) → Some (number (moved_down pins (bits_of (λ k. (host_pins (pulse_table.driver_of c.pwm) (wiring_of c).outputs).level w s (8 * pins.port + k)) 8))) ≡ Some (number (moved_down pins (bits_of (λ k. level_at c w s (8 * pins.port + k)) 8)))
+  value_same : (w : World) (s : SystemState) (pins : PortPins) → Some (number (moved_down pins (bits_of (λ k. (host_pins (pulse_table.table_of c.pwm) (wiring_of c).outputs).level w s (8 * pins.port + k)) 8))) ≡ Some (number (moved_down pins (bits_of (λ k. level_at c w s (8 * pins.port + k)) 8)))
   value_same w s pins = ap (λ (f : ℕ → Bool). Some (number (moved_down pins (bits_of f 8)))) (fun_ext (λ k. same_level c v.pwm w s (8 * pins.port + k)))
 
   by_levels : (w : World) (s : SystemState) (call : Call) (pins : Option PortPins) → AnswersBy call pins (λ p. level_at c w s p) (λ p. level_at c w (done w s call pins).state p) (Some (done w s call pins).told.answer)
@@ -49,7 +48,7 @@ module _ (c : Config) (v : IsValid c) where
   -- an act by what it brings; nothing else reads
   act_reads : (m : Moment SystemState SystemCall) (b : Brought) (before : Option Answer) (origin : Origin SystemCall) (event : Option Event) → let out = outcome_of (system_setting c).machine m.world m.state (happening_at origin b event) in ActReads c m origin event (state_by m.state out) (acted_by before event out)
   unfolding system_setting
-  act_reads m b before (Called (Right call)) (Some Act) = by_levels m.world m.state call (pins_of (driver_of c.port c.dio) call)
+  act_reads m b before (Called (Right call)) (Some Act) = by_levels m.world m.state call (pins_of (table_of c.port c.dio) call)
   act_reads m b before (Called (Right call)) (Some (Serve l)) = tt
   act_reads m b before (Called (Right call)) (Some (Abort u)) = tt
   act_reads m b before (Called (Right call)) (Some (Start u)) = tt

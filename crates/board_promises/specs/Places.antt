@@ -6,18 +6,18 @@ use Rattle.run_model.specs.Moment.{Setting}
 use Rattle.step_runner.specs.Union.{first_call}
 use Rattle.step_runner.specs.declared.either.Either.{Either}
 use Rattle.step_runner.specs.declared.either.Either.TheVariants.{Left, Right}
-use Rattle.mcu_driver.specs.Machine.{McuState}
-use Rattle.mcu_driver.specs.declared.call.Call as clocks
-use Rattle.wdg_driver.specs.Machine.{WdgState}
-use Rattle.wdg_driver.specs.declared.call.Call as watchdogs
-use Rattle.port_driver.specs.Machine.{PortState}
-use Rattle.port_driver.specs.declared.call.Call as pins
-use Rattle.gpt_driver.specs.Machine.{GptState}
-use Rattle.gpt_driver.specs.declared.call.Call as timers
-use Rattle.pwm_driver.specs.Machine.{PwmState}
-use Rattle.pwm_driver.specs.declared.call.Call as pulses
-use Rattle.icu_driver.specs.Machine.{IcuState}
-use Rattle.icu_driver.specs.declared.call.Call as captures
+use Rattle.mcu_machine.specs.Machine.{McuState}
+use Rattle.mcu_machine.specs.declared.call.Call as clocks
+use Rattle.wdg_machine.specs.Machine.{WdgState}
+use Rattle.wdg_machine.specs.declared.call.Call as watchdogs
+use Rattle.port_machine.specs.Machine.{PortState}
+use Rattle.port_machine.specs.declared.call.Call as pins
+use Rattle.gpt_machine.specs.Machine.{GptState}
+use Rattle.gpt_machine.specs.declared.call.Call as timers
+use Rattle.pwm_machine.specs.Machine.{PwmState}
+use Rattle.pwm_machine.specs.declared.call.Call as pulses
+use Rattle.icu_machine.specs.Machine.{IcuState}
+use Rattle.icu_machine.specs.declared.call.Call as captures
 use Rattle.adc_machine.specs.Turns.{AdcState}
 use Rattle.adc_machine.specs.declared.call.Call as converter
 use Rattle.spi_machine.specs.State.{SpiState}

@@ -8,13 +8,13 @@ use Rattle.mcal_base.specs.declared.moves.Event.TheVariants.{Act}
 use Rattle.run_model.specs.declared.item.Stepped.{Stepped}
 use Rattle.run_model.specs.Frame.{Origin, Called, Open, open_after, state_after}
 use Rattle.run_model.specs.Moment.{Moment, Transition, Steps, after}
-use Rattle.service_outline.specs.Done.{number}
+use Rattle.run_model.specs.Machine.{number}
 use Rattle.step_runner.specs.declared.either.Either.TheVariants.{Right}
-use Rattle.dio_driver.specs.Accesses.{level_answer, moved_down}
-use Rattle.dio_driver.specs.Table.{driver_of, pins_of}
-use Rattle.dio_driver.specs.declared.access.PortPins.{PortPins}
-use Rattle.dio_driver.specs.declared.call.Call.{Call}
-use Rattle.dio_driver.specs.declared.call.Call.TheVariants.{ReadChannel, FlipChannel, ReadPort, ReadChannelGroup}
+use Rattle.dio_machine.specs.Values.{level_answer, moved_down}
+use Rattle.dio_machine.specs.Table.{table_of, pins_of}
+use Rattle.dio_machine.specs.declared.table.PortPins.{PortPins}
+use Rattle.dio_machine.specs.declared.call.Call.{Call}
+use Rattle.dio_machine.specs.declared.call.Call.TheVariants.{ReadChannel, FlipChannel, ReadPort, ReadChannelGroup}
 use Rattle.mcal_system.specs.Setting.{SystemState, SystemCall, system_setting}
 use Rattle.mcal_system.specs.Shows.{level_at}
 
@@ -42,7 +42,7 @@ AnswersBy call (Some pins) before after acted = Answers (read_by call pins befor
 
 -- an act of such a call, of this answer, is by the levels of all pins in this world: in the state before it, and after it
 abbrev pub ActReads : Config → Moment SystemState SystemCall → Origin SystemCall → Option Event → (later : SystemState) → (acted : Option Answer) → Type 0
-ActReads c m (Called (Right call)) (Some Act) later acted = AnswersBy call (pins_of (driver_of c.port c.dio) call) (λ p. level_at c m.world m.state p) (λ p. level_at c m.world later p) acted
+ActReads c m (Called (Right call)) (Some Act) later acted = AnswersBy call (pins_of (table_of c.port c.dio) call) (λ p. level_at c m.world m.state p) (λ p. level_at c m.world later p) acted
 ActReads c m origin event later acted = Unit {0}
 
 -- a step of the top frame

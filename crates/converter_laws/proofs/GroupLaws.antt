@@ -13,9 +13,8 @@ use Rattle.mcal_base.specs.declared.error_name.ErrorName.TheVariants.{AdcBusy}
 use Rattle.mcal_base.specs.declared.moves.Unit as units
 use Rattle.mcal_base.specs.declared.service.Service.TheVariants as services
 use Rattle.det_errors.specs.Rows.{first_error}
-use Rattle.run_model.specs.Machine.{Happening, Acts, Serves, Starts, Aborts, Moves, Restarts, Outcome, tells_nothing, outcome}
+use Rattle.run_model.specs.Machine.{Happening, Acts, Serves, Starts, Aborts, Moves, Restarts, Outcome, tells_nothing, outcome, numbers}
 use Rattle.run_model.specs.World.{World}
-use Rattle.service_outline.specs.Done.{numbers}
 use Rattle.adc_machine.proofs.Cleared.{init_clears}
 use Rattle.adc_machine.proofs.Next.{listed}
 use Rattle.adc_machine.proofs.Parts.{group_same}

@@ -4,8 +4,8 @@ use Rattle.std.specs.Prelude.{All, if◌then◌else◌, slice_index_or}
 use Rattle.mcal_base.specs.declared.config.dio.DioChannelGroup.{DioChannelGroup}
 use Rattle.mcal_base.specs.declared.config.dio.DioConfig.{DioConfig}
 use Rattle.mcal_base.specs.declared.config.port.PortConfig.{PortConfig}
-use Rattle.dio_driver.specs.Table.{taken, group_in, driver_of, FitsDio}
-use Rattle.dio_driver.specs.declared.access.PortPins.{PortPins}
+use Rattle.dio_machine.specs.Table.{taken, group_in, table_of, FitsDio}
+use Rattle.dio_machine.specs.declared.table.PortPins.{PortPins}
 
 -- the group's port is one of the chip's
 abbrev pub IsSoundGroup : DioChannelGroup → Type 0
@@ -23,7 +23,7 @@ found (x ∷ xs) n pins sound e = by (x.id == n) (found xs n pins (λ i y lt. so
     by false more f = more f
 
 -- one of eight is one of the list
-at_place : (p : PortConfig) (g : DioConfig) (n : ℕ) (pins : PortPins) → All IsSoundGroup g.groups → n < 8 → slice_index_or (driver_of p g).groups n None ≡ Some pins → pins.port < 8
+at_place : (p : PortConfig) (g : DioConfig) (n : ℕ) (pins : PortPins) → All IsSoundGroup g.groups → n < 8 → slice_index_or (table_of p g).groups n None ≡ Some pins → pins.port < 8
 at_place p g zero pins sound lt e = found g.groups 0 pins sound e
 at_place p g (suc zero) pins sound lt e = found g.groups 1 pins sound e
 at_place p g (suc (suc zero)) pins sound lt e = found g.groups 2 pins sound e
@@ -35,5 +35,5 @@ at_place p g (suc (suc (suc (suc (suc (suc (suc zero))))))) pins sound lt e = fo
 at_place p g (suc (suc (suc (suc (suc (suc (suc (suc n)))))))) pins sound lt e = absurd (omega (arith, lt))
 
 -- the driver of a configuration whose groups are sound
-pub fits_of : (p : PortConfig) (g : DioConfig) → All IsSoundGroup g.groups → FitsDio (driver_of p g)
+pub fits_of : (p : PortConfig) (g : DioConfig) → All IsSoundGroup g.groups → FitsDio (table_of p g)
 fits_of p g sound = record { port = λ n pins lt e. at_place p g n pins sound lt e }

@@ -10,29 +10,29 @@ use Rattle.mcal_base.specs.declared.routine.Taken.{Taken}
 use Rattle.run_model.specs.declared.class.Tag.{Tag}
 use Rattle.run_model.specs.Frame.{Called, Open, opened, report_as}
 use Rattle.dio_driver.specs.Accesses.{access_of, answer_by, move_of}
-use Rattle.dio_driver.specs.Checks.{answer_refused, error_of, reporting, service_of}
-use Rattle.dio_driver.specs.Table.{pins_of}
-use Rattle.dio_driver.specs.declared.access.PortPins.{PortPins}
-use Rattle.dio_driver.specs.declared.call.Call.{Call}
-use Rattle.dio_driver.specs.declared.driver.DioDriver.{DioDriver}
+use Rattle.dio_machine.specs.Checks.{answer_refused, error_of, reporting, service_of}
+use Rattle.dio_machine.specs.Table.{pins_of}
+use Rattle.dio_machine.specs.declared.table.PortPins.{PortPins}
+use Rattle.dio_machine.specs.declared.call.Call.{Call}
+use Rattle.dio_machine.specs.declared.table.DioTable.{DioTable}
 use Rattle.dio_driver.specs.declared.frame.DioFrame.{DioFrame}
 use Rattle.dio_driver.specs.declared.frame.DioFrame.TheVariants.{Access, Refused, Telling}
 use Rattle.dio_driver.specs.declared.frame.TheConstants.{NOWHERE}
 
 -- what is reported of a call whose channel, port or group isn't configured
-abbrev pub report_by : DioDriver → Call → Option ErrorName → Option DevError
+abbrev pub report_by : DioTable → Call → Option ErrorName → Option DevError
 report_by d call None = None
 report_by d call (Some e) = report_as (service_of call) e (reported (reporting d) e)
 
-abbrev pub report_of : DioDriver → Call → Option DevError
+abbrev pub report_of : DioTable → Call → Option DevError
 report_of d call = report_by d call (error_of call)
 
 -- the frame of a call that begins
-abbrev pub frame_by : DioDriver → Call → Option PortPins → DioFrame
+abbrev pub frame_by : DioTable → Call → Option PortPins → DioFrame
 frame_by d call None = Refused call (report_of d call)
 frame_by d call (Some pins) = Access (access_of call pins)
 
-abbrev pub frame_of : DioDriver → Call → DioFrame
+abbrev pub frame_of : DioTable → Call → DioFrame
 frame_of d call = frame_by d call (pins_of d call)
 
 -- ---- its steps
@@ -61,7 +61,7 @@ dio_fuel (Refused c report) = 2
 dio_fuel (Telling c e) = 1
 
 -- before its first step a frame has done nothing, and after it it has an error to report
-pub data DioStands (d : DioDriver) : DioFrame → Open Call → Type 0 where
+pub data DioStands (d : DioTable) : DioFrame → Open Call → Type 0 where
   Known : (c : Call) (pins : PortPins) (tag : Tag) → pins_of d c ≡ Some pins → DioStands d (Access (access_of c pins)) (opened (Called c) tag)
   Unknown : (c : Call) (report : Option DevError) (tag : Tag) → pins_of d c ≡ None → report_of d c ≡ report → DioStands d (Refused c report) (opened (Called c) tag)
   Told : (c : Call) (e : DevError) (o : Open Call) → DioStands d (Telling c e) (record o { origin = Called c; acted = Some (answer_refused c); polled = []; wrote = false; owed = []; report = Some e; inside = false })

@@ -8,12 +8,12 @@ use Rattle.mcal_base.specs.declared.moves.Move.TheVariants.{Read, Write, Load}
 use Rattle.mcal_base.specs.declared.register.Reg.TheVariants.{PortLevels, PortPut, PinFlip}
 use Rattle.run_model.specs.World.{World}
 use Rattle.guest_runner.specs.Guest.{Guest}
-use Rattle.dio_driver.specs.Checks.{reporting, service_of}
+use Rattle.dio_machine.specs.Checks.{reporting, service_of}
 use Rattle.dio_driver.specs.Frames.{DioStands, dio_fuel, frame_of}
-use Rattle.dio_driver.specs.Machine.{HostPins, does}
-use Rattle.dio_driver.specs.Table.{FitsDio}
-use Rattle.dio_driver.specs.declared.call.Call.{Call}
-use Rattle.dio_driver.specs.declared.driver.DioDriver.{DioDriver}
+use Rattle.dio_machine.specs.Machine.{HostPins, does}
+use Rattle.dio_machine.specs.Table.{FitsDio}
+use Rattle.dio_machine.specs.declared.call.Call.{Call}
+use Rattle.dio_machine.specs.declared.table.DioTable.{DioTable}
 use Rattle.dio_driver.specs.declared.frame.DioFrame.{DioFrame}
 use Rattle.dio_driver.specs.declared.frame.TheConstants.{NOWHERE}
 
@@ -37,7 +37,7 @@ pub record SeesPins {State : Type 0} (h : HostPins State) (chip : Chip) (w : Wor
   pub flips : (p : ℕ) → p < 64 → pin_of (flipped chip p) p ≡ h.level w (h.flip p s) p
 
 -- the guest of a host with such pins, on a chip that is wired so
-abbrev pub dio : {State : Type 0} → DioDriver → HostPins State → (wired : Wiring → Type 0) → Guest State Call DioFrame
+abbrev pub dio : {State : Type 0} → DioTable → HostPins State → (wired : Wiring → Type 0) → Guest State Call DioFrame
 dio d h wired = record {
   fits = FitsDio d;
   can_call = λ c. Unit {0};

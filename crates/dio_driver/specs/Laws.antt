@@ -18,25 +18,25 @@ use Rattle.chip_model.specs.declared.wiring.Wiring.{Wiring}
 use Rattle.run_model.specs.declared.class.Tag.{Tag}
 use Rattle.run_model.specs.Frame.{ActedAt, Open, Called, opened, acts_after, committed_after, missed_after, owing, reads_after, since_after, window_after, is_reset_service, is_shared, report_of as reported_of}
 use Rattle.run_model.specs.Legal.{SendsRight, WritesNothing, ErrorsRight, MadeUnless, HasMade, is_beside}
-use Rattle.run_model.specs.Machine.{ErrorLeaves, Outcome, no_answer}
+use Rattle.run_model.specs.Machine.{ErrorLeaves, Outcome, no_answer, number}
 use Rattle.run_model.specs.Moment.{call_tag}
 use Rattle.run_model.specs.World.{World}
 use Rattle.step_runner.specs.Driver.{KeepsStep, stepped}
-use Rattle.service_outline.specs.Done.{number}
 use Rattle.service_outline.specs.laws.StepKinds.{or_true}
 use Rattle.guest_runner.specs.Guest.{lone_machine, lone_setting, lone_driver, StandsOn, IsGuest}
-use Rattle.dio_driver.specs.Accesses.{access_of, level_answer, move_of, moved_down, word_of, moved_up}
-use Rattle.dio_driver.specs.Checks.{error_of, service_of}
+use Rattle.dio_machine.specs.Values.{level_answer, moved_down, word_of, moved_up}
+use Rattle.dio_driver.specs.Accesses.{access_of, move_of}
+use Rattle.dio_machine.specs.Checks.{error_of, service_of}
 use Rattle.dio_driver.specs.Frames.{report_by, report_of, frame_of, frame_by, dio_move, dio_left, dio_gave, dio_fuel, DioStands, Known, Unknown, Told}
 use Rattle.dio_driver.specs.Guest.{dio_may, state_after, SeesPins, dio}
-use Rattle.dio_driver.specs.Machine.{HostPins, port_value, tells_value, puts_value, work, does, does_by}
-use Rattle.dio_driver.specs.Table.{has_pin, channel_pins, channel_of, some_pins, configured, those_configured, pins_of, FitsDio}
+use Rattle.dio_machine.specs.Machine.{HostPins, port_value, tells_value, puts_value, work, does, does_by}
+use Rattle.dio_machine.specs.Table.{has_pin, channel_pins, channel_of, some_pins, configured, those_configured, pins_of, FitsDio}
 use Rattle.dio_driver.specs.declared.access.Access.{Access}
 use Rattle.dio_driver.specs.declared.access.Access.TheVariants.{Level, Flip, Levels, Put}
-use Rattle.dio_driver.specs.declared.access.PortPins.{PortPins}
-use Rattle.dio_driver.specs.declared.call.Call.{Call}
-use Rattle.dio_driver.specs.declared.call.Call.TheVariants.{ReadChannel, WriteChannel, FlipChannel, ReadPort, WritePort, ReadChannelGroup, WriteChannelGroup}
-use Rattle.dio_driver.specs.declared.driver.DioDriver.{DioDriver}
+use Rattle.dio_machine.specs.declared.table.PortPins.{PortPins}
+use Rattle.dio_machine.specs.declared.call.Call.{Call}
+use Rattle.dio_machine.specs.declared.call.Call.TheVariants.{ReadChannel, WriteChannel, FlipChannel, ReadPort, WritePort, ReadChannelGroup, WriteChannelGroup}
+use Rattle.dio_machine.specs.declared.table.DioTable.{DioTable}
 use Rattle.dio_driver.specs.declared.frame.DioFrame.{DioFrame}
 use Rattle.dio_driver.specs.declared.frame.DioFrame.TheVariants.{Refused, Telling}
 use Rattle.dio_driver.specs.declared.frame.DioFrame.TheVariants as frames
@@ -44,41 +44,41 @@ use Rattle.dio_driver.specs.declared.frame.TheConstants.{NOWHERE}
 
 -- ---- what is configured is there
 
-pin_few : (d : DioDriver) (p : ℕ) (pins : PortPins) (q : Bool) → has_pin d p ≡ q → (if q then Some (channel_pins p) else None) ≡ Some pins → (p < 64) × (channel_pins p ≡ pins)
+pin_few : (d : DioTable) (p : ℕ) (pins : PortPins) (q : Bool) → has_pin d p ≡ q → (if q then Some (channel_pins p) else None) ≡ Some pins → (p < 64) × (channel_pins p ≡ pins)
 pin_few d p pins true e is =
     let low = and_first (nat_lt p 64) _ e in
     (grind (arith, nat_tests), cc)
 pin_few d p pins false e is = absurd (cc)
 
-channel_few : (d : DioDriver) (p : ℕ) (pins : PortPins) → channel_of d p ≡ Some pins → (p < 64) × (channel_pins p ≡ pins)
+channel_few : (d : DioTable) (p : ℕ) (pins : PortPins) → channel_of d p ≡ Some pins → (p < 64) × (channel_pins p ≡ pins)
 channel_few d p pins is = pin_few d p pins (has_pin d p) refl is
 
 mask_by : (q mask : ℕ) (pins : PortPins) (none : Bool) → (if none then None else Some (record { port = q; mask = mask; offset = 0 })) ≡ Some pins → pins.port ≡ q
 mask_by q mask pins true is = absurd (cc)
 mask_by q mask pins false is = let at : record { port = q; mask = mask; offset = 0 } ≡ pins = cc in sym (ap (λ (x : PortPins). x.port) at)
 
-port_few : (d : DioDriver) (q : ℕ) (pins : PortPins) (low : Bool) → nat_lt q 8 ≡ low → (if low then some_pins q (configured d q) else None) ≡ Some pins → pins.port < 8
+port_few : (d : DioTable) (q : ℕ) (pins : PortPins) (low : Bool) → nat_lt q 8 ≡ low → (if low then some_pins q (configured d q) else None) ≡ Some pins → pins.port < 8
 port_few d q pins true e is = let lt : q < 8 = grind (arith, nat_tests) in subst (λ n. n < 8) (sym (mask_by q (configured d q) pins (configured d q == 0) is)) lt
 port_few d q pins false e is = absurd (cc)
 
-channel_port : (d : DioDriver) (p : ℕ) (pins : PortPins) → channel_of d p ≡ Some pins → pins.port < 8
+channel_port : (d : DioTable) (p : ℕ) (pins : PortPins) → channel_of d p ≡ Some pins → pins.port < 8
 channel_port d p pins is =
     let k = channel_few d p pins is in
     let lt = k.0 in
     subst (λ (x : PortPins). x.port < 8) k.1 (omega (arith, lt))
 
 -- the configured pins of a group are of the group's port
-those_few : (d : DioDriver) (x : Option PortPins) (pins : PortPins) → ((k : PortPins) → x ≡ Some k → k.port < 8) → those_configured d x ≡ Some pins → pins.port < 8
+those_few : (d : DioTable) (x : Option PortPins) (pins : PortPins) → ((k : PortPins) → x ≡ Some k → k.port < 8) → those_configured d x ≡ Some pins → pins.port < 8
 those_few d None pins few is = absurd (cc)
 those_few d (Some k) pins few is =
     let at : record { port = k.port; mask = bit_and k.mask (configured d k.port); offset = k.offset } ≡ pins = cc in
     subst (λ (x : PortPins). x.port < 8) at (few k refl)
 
-group_few : (d : DioDriver) → FitsDio d → (g : ℕ) (pins : PortPins) (low : Bool) → nat_lt g 8 ≡ low → (if low then those_configured d (slice_index_or d.groups g None) else None) ≡ Some pins → pins.port < 8
+group_few : (d : DioTable) → FitsDio d → (g : ℕ) (pins : PortPins) (low : Bool) → nat_lt g 8 ≡ low → (if low then those_configured d (slice_index_or d.groups g None) else None) ≡ Some pins → pins.port < 8
 group_few d fits g pins true e is = those_few d (slice_index_or d.groups g None) pins (λ k on. fits.port g k (grind (arith, nat_tests)) on) is
 group_few d fits g pins false e is = absurd (cc)
 
-ports_few : (d : DioDriver) → FitsDio d → (c : Call) (pins : PortPins) → pins_of d c ≡ Some pins → pins.port < 8
+ports_few : (d : DioTable) → FitsDio d → (c : Call) (pins : PortPins) → pins_of d c ≡ Some pins → pins.port < 8
 ports_few d fits (ReadChannel p) pins is = channel_port d p pins is
 ports_few d fits (WriteChannel p high) pins is = channel_port d p pins is
 ports_few d fits (FlipChannel p) pins is = channel_port d p pins is
@@ -156,7 +156,7 @@ errors_right (Some at) = by at.error
     by None = tt
     by (Some e) = refl
 
-module _ {State : Type 0} (d : DioDriver) (h : HostPins State) (wired : Wiring → Type 0) (fits : FitsDio d) where
+module _ {State : Type 0} (d : DioTable) (h : HostPins State) (wired : Wiring → Type 0) (fits : FitsDio d) where
   owes_none : (s : State) (c : Call) (writes : List Move) (at : Option ActedAt) → HasMade (lone_setting (dio d h wired) s) (Called c) writes at
   owes_none s c writes None = tt
   owes_none s c writes (Some at) = by at.error

@@ -1,9 +1,5 @@
 pub mod Accesses
-pub mod Checks
 pub mod Fits
 pub mod Frames
 pub mod Guest
 pub mod Laws
-pub mod Machine
-pub mod Requests
-pub mod Table

@@ -1,20 +1,10 @@
 ghost use Rattle.std.specs.Prelude.{◌≡◌, ◌<◌, ◌≤◌};
+ghost use Rattle.dio_machine.specs.Values as values;
 ghost use Rattle.dio_driver.specs.Accesses as spec;
 
-use crate::call::Call;
+use dio_machine::{Call, PortPins};
 use mcal_base::{AnswerName, Move, Reg};
 use service_outline::{Reply, named, nothing, number};
-
-/// Some pins of a port. Port q has the pins 8q to 8q + 7, the first one in bit 0 of its values.
-#[derive(Clone, Copy)]
-pub struct PortPins {
-    /// The port, 0 to 7.
-    pub port: u8,
-    /// A one for each of the pins.
-    pub mask: u8,
-    /// The place in the port of the lowest of them, 0 to 7: the first bit of a value that is read or written.
-    pub offset: u8,
-}
 
 /// The one access of a call without an error, at which it acts and ends.
 #[derive(Clone, Copy)]
@@ -75,7 +65,7 @@ impl Access {
 
 /// What the bit of the first of these pins counts in their port.
 fn weight(pins: PortPins) -> u32
-    ensures is { result ≡ spec.weight pins }
+    ensures is { result ≡ values.weight pins }
     ensures few { 0 < result }
     ensures most { result ≤ 128 }
 {
@@ -84,7 +74,7 @@ fn weight(pins: PortPins) -> u32
 
 /// A value as levels of the pins' port: its lowest eight bits moved up, of which those of the pins stay.
 fn moved_up(pins: PortPins, value: u32) -> u8
-    ensures { result ≡ spec.moved_up pins value }
+    ensures { result ≡ values.moved_up pins value }
 {
     let moved = (value % 256) * weight(pins);
     (moved & (pins.mask as u32)) as u8
@@ -92,7 +82,7 @@ fn moved_up(pins: PortPins, value: u32) -> u8
 
 /// The pins' value in their port's: their bits alone, moved down.
 fn moved_down(pins: PortPins, port: u32) -> u32
-    ensures { result ≡ spec.moved_down pins port }
+    ensures { result ≡ values.moved_down pins port }
 {
     (port & (pins.mask as u32)) / weight(pins)
 }
@@ -100,14 +90,14 @@ fn moved_down(pins: PortPins, port: u32) -> u32
 /// Whether a bit of a port's value is set.
 fn stands_high(port: u32, place: u32) -> bool
     requires { place < 8 }
-    ensures { result ≡ spec.stands_high port place }
+    ensures { result ≡ values.stands_high port place }
 {
     (port >> place) % 2 == 1
 }
 
 /// The answer that is a level.
 fn level(high: bool) -> Reply
-    ensures { result ≡ spec.level_answer high }
+    ensures { result ≡ values.level_answer high }
 {
     if high {
         named(AnswerName::StdHigh)

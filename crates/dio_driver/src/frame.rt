@@ -1,8 +1,10 @@
 ghost use Rattle.std.specs.Prelude.{◌≡◌};
+ghost use Rattle.dio_machine.specs.Checks.{answer_refused};
 
 use crate::access::Access;
-use crate::call::Call;
-use mcal_base::{Answer, DevError, Event, Move, Routine, Taken};
+use dio_machine::Call;
+use mcal_base::{Answer, AnswerName, DevError, Event, Move, Routine, Taken};
+use service_outline::{Reply, named, nothing, number};
 
 /// The driver word that a call with an error loads, to act. It is never stored.
 pub const NOWHERE: u32 = 57_344;
@@ -48,7 +50,7 @@ impl Routine for DioFrame {
                 Some(Event::Act)
             }
             DioFrame::Refused(call, None) => {
-                call.refused().write(ended);
+                refused(call).write(ended);
                 Some(Event::Act)
             }
             DioFrame::Refused(call, Some(error)) => {
@@ -56,9 +58,20 @@ impl Routine for DioFrame {
                 Some(Event::Act)
             }
             DioFrame::Telling(call, _) => {
-                call.refused().write(ended);
+                refused(call).write(ended);
                 None
             }
         }
+    }
+}
+
+/// The answer of a call with an error.
+fn refused(call: Call) -> Reply
+    ensures { result ≡ answer_refused call }
+{
+    match call {
+        Call::ReadChannel(_) | Call::FlipChannel(_) => named(AnswerName::StdLow),
+        Call::ReadPort(_) | Call::ReadChannelGroup(_) => number(0),
+        Call::WriteChannel(..) | Call::WritePort(..) | Call::WriteChannelGroup(..) => nothing(),
     }
 }

@@ -6,13 +6,9 @@
 #![tactic(auto)]
 
 mod access;
-mod call;
 mod driver;
 mod frame;
-mod request;
 
-pub use access::{Access, PortPins};
-pub use call::Call;
+pub use access::Access;
 pub use driver::{DioDriver, MOST_STEPS};
 pub use frame::{DioFrame, NOWHERE};
-pub use request::call_of;

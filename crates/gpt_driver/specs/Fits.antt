@@ -3,10 +3,9 @@ use Rattle.std.proofs.Common.{◌≡◌, ℕ, suc, ◌<◌, ◌^◌, Bool, true,
 use Rattle.std.specs.Prelude.{All, if◌then◌else◌, is_some}
 use Rattle.mcal_base.specs.declared.config.gpt.GptChannel.{GptChannel}
 use Rattle.mcal_base.specs.declared.config.gpt.GptConfig.{GptConfig}
-use Rattle.gpt_driver.specs.laws.RefinementRight.{within}
-use Rattle.gpt_driver.specs.laws.Parts.{by_eight}
-use Rattle.gpt_driver.specs.Table.{channel_in, driver_of, channel_of, taken, FitsGpt}
-use Rattle.gpt_driver.specs.declared.driver.Channel.{Channel}
+use Rattle.gpt_machine.specs.laws.Channels.{by_eight, within}
+use Rattle.gpt_machine.specs.Table.{channel_in, table_of, channel_of, taken, FitsGpt}
+use Rattle.gpt_machine.specs.declared.table.Channel.{Channel}
 
 -- the channel counts, and its values fit a register
 pub record IsSound (x : GptChannel) : Type 0 where
@@ -30,16 +29,16 @@ found [] c k sound e = absurd (cc)
 found (x ∷ xs) c k sound e = found_by x xs c k (x.id == c) (sound 0 x (omega arith)) (λ f. found xs c k (λ i y lt. sound (suc i) y (omega arith)) f) e
 
 -- a channel of the driver is one that was found
-in_table : (g : GptConfig) (k : Channel) (c : ℕ) → c < 8 → channel_of (driver_of g) c ≡ Some k → channel_in g.channels c ≡ Some k
-in_table g k = by_eight (λ c. channel_of (driver_of g) c ≡ Some k → channel_in g.channels c ≡ Some k) (λ e. e) (λ e. e) (λ e. e) (λ e. e) (λ e. e) (λ e. e) (λ e. e) (λ e. e)
+in_table : (g : GptConfig) (k : Channel) (c : ℕ) → c < 8 → channel_of (table_of g) c ≡ Some k → channel_in g.channels c ≡ Some k
+in_table g k = by_eight (λ c. channel_of (table_of g) c ≡ Some k → channel_in g.channels c ≡ Some k) (λ e. e) (λ e. e) (λ e. e) (λ e. e) (λ e. e) (λ e. e) (λ e. e) (λ e. e)
 
-table_of : (g : GptConfig) (c : ℕ) (k : Channel) → channel_of (driver_of g) c ≡ Some k → channel_in g.channels c ≡ Some k
-table_of g c k e = in_table g k c (within (driver_of g) c (ap (λ x. is_some x) e)) e
+kept : (g : GptConfig) (c : ℕ) (k : Channel) → channel_of (table_of g) c ≡ Some k → channel_in g.channels c ≡ Some k
+kept g c k e = in_table g k c (within (table_of g) c (ap (λ x. is_some x) e)) e
 
 -- the driver of a configuration with sound channels
-pub fits_of : (g : GptConfig) → All IsSound g.channels → FitsGpt (driver_of g)
+pub fits_of : (g : GptConfig) → All IsSound g.channels → FitsGpt (table_of g)
 fits_of g sound = record {
-  number = λ c k e. (found g.channels c k sound (table_of g c k e)).number;
-  prescaler = λ c k e. (found g.channels c k sound (table_of g c k e)).prescaler;
-  small = λ c k e. (found g.channels c k sound (table_of g c k e)).small;
+  number = λ c k e. (found g.channels c k sound (kept g c k e)).number;
+  prescaler = λ c k e. (found g.channels c k sound (kept g c k e)).prescaler;
+  small = λ c k e. (found g.channels c k sound (kept g c k e)).small;
 }

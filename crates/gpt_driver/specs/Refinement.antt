@@ -11,31 +11,24 @@ use Rattle.mcal_base.specs.declared.moves.Move.{Move}
 use Rattle.mcal_base.specs.declared.moves.Move.TheVariants.{Read, Write, Load, Store}
 use Rattle.mcal_base.specs.declared.register.Reg.{Reg}
 use Rattle.mcal_base.specs.declared.register.Reg.TheVariants.{EnableSet, EnableClear, TimerTarget, TimerPrescaler, TimerOneShot, TimerGateSet, TimerGateClear, TimerRun, TimerFlags, TimerZero, TimerLow, TimerHigh}
-use Rattle.run_model.specs.declared.class.Class.{Class}
-use Rattle.run_model.specs.declared.class.Kind.TheVariants.{Exclusive, Keyed}
-use Rattle.run_model.specs.declared.class.KeyKind.TheVariants as keys
 use Rattle.run_model.specs.World.{World}
 use Rattle.run_model.specs.Frame.{Origin, Called}
 use Rattle.run_model.specs.Outside.{StandsIn}
 use Rattle.run_model.specs.Moment.{Halves, Setting}
 use Rattle.service_outline.specs.Outline.{Refinement}
 use Rattle.service_outline.specs.There.{names_there}
-use Rattle.gpt_driver.specs.Machine.{Course, Never, Running, Stopped, Timing, Mode, Off, Normal, Sleep, is_off, GptState, channel_at, first_state, untouched, prescaler_of, target_of, gpt_machine}
-use Rattle.gpt_driver.specs.Table.{channel_of, one_shot_of}
+use Rattle.gpt_machine.specs.Machine.{Course, Never, Running, Stopped, Timing, Mode, Off, Normal, Sleep, is_off, GptState, channel_at, first_state, untouched, prescaler_of, target_of, gpt_machine}
+use Rattle.gpt_machine.specs.Table.{channel_of, one_shot_of}
+use Rattle.gpt_machine.specs.Classes.{class_of}
 use Rattle.gpt_driver.specs.Words.{target_word, switches_word, word_of as packed}
-use Rattle.gpt_driver.specs.declared.call.Call.{Call}
-use Rattle.gpt_driver.specs.declared.call.Call.TheVariants.{Init, DeInit, Channel}
-use Rattle.gpt_driver.specs.declared.call.ChannelCall.TheVariants.{GetTimeElapsed, GetTimeRemaining}
-use Rattle.gpt_driver.specs.declared.driver.Channel as configured
-use Rattle.gpt_driver.specs.declared.driver.GptDriver.{GptDriver}
+use Rattle.gpt_machine.specs.declared.call.Call.{Call}
+use Rattle.gpt_machine.specs.declared.call.Call.TheVariants.{Init, DeInit, Channel}
+use Rattle.gpt_machine.specs.declared.call.ChannelCall.TheVariants.{GetTimeElapsed, GetTimeRemaining}
+use Rattle.gpt_machine.specs.declared.table.Channel as configured
+use Rattle.gpt_machine.specs.declared.table.GptTable.{GptTable}
 use Rattle.gpt_driver.specs.declared.words.TheConstants.{STATE}
 
 -- ---- the setting
-
--- the class of a call: one about a channel has that channel as its key; any other begins only where no frame of the module is under way, and no call of the module begins over it
-abbrev pub class_of : Call → Class
-class_of (Channel c call) = record { kind = Keyed; «module» = Gpt; key = Some (record { kind = keys.Channel; number = c }) }
-class_of _ = record { kind = Exclusive; «module» = Gpt; key = None }
 
 -- the level of a channel's line
 abbrev pub level_by : Option configured.Channel → ℕ
@@ -103,23 +96,23 @@ halves (Channel c GetTimeRemaining) = Some (record { low = TimerLow c; high = Ti
 halves _ = None
 
 -- the number of configured channels
-abbrev pub counted : GptDriver → ℕ → ℕ
+abbrev pub counted : GptTable → ℕ → ℕ
 counted d c = bit_of (is_some (channel_of d c))
 
-abbrev pub channel_count : GptDriver → ℕ
+abbrev pub channel_count : GptTable → ℕ
 channel_count d = counted d 0 + counted d 1 + counted d 2 + counted d 3 + counted d 4 + counted d 5 + counted d 6 + counted d 7
 
 -- the most steps of a frame: of a call about the whole module 48 more for each configured channel
-abbrev pub whole_steps : GptDriver → ℕ
+abbrev pub whole_steps : GptTable → ℕ
 whole_steps d = 64 + 48 * channel_count d
 
-abbrev pub gpt_steps : GptDriver → Origin Call → ℕ
+abbrev pub gpt_steps : GptTable → Origin Call → ℕ
 gpt_steps d (Called Init) = whole_steps d
 gpt_steps d (Called DeInit) = whole_steps d
 gpt_steps d _ = 64
 
 -- what a run of the driver is over
-abbrev pub gpt_setting : GptDriver → Setting GptState Call
+abbrev pub gpt_setting : GptTable → Setting GptState Call
 gpt_setting d = record {
   machine = gpt_machine d;
   first = first_state;
@@ -184,7 +177,7 @@ pub record TimerAgrees (k : Option configured.Channel) (bit : Bool) (t : Timer) 
   pub flag : (now : ℕ) → expired_between t.count t.watched now ≡ expired_between t.count x.dropped now
   pub set : IsSet k bit x.course
 
-abbrev pub BlockAgrees : GptDriver → (opened : ℕ → Bool) → Timers → GptState → Type 0
+abbrev pub BlockAgrees : GptTable → (opened : ℕ → Bool) → Timers → GptState → Type 0
 BlockAgrees d opened b s = (c : ℕ) → c < 8 → opened c ≡ false → TimerAgrees (channel_of d c) (has_bit b.one_shot c) (timer_at b c) (channel_at s c)
 
 -- ---- the words
@@ -231,7 +224,7 @@ LinesAgree lines m enabled = (c : ℕ) → c < 8 → has_bit enabled c ≡ all_a
 -- ---- the agreement
 
 -- the words and registers agree with the state, but for what is under work; an uninitialised module has touched no channel
-pub record GptRepresents (d : GptDriver) (gap : Lag) (chip : Chip) (w : World) (s : GptState) : Type 0 where
+pub record GptRepresents (d : GptTable) (gap : Lag) (chip : Chip) (w : World) (s : GptState) : Type 0 where
   pub outside : StandsIn chip w
   pub block : BlockAgrees d gap.block chip.timers s
   pub words : WordsAgree gap.words chip s
@@ -239,7 +232,7 @@ pub record GptRepresents (d : GptDriver) (gap : Lag) (chip : Chip) (w : World) (
   pub clean : is_off s.mode ≡ true → (c : ℕ) → channel_at s c ≡ untouched
 
 -- what all services of the driver stand on
-abbrev pub gpt_ground : GptDriver → Refinement GptState Call
+abbrev pub gpt_ground : GptTable → Refinement GptState Call
 gpt_ground d = record {
   setting = gpt_setting d;
   wired = λ chip. Unit {0};

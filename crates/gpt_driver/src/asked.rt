@@ -1,9 +1,8 @@
 ghost use Rattle.std.specs.Prelude.{◌≡◌};
 ghost use Rattle.gpt_driver.specs.laws.Look as spec;
-ghost use Rattle.gpt_driver.specs.Checks as checks;
+ghost use Rattle.gpt_machine.specs.Checks as checks;
 
-use crate::call::{Call, Change, ChannelCall, GptMode};
-use crate::driver::{Channel, GptDriver};
+use crate::driver::GptDriver;
 use crate::service::count::CountBody;
 use crate::service::deinit::DeInitBody;
 use crate::service::init::InitBody;
@@ -14,6 +13,7 @@ use crate::service::switch::SwitchBody;
 use crate::service::{ChannelBody, GptBody};
 use crate::words::STATE;
 use det_errors::{Facts, first_error};
+use gpt_machine::{Call, Change, Channel, ChannelCall, GptMode};
 use mcal_base::{Answer, ErrorName, Service};
 use service_outline::{Done, Epilogue, Looked, Or, Reply, nothing, number};
 

@@ -1,9 +1,9 @@
 use crate::asked::Asked;
-use crate::call::Call;
 use crate::driver::GptDriver;
 use crate::service::GptBody;
 use crate::service::serve::ServeBody;
 use chip_model::Bus;
+use gpt_machine::Call;
 use mcal_base::ModuleName;
 use run_model::Class;
 use service_outline::{Or, Short};
@@ -17,7 +17,7 @@ pub type GptFrame = Short<Asked, GptBody>;
 pub struct GptMachine;
 
 impl Model for GptMachine {
-    ghost use Rattle.gpt_driver.specs.Machine.{GptState, first_state};
+    ghost use Rattle.gpt_machine.specs.Machine.{GptState, first_state};
 
     ghost Value = { GptState };
 

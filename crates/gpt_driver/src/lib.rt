@@ -5,17 +5,15 @@
 #![tactic(auto)]
 
 mod asked;
-mod call;
+mod caller;
 mod driver;
 mod frames;
-mod request;
 mod service;
 mod switches;
 mod words;
 
 pub use asked::Asked;
-pub use call::{Call, Change, ChannelCall, GptMode};
-pub use driver::{Channel, GptDriver};
+pub use driver::GptDriver;
 pub use frames::{GptFrame, GptMachine};
 pub use service::GptBody;
 pub use service::count::CountBody;
@@ -26,4 +24,3 @@ pub use service::serve::ServeBody;
 pub use service::start::{Start, StartBody};
 pub use service::stop::StopBody;
 pub use service::switch::SwitchBody;
-pub use switches::Switches;

@@ -14,9 +14,6 @@ pub const SWITCHES: u32 = 16_400;
 /// The last word of a channel.
 pub const LAST_WORD: u32 = 16_407;
 
-/// How many channels the chip has.
-pub const CHANNELS: u32 = 8;
-
 /// The bits of all timer lines.
 pub const LINES: u32 = 255;
 

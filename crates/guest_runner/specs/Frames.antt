@@ -10,14 +10,14 @@ use Rattle.run_model.specs.declared.class.Class.{Class}
 use Rattle.run_model.specs.declared.class.Kind.{Kind}
 use Rattle.run_model.specs.declared.class.Kind.TheVariants.{Exclusive, Keyed, Guarded, Query}
 use Rattle.run_model.specs.declared.class.Tag.{Tag}
-use Rattle.run_model.specs.Causes.{same_key, kind_blocks, is_exclusive, class_blocks, blocks, may_reenter}
+use Rattle.run_model.specs.Causes.{same_key, kind_blocks, is_exclusive, class_blocks, blocks, may_reenter, guarded}
 use Rattle.run_model.specs.Frame.{Origin, Called, Entered, Open}
 use Rattle.run_model.specs.Moment.{Setting, call_tag, line_tag}
 use Rattle.step_runner.specs.Driver.{tags_in, origins_in}
 use Rattle.step_runner.specs.Union.{first_origins, lift_origin, IsMine, others, Splits, Nothing_open, Left_open, Right_open}
 use Rattle.step_runner.specs.declared.either.Either.{Either}
 use Rattle.step_runner.specs.declared.either.Either.TheVariants.{Left, Right}
-use Rattle.guest_runner.specs.Guest.{guarded, keeps_off, every, AreMarked, IsGuestTag, NoneOff}
+use Rattle.guest_runner.specs.Guest.{keeps_off, every, AreMarked, IsGuestTag, NoneOff}
 
 -- ---- tests
 

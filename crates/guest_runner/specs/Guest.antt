@@ -14,10 +14,8 @@ use Rattle.mcal_base.specs.declared.notice.Notice.{Notice}
 use Rattle.mcal_base.specs.declared.register.Reg.TheVariants.{EnableSet, WatchdogLoad}
 use Rattle.mcal_base.specs.declared.routine.Taken.{Taken}
 use Rattle.mcal_base.specs.declared.service.Service.{Service}
-use Rattle.run_model.specs.declared.class.Class.{Class}
-use Rattle.run_model.specs.declared.class.Kind.TheVariants.{Guarded}
 use Rattle.run_model.specs.declared.class.Tag.{Tag}
-use Rattle.run_model.specs.Causes.{blocks, is_exclusive, may_reenter}
+use Rattle.run_model.specs.Causes.{blocks, is_exclusive, may_reenter, guarded}
 use Rattle.run_model.specs.Frame.{Origin, Called, Entered, Open, opened, is_shared}
 use Rattle.run_model.specs.Machine.{Happening, Acts, Serves, Starts, Aborts, Moves, Restarts, Outcome, Machine, ErrorLeaves}
 use Rattle.run_model.specs.Moment.{Setting, call_tag}
@@ -59,10 +57,6 @@ pub record Guest (State Call Frame : Type 0) : Type 1 where
 -- the chip stands in its world, wired as the guest asks
 abbrev pub IsPlaced : {State Call Frame : Type 0} → Guest State Call Frame → Chip → World → Type 0
 IsPlaced g chip w = StandsIn chip w × g.wired chip.wiring
-
--- the class of a guest's calls in the block of this module
-abbrev pub guarded : ModuleName → Class
-guarded block = record { kind = Guarded; «module» = block; key = None }
 
 -- ---- the guest alone
 

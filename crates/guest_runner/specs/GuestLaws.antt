@@ -19,8 +19,8 @@ use Rattle.mcal_base.specs.declared.moves.Move.TheVariants.{Read, Write, Load, S
 use Rattle.mcal_base.specs.declared.notice.Notice.{Notice}
 use Rattle.mcal_base.specs.declared.register.Reg.TheVariants.{EnableSet, WatchdogLoad}
 use Rattle.mcal_base.specs.declared.routine.Taken.{Taken}
-use Rattle.run_model.specs.Causes.{blocks, may_reenter, none_above, all_below}
-use Rattle.run_model.specs.Frame.{Origin, Called, Entered, Open, opened, is_shared, outcome_at, state_by, state_after, top_after}
+use Rattle.run_model.specs.Causes.{blocks, may_reenter, none_above, all_below, guarded}
+use Rattle.run_model.specs.Frame.{Origin, Called, Entered, Open, opened, is_shared, is_wait, outcome_at, state_by, state_after, top_after}
 use Rattle.run_model.specs.Machine.{Happening, Acts, Serves, Starts, Aborts, Moves, Restarts, Outcome, ErrorLeaves}
 use Rattle.run_model.specs.Moment.{Setting, reads_from, call_tag, line_tag}
 use Rattle.run_model.specs.World.{World, world_after}
@@ -33,7 +33,7 @@ use Rattle.step_runner.specs.UnionLaws.{outside-split}
 use Rattle.step_runner.specs.declared.either.Either.{Either}
 use Rattle.step_runner.specs.declared.either.Either.TheVariants.{Left, Right}
 use Rattle.guest_runner.specs.Frames.{marked-call, marked-line, none-off, call-lets, tags-first, tags-second, origins-hosts, no-hosts, off-on, off-less, off-last}
-use Rattle.guest_runner.specs.Guest.{Guest, IsPlaced, guarded, lone_setting, lone_driver, StandsOn, IsGuest, keeps_off, Hosts, every, guest_setting, AreMarked, AllStand, NoneOff, GuestRelates, guest_of}
+use Rattle.guest_runner.specs.Guest.{Guest, IsPlaced, lone_setting, lone_driver, StandsOn, IsGuest, keeps_off, Hosts, every, guest_setting, AreMarked, AllStand, NoneOff, GuestRelates, guest_of}
 
 -- ---- outcomes
 
@@ -267,6 +267,10 @@ module _ {S C D F G : Type 0} (d : Driver S C F) (g : Guest S D G) (move_a : F �
   own-by chip w u o ps s fs gs (Left_open f o1 missed qs fs1 gs1 m all same sp) x stand = subst (λ q. is_shared (move_a f) || q ≡ true) (sym (may-host o1.origin (move_a f))) (la.own chip w f o1 fs1 s x)
   own-by chip w u o ps s fs gs (Right_open f o1 missed qs fs1 gs1 m all same sp) x stand = subst (λ q. is_shared (move_b f) || q ≡ true) (sym (may-guest o1.origin (move_b f) m)) (lb.own f o1 stand.0)
 
+  opens-by : (chip : Chip) (w : World) (u : Either F G) (o : Open (Either C D)) (ps : List (Either F G × Open (Either C D))) (s : S) (fs : List (F × Open C)) (gs : List (G × Open D)) → Splits every ((u, o) ∷ ps) fs gs → d.relates chip w fs s → AllStand g gs → is_wait (either move_a move_b u) ≡ true → o.inside ≡ false
+  opens-by chip w u o ps s fs gs (Left_open f o1 missed qs fs1 gs1 m all same sp) x stand waits = la.opens chip w f o1 fs1 s x waits
+  opens-by chip w u o ps s fs gs (Right_open f o1 missed qs fs1 gs1 m all same sp) x stand waits = lb.unmasked f o1 stand.0
+
   lasts-both : (u : Either F G) → 0 < either d.fuel g.fuel u
   lasts-both (Left f) = la.lasts f
   lasts-both (Right f) = lb.lasts f
@@ -488,6 +492,7 @@ module _ {S C D F G : Type 0} (d : Driver S C F) (g : Guest S D G) (move_a : F �
     steps = λ chip w f o ps s received come few masked out h. step-by chip w f o ps s h.hosts h.guests h.splits masked out h.host h.marked h.stand h.apart h.placed received come few;
     there = λ chip w f o ps s h. there-by chip w f o ps s h.hosts h.guests h.splits h.host h.stand;
     own = λ chip w f o ps s h. own-by chip w f o ps s h.hosts h.guests h.splits h.host h.stand;
+    opens = λ chip w f o ps s h. opens-by chip w f o ps s h.hosts h.guests h.splits h.host h.stand;
     lasts = lasts-both;
     roomy = λ chip w f o ps s h. roomy-by chip w f o ps s h.hosts h.guests h.splits h.host h.stand;
     moves = g-moves;

@@ -6,7 +6,7 @@ use Rattle.chip_model.specs.Chip.{Chip, chip_after, is_masked}
 use Rattle.mcal_base.specs.declared.module_name.ModuleName.{ModuleName}
 use Rattle.mcal_base.specs.declared.moves.Move.{Move}
 use Rattle.mcal_base.specs.declared.routine.Taken.{Taken}
-use Rattle.run_model.specs.Causes.{blocks, may_reenter}
+use Rattle.run_model.specs.Causes.{blocks, may_reenter, guarded}
 use Rattle.run_model.specs.Frame.{Origin, Called, Entered, Open}
 use Rattle.run_model.specs.Moment.{Setting}
 use Rattle.run_model.specs.World.{World}
@@ -17,7 +17,7 @@ use Rattle.step_runner.specs.declared.either.Either.{Either}
 use Rattle.step_runner.specs.declared.either.Either.TheVariants.{Left, Right}
 use Rattle.step_runner.proofs.Apart.{owns-neither}
 use Rattle.guest_runner.specs.Frames.{tags-first, tags-second}
-use Rattle.guest_runner.specs.Guest.{guarded, keeps_off, LetsIn}
+use Rattle.guest_runner.specs.Guest.{keeps_off, LetsIn}
 
 -- a driver owns none of these moves
 abbrev pub OwnsNone : {State Call Frame : Type 0} → Driver State Call Frame → (may : Move → Bool) → Type 0

@@ -7,7 +7,7 @@ use Rattle.mcal_base.specs.declared.answer.Answer.{Answer}
 use Rattle.mcal_base.specs.declared.module_name.ModuleName.{ModuleName}
 use Rattle.mcal_base.specs.declared.moves.Move.{Move}
 use Rattle.run_model.specs.declared.class.Class.{Class}
-use Rattle.run_model.specs.Causes.{blocks, may_reenter}
+use Rattle.run_model.specs.Causes.{blocks, may_reenter, guarded}
 use Rattle.run_model.specs.Frame.{Origin, Open}
 use Rattle.run_model.specs.World.{World}
 use Rattle.step_runner.specs.Driver.{tags_in}
@@ -16,7 +16,7 @@ use Rattle.service_outline.specs.declared.short.Short.TheVariants.{Calling, Load
 use Rattle.service_outline.specs.Services.{ReservedBy, Services, AreEndingServices, AllLet, mark_of, with_holds, holds_at, holds_by, holds_in, Waits, AllWait, IsTop, Relates, services_driver}
 use Rattle.service_outline.specs.laws.Lawful.{all_wait}
 use Rattle.service_outline.specs.laws.Steps.{settled_at}
-use Rattle.guest_runner.specs.Guest.{guarded, LetsIn}
+use Rattle.guest_runner.specs.Guest.{LetsIn}
 
 -- What a driver of services owes for a guest that may make these moves, of which each makes this of its state: such a move
 -- keeps what words and registers agree on, while none that holds anything keeps the guest off. It gives out no number and

@@ -1,6 +1,7 @@
 ghost use Rattle.std.specs.Prelude.{◌≡◌};
 ghost use Rattle.guest_runner.specs.Guest as guests;
-ghost use Rattle.guest_runner.specs.Guest.{IsGuest, guarded};
+ghost use Rattle.run_model.specs.Causes.{guarded};
+ghost use Rattle.guest_runner.specs.Guest.{IsGuest};
 
 use mcal_base::Routine;
 use run_model::Class;

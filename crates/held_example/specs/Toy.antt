@@ -24,7 +24,7 @@ use Rattle.run_model.specs.declared.class.Kind.TheVariants.{Exclusive, Keyed, Gu
 use Rattle.run_model.specs.declared.class.KeyKind.{KeyKind}
 use Rattle.run_model.specs.declared.class.KeyKind.TheVariants.{Section, Group}
 use Rattle.run_model.specs.World.{World}
-use Rattle.run_model.specs.Machine.{Happening, Acts, Serves, Starts, Aborts, Moves, Restarts, Told, Outcome, Machine, no_answer, tells_nothing, outcome}
+use Rattle.run_model.specs.Machine.{Happening, Acts, Serves, Starts, Aborts, Moves, Restarts, Told, Outcome, Machine, no_answer, tells_nothing, outcome, numbers, tells_error}
 use Rattle.run_model.specs.Frame.{Origin, Called}
 use Rattle.run_model.specs.Moment.{Setting}
 use Rattle.service_outline.specs.declared.body.Looked.{Looked}
@@ -36,7 +36,7 @@ use Rattle.service_outline.specs.declared.done.Epilogue.TheVariants.{Nothing}
 use Rattle.service_outline.specs.declared.sweep.Place.TheVariants.{Opens}
 use Rattle.service_outline.specs.declared.sweep.Sweep.{Sweep}
 use Rattle.service_outline.specs.Both.{both}
-use Rattle.service_outline.specs.Done.{goes, acts, ends, numbers, owed_error, tells_error}
+use Rattle.service_outline.specs.Done.{goes, acts, ends, owed_error}
 use Rattle.service_outline.specs.DeferredWrites.{DeferredWrites, Under, deferring_writes, Windows, windows}
 use Rattle.service_outline.specs.FrameHistory.{FrameHistory, fresh_history, IsThisFrame}
 use Rattle.service_outline.specs.Services.{ReservedBy, SharedRefinement, PointAssertion, Within, Outside, LongBodies, Services}

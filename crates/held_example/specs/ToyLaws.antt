@@ -1,6 +1,6 @@
 -- The toy module is lawful.
 use Rattle.std.proofs.Common.{◌≡◌, ℕ, ◌+◌, ◌*◌, ◌<◌, ◌≤◌, ◌≢◌, ◌==◌, nat_lt, Bool, true, false, ◌&&◌, ◌||◌, not, length, [], ◌∷◌, Option, Some, None, zero, suc, refl, sym, ◌∙◌, ap, subst, arith, get_or-set_same, get_or-set_other}
-use Rattle.std.specs.Prelude.{if◌then◌else◌, slice_index_or}
+use Rattle.std.specs.Prelude.{if◌then◌else◌, is_some, slice_index_or}
 use Rattle.std.proofs.lemmas.Bool.Decides.{nat_tests}
 use Rattle.plain_facts.specs.Truths.{if_false, if_true}
 use Rattle.plain_facts.specs.Options.{some_same}
@@ -20,7 +20,7 @@ use Rattle.mcal_base.specs.declared.moves.Move.TheVariants.{Read, Write, Load, S
 use Rattle.mcal_base.specs.declared.moves.Unit as units
 use Rattle.mcal_base.specs.declared.moves.Unit.TheVariants.{Adc0, Adc1, Spi0, Spi1}
 use Rattle.mcal_base.specs.declared.register.Reg.{Reg}
-use Rattle.mcal_base.specs.declared.register.Reg.TheVariants.{TimerHigh, PulseCommit, PulseIdle, CaptureCountHigh, CaptureTimeHigh, ConverterGo, ResetRequest}
+use Rattle.mcal_base.specs.declared.register.Reg.TheVariants.{TimerHigh, PulseCommit, PulseIdle, CaptureCountHigh, CaptureTimeHigh, ConverterGo, SerialWait, ResetRequest}
 use Rattle.run_model.specs.World.{World, world_after}
 use Rattle.run_model.specs.Machine.{Acts, Outcome, ErrorLeaves, tells_nothing, no_answer, outcome}
 use Rattle.run_model.specs.Frame.{Origin, Called, is_shared, resets_chip, begins_word, missed_after}
@@ -487,7 +487,7 @@ ask_steps below chip w s OpenOnce o y t m (h, f) = (unmasked _ Settled chip w s 
 ask_steps below chip w s Tell o y t m (h, Is_this_frame) = record { served = false; others = []; is = refl; shown = λ e. absurd (cc); next = (apart _ Settled chip w s (Note notice) 0 refl h, Is_this_frame) }
 ask_steps below chip w s ShutAgain o y t m (h, f) = (masked _ Settled chip w s h, f)
 ask_steps below chip w s Look o y t m (h, Is_this_frame) = looks_on below chip w s chip (word_of chip MARK) y (missed_after machine w s m) (word_of chip MARK == 0) (mark_says s.waiting (word_of chip MARK) (word_of chip MARK == 0) h.mark refl) h
-ask_steps below chip w s Go o y t m (h, (Is_this_frame, waiting)) = record { may = refl; stands = (refl, refl); state = record s { waiting = false }; told = tells_nothing; begins = None; is = ap (λ x. starts_by s x) waiting; sends = tt; acts = tt; reset = refl; next = (started below chip w s o told_all h, (Is_this_frame, refl)) }
+ask_steps below chip w s Go o y t m (h, (Is_this_frame, waiting)) = record { may = (refl, λ i. ap (λ x. is_some (starts_by s x)) waiting); stands = (refl, refl); state = record s { waiting = false }; told = tells_nothing; begins = None; is = ap (λ x. starts_by s x) waiting; sends = tt; acts = tt; reset = refl; next = (started below chip w s o told_all h, (Is_this_frame, refl)) }
 ask_steps below chip w s Unmark o y t m (h, (Is_this_frame, none)) = (unmarked below chip w s none h, record { may = (refl, refl); served = false; owed = refl; shown = λ e. absurd (cc); report = refl })
 
 ask_own : (k : Asking) → is_shared (ask_work k) || owns (ask_work k) ≡ true
@@ -1002,6 +1002,7 @@ no_windows : (made : Move) → owns made ≡ true → is_windowed made ≡ false
 no_windows (Read (TimerHigh c)) e = absurd (cc)
 no_windows (Read (CaptureCountHigh c)) e = absurd (cc)
 no_windows (Read (CaptureTimeHigh c)) e = absurd (cc)
+no_windows (Read (SerialWait u)) e = absurd (cc)
 no_windows (Write (PulseCommit c) v) e = absurd (cc)
 no_windows (Write (PulseIdle c) v) e = absurd (cc)
 no_windows _ e = refl

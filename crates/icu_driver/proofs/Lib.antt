@@ -1,5 +1,0 @@
-pub mod CallLaws
-pub mod EdgeLaws
-pub mod MeasureLaws
-pub mod RoomLaws
-pub mod StampLaws

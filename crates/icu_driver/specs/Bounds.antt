@@ -11,33 +11,27 @@ use Rattle.mcal_base.specs.declared.moves.Move.{Move}
 use Rattle.mcal_base.specs.declared.moves.Move.TheVariants.{Read, Write, Load, Store}
 use Rattle.mcal_base.specs.declared.register.Reg.{Reg}
 use Rattle.mcal_base.specs.declared.register.Reg.TheVariants.{EnableSet, EnableClear, CaptureCondition, CaptureMode, CaptureGateSet, CaptureGateClear, CaptureCountLow, CaptureCountHigh, CaptureZero, CaptureTimeLow, CaptureTimeHigh, CaptureInfo, CapturePop, CaptureFlush}
-use Rattle.run_model.specs.declared.class.Class.{Class}
-use Rattle.run_model.specs.declared.class.Kind.TheVariants.{Exclusive, Keyed}
-use Rattle.run_model.specs.declared.class.KeyKind.TheVariants as keys
 use Rattle.run_model.specs.Frame.{Origin, Called}
 use Rattle.run_model.specs.Moment.{Halves, Setting}
 use Rattle.service_outline.specs.There.{names_there}
-use Rattle.icu_driver.specs.Machine.{IcuState, Start, first_state, capture_at, stamp_in, icu_machine}
-use Rattle.icu_driver.specs.Table.{channel_of, channel_of_line}
-use Rattle.icu_driver.specs.declared.call.Call.{Call}
-use Rattle.icu_driver.specs.declared.call.Call.TheVariants.{Init, DeInit, Channel}
-use Rattle.icu_driver.specs.declared.call.ChannelCall.TheVariants.{GetEdgeNumbers}
-use Rattle.icu_driver.specs.declared.driver.Channel as configured
-use Rattle.icu_driver.specs.declared.driver.IcuDriver.{IcuDriver}
+use Rattle.icu_machine.specs.Machine.{IcuState, first_state, icu_machine}
+use Rattle.icu_machine.specs.Table.{channel_of, channel_of_line}
+use Rattle.icu_machine.specs.declared.call.Call.{Call}
+use Rattle.icu_machine.specs.declared.call.Call.TheVariants.{Init, DeInit, Channel}
+use Rattle.icu_machine.specs.declared.call.ChannelCall.TheVariants.{GetEdgeNumbers}
+use Rattle.icu_machine.specs.declared.table.Channel as configured
+use Rattle.icu_machine.specs.declared.table.IcuTable.{IcuTable}
+use Rattle.icu_machine.specs.Classes.{class_of}
+use Rattle.icu_machine.specs.Shown.{stamp_at}
 
--- ---- classes, levels, lines
-
--- the class of a call: what is asked of a channel has that channel as its key, and any other begins over no frame of the module
-abbrev pub class_of : Call → Class
-class_of (Channel c call) = record { kind = Keyed; «module» = Icu; key = Some (record { kind = keys.Channel; number = c }) }
-class_of _ = record { kind = Exclusive; «module» = Icu; key = None }
+-- ---- lines
 
 -- the level of a line, 1 where no configured channel uses it
 abbrev pub level_by : Option configured.Channel → ℕ
 level_by None = 1
 level_by (Some k) = k.level
 
-abbrev pub level_of : IcuDriver → ℕ → ℕ
+abbrev pub level_of : IcuTable → ℕ → ℕ
 level_of d l = level_by (channel_of_line d l)
 
 abbrev pub owner_of : ℕ → ModuleName
@@ -46,17 +40,17 @@ owner_of l = Icu
 -- ---- steps and windows
 
 -- the number of configured channels
-abbrev pub counted : IcuDriver → ℕ → ℕ
+abbrev pub counted : IcuTable → ℕ → ℕ
 counted d c = bit_of (is_some (channel_of d c))
 
-abbrev pub channel_count : IcuDriver → ℕ
+abbrev pub channel_count : IcuTable → ℕ
 channel_count d = counted d 0 + counted d 1 + counted d 2 + counted d 3 + counted d 4 + counted d 5 + counted d 6 + counted d 7
 
 -- the most steps of a frame: of a call about the whole module 48 more for each configured channel
-abbrev pub whole_steps : IcuDriver → ℕ
+abbrev pub whole_steps : IcuTable → ℕ
 whole_steps d = 64 + 48 * channel_count d
 
-abbrev pub steps_of : IcuDriver → Origin Call → ℕ
+abbrev pub steps_of : IcuTable → Origin Call → ℕ
 steps_of d (Called Init) = whole_steps d
 steps_of d (Called DeInit) = whole_steps d
 steps_of d _ = 64
@@ -99,14 +93,14 @@ may_write EnableClear v = is_for_lines v
 may_write r v = is_capture r
 
 -- a driver word of the module: it has 64, and 32 more for each configured channel
-abbrev pub is_own_word : IcuDriver → ℕ → Bool
+abbrev pub is_own_word : IcuTable → ℕ → Bool
 is_own_word d k = is_within (own_start Icu) (64 + 32 * channel_count d) k
 
 -- a place of the stamps of a configured channel
-abbrev pub is_stamp : IcuDriver → ℕ → Bool
+abbrev pub is_stamp : IcuTable → ℕ → Bool
 is_stamp d k = not (nat_lt k STAMPS) && is_some (channel_of d ((k - STAMPS) / 64))
 
-abbrev pub may_name : IcuDriver → Move → Bool
+abbrev pub may_name : IcuTable → Move → Bool
 may_name d (Read r) = is_capture r
 may_name d (Write r v) = may_write r v
 may_name d (Load k) = is_own_word d k || is_stamp d k
@@ -114,22 +108,10 @@ may_name d (Store k v) = is_own_word d k || is_stamp d k
 may_name d _ = false
 
 -- a move that a frame of the module may make: it names what is the module's and is there
-abbrev pub icu_may : IcuDriver → Move → Bool
+abbrev pub icu_may : IcuTable → Move → Bool
 icu_may d made = may_name d made && names_there made
 
 -- ---- the stamps, which users see
-
--- the time at a place of a channel's stamps
-abbrev pub stamp_at : IcuState → (channel place : ℕ) → ℕ
-stamp_at s c i = stamp_in (capture_at s c).stored i
-
--- how many places are shown: the size of the last start, none without one since the reset
-abbrev pub size_by : Option Start → Option ℕ
-size_by None = None
-size_by (Some a) = Some a.size
-
-abbrev pub size_of : IcuState → (channel : ℕ) → Option ℕ
-size_of s c = size_by (capture_at s c).start
 
 -- the words of a channel's stamps are the machine's
 abbrev pub HasStamps : Chip → IcuState → (channel : ℕ) → Type 0
@@ -138,7 +120,7 @@ HasStamps chip s c = (i : ℕ) → i < 64 → word_of chip (place_of (Stamps c) 
 -- ---- the setting
 
 -- what a run of the driver is over
-abbrev pub icu_setting : IcuDriver → Setting IcuState Call
+abbrev pub icu_setting : IcuTable → Setting IcuState Call
 icu_setting d = record {
   machine = icu_machine d;
   first = first_state;

@@ -4,10 +4,10 @@ use Rattle.std.specs.Prelude.{All, if◌then◌else◌, is_some}
 use Rattle.mcal_base.specs.declared.config.icu.IcuChannel.{IcuChannel}
 use Rattle.mcal_base.specs.declared.config.icu.IcuConfig.{IcuConfig}
 use Rattle.icu_driver.specs.Refinement.{FitsIcu}
-use Rattle.icu_driver.specs.Table.{channel_in, driver_of, channel_of, taken, is_measurement}
-use Rattle.icu_driver.specs.declared.driver.Channel.{Channel}
+use Rattle.icu_machine.specs.Table.{channel_in, table_of, channel_of, taken, is_measurement}
+use Rattle.icu_machine.specs.declared.table.Channel.{Channel}
 use Rattle.icu_driver.specs.laws.RefinementRight.{within}
-use Rattle.icu_driver.specs.laws.Tables.{by_eight}
+use Rattle.icu_machine.specs.laws.Channels.{by_eight}
 
 -- the channel's pin is there, and a measurement has a property
 pub record IsSound (x : IcuChannel) : Type 0 where
@@ -31,16 +31,16 @@ found [] c k sound e = absurd (cc)
 found (x ∷ xs) c k sound e = found_by x xs c k (x.id == c) (sound 0 x (omega arith)) (λ f. found xs c k (λ i y lt. sound (suc i) y (omega arith)) f) e
 
 -- a channel of the driver is one that was found
-in_table : (g : IcuConfig) (k : Channel) (c : ℕ) → c < 8 → channel_of (driver_of g) c ≡ Some k → channel_in g.channels c ≡ Some k
-in_table g k = by_eight (λ c. channel_of (driver_of g) c ≡ Some k → channel_in g.channels c ≡ Some k) (λ e. e) (λ e. e) (λ e. e) (λ e. e) (λ e. e) (λ e. e) (λ e. e) (λ e. e)
+in_table : (g : IcuConfig) (k : Channel) (c : ℕ) → c < 8 → channel_of (table_of g) c ≡ Some k → channel_in g.channels c ≡ Some k
+in_table g k = by_eight (λ c. channel_of (table_of g) c ≡ Some k → channel_in g.channels c ≡ Some k) (λ e. e) (λ e. e) (λ e. e) (λ e. e) (λ e. e) (λ e. e) (λ e. e) (λ e. e)
 
-table_of : (g : IcuConfig) (c : ℕ) (k : Channel) → channel_of (driver_of g) c ≡ Some k → channel_in g.channels c ≡ Some k
-table_of g c k e = in_table g k c (within (driver_of g) c (ap (λ x. is_some x) e)) e
+kept : (g : IcuConfig) (c : ℕ) (k : Channel) → channel_of (table_of g) c ≡ Some k → channel_in g.channels c ≡ Some k
+kept g c k e = in_table g k c (within (table_of g) c (ap (λ x. is_some x) e)) e
 
 -- the driver of a configuration with sound channels
-pub fits_of : (g : IcuConfig) → All IsSound g.channels → FitsIcu (driver_of g)
+pub fits_of : (g : IcuConfig) → All IsSound g.channels → FitsIcu (table_of g)
 fits_of g sound = record {
-  number = λ c k e. (found g.channels c k sound (table_of g c k e)).number;
-  pin = λ c k e. (found g.channels c k sound (table_of g c k e)).pin;
-  property = λ c k e. (found g.channels c k sound (table_of g c k e)).property;
+  number = λ c k e. (found g.channels c k sound (kept g c k e)).number;
+  pin = λ c k e. (found g.channels c k sound (kept g c k e)).pin;
+  property = λ c k e. (found g.channels c k sound (kept g c k e)).property;
 }

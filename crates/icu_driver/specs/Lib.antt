@@ -1,12 +1,6 @@
 pub mod Bounds
-pub mod Checks
-pub mod Claims
-pub mod Edges
 pub mod Fits
 pub mod Refinement
-pub mod Machine
-pub mod Requests
-pub mod Table
 pub mod Terms
 pub mod Words
 pub mod laws

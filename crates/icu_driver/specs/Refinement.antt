@@ -26,17 +26,17 @@ use Rattle.run_model.specs.World.{World}
 use Rattle.run_model.specs.Outside.{StandsIn}
 use Rattle.service_outline.specs.Outline.{Refinement}
 use Rattle.icu_driver.specs.Bounds.{is_capture, is_own_word, is_stamp, icu_setting}
-use Rattle.icu_driver.specs.Edges.{Edge, is_same, begins_rising, values, newest}
-use Rattle.icu_driver.specs.Machine.{IcuState, Capture, Start, capture_at, index, is_full, stamp_in, moved}
-use Rattle.icu_driver.specs.Table.{channel_of, is_counter, is_timestamp, is_measurement}
+use Rattle.icu_machine.specs.Edges.{Edge, is_same, begins_rising, values, newest}
+use Rattle.icu_machine.specs.Machine.{IcuState, Capture, Start, capture_at, index, is_full, stamp_in, moved}
+use Rattle.icu_machine.specs.Table.{channel_of, is_counter, is_timestamp, is_measurement}
 use Rattle.icu_driver.specs.Words.{word}
-use Rattle.icu_driver.specs.declared.call.Call.{Call}
-use Rattle.icu_driver.specs.declared.driver.Channel.{Channel}
-use Rattle.icu_driver.specs.declared.driver.IcuDriver.{IcuDriver}
+use Rattle.icu_machine.specs.declared.call.Call.{Call}
+use Rattle.icu_machine.specs.declared.table.Channel.{Channel}
+use Rattle.icu_machine.specs.declared.table.IcuTable.{IcuTable}
 use Rattle.icu_driver.specs.declared.words.TheConstants.{STATE, SWITCHES, MARKS, SIZES, INTERVALS, PLACES, VALUES, TIMES}
 
 -- what the configuration has to be: numbers stand at their places, pins are there, and a measurement has a property
-pub record FitsIcu (d : IcuDriver) : Type 0 where
+pub record FitsIcu (d : IcuTable) : Type 0 where
   pub number : (c : ℕ) (k : Channel) → channel_of d c ≡ Some k → k.number ≡ c
   pub pin : (c : ℕ) (k : Channel) → channel_of d c ≡ Some k → k.pin < 64
   pub property : (c : ℕ) (k : Channel) → channel_of d c ≡ Some k → is_measurement k.mode ≡ true → is_some k.measured ≡ true
@@ -52,7 +52,7 @@ owns_written EnableSet v = has_lines v
 owns_written EnableClear v = has_lines v
 owns_written r v = is_capture r
 
-abbrev pub icu_owns : IcuDriver → Move → Bool
+abbrev pub icu_owns : IcuTable → Move → Bool
 icu_owns d (Read r) = is_capture r
 icu_owns d (Write r v) = owns_written r v
 icu_owns d (Load k) = is_own_word d k || is_stamp d k
@@ -135,11 +135,11 @@ pub record CaptureAgrees (k : Option Channel) (gate_free queue_free count_free o
   pub free_queue : gate_free ≡ true → queue_free ≡ false → counts_edges k ≡ true
   pub free_count : gate_free ≡ true → count_free ≡ false → counts_edges k ≡ false
 
-abbrev pub BlockAgrees : IcuDriver → Lag → Captures → IcuState → Type 0
+abbrev pub BlockAgrees : IcuTable → Lag → Captures → IcuState → Type 0
 BlockAgrees d gap b s = (c : ℕ) → c < 8 → CaptureAgrees (channel_of d c) (gap.gates c) (gap.queues c) (gap.counts c) s.initialised (s.initialised || gap.moded) (chip_capture b c) (capture_at s c)
 
 -- each channel has its pin
-abbrev pub WiredAs : IcuDriver → Captures → Type 0
+abbrev pub WiredAs : IcuTable → Captures → Type 0
 WiredAs d b = (c : ℕ) → c < 8 → pin_of b c ≡ pin_by (channel_of d c)
 
 -- ---- what is measured, as a driver follows it: over served edges, the first one first
@@ -348,7 +348,7 @@ all_are None on = on
 all_are (Some b) on = b
 
 -- the words and registers agree with the state, but for what is under work; while the module is uninitialised, nothing is marked, counted or notified on a configured channel
-pub record IcuRepresents (d : IcuDriver) (gap : Lag) (chip : Chip) (w : World) (s : IcuState) : Type 0 where
+pub record IcuRepresents (d : IcuTable) (gap : Lag) (chip : Chip) (w : World) (s : IcuState) : Type 0 where
   pub outside : StandsIn chip w
   pub size : length chip.captures.captures ≡ 8
   pub wired : WiredAs d chip.captures
@@ -373,7 +373,7 @@ abbrev pub marks_of : Chip → List ℕ
 marks_of chip = word_of chip (word MARKS 0) ∷ word_of chip (word MARKS 1) ∷ word_of chip (word MARKS 2) ∷ word_of chip (word MARKS 3) ∷ word_of chip (word MARKS 4) ∷ word_of chip (word MARKS 5) ∷ word_of chip (word MARKS 6) ∷ word_of chip (word MARKS 7) ∷ []
 
 -- what all services of the driver stand on
-abbrev pub icu_ground : IcuDriver → Refinement IcuState Call
+abbrev pub icu_ground : IcuTable → Refinement IcuState Call
 icu_ground d = record {
   setting = icu_setting d;
   wired = λ chip. WiredAs d chip.captures;

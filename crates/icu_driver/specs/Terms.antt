@@ -53,8 +53,10 @@ pub use Rattle.step_runner.proofs.Whose.{not-unless}
 pub use Rattle.step_runner.specs.Whose.{EnablesOthers, EnablesWithin, is_of, KeepsTo, module_of_line}
 pub use Rattle.step_runner.specs.Whose.{module_of_register, module_of_word, NamesOthers, NamesWithin, WritesOthers}
 pub use Rattle.step_runner.specs.Whose.{WritesWithin}
-pub use Rattle.service_outline.specs.{Acts.{Cleans, KeepsClean, StandsLow}, Both.{either}, Done.{answers, goes}}
-pub use Rattle.service_outline.specs.{Done.{numbers, owed_error, tells_error}, Either.{either_takes, either_work}}
+pub use Rattle.run_model.specs.{Machine.{answers}}
+pub use Rattle.service_outline.specs.{Acts.{Cleans, KeepsClean, StandsLow}, Both.{either}, Done.{goes}}
+pub use Rattle.run_model.specs.{Machine.{numbers, tells_error}}
+pub use Rattle.service_outline.specs.{Done.{owed_error}, Either.{either_takes, either_work}}
 pub use Rattle.service_outline.specs.{Fuel.{Shortens}, Outline.{After, AreRight, At, Before, Bodies, CanEnter}}
 pub use Rattle.service_outline.specs.{Outline.{error_in, Is_after, Is_before, Is_served, Is_serving, IsOutlined}}
 pub use Rattle.service_outline.specs.{Outline.{LooksRight, notices_in, Outlined, owes_nothing, RightAt, Served}}
@@ -69,17 +71,19 @@ pub use Rattle.service_outline.specs.laws.{Acts.{never_clean}, Either.{either_ri
 pub use Rattle.service_outline.specs.laws.{Seen.{never_after, never_serving, plain_sees, sees_if}, Sweep.{each_but}}
 pub use Rattle.service_outline.specs.laws.{Words.{stored_other, stored_same, word_later}}
 pub use Rattle.icu_driver.specs.{Bounds.{channel_count, counted, halves, icu_may, is_capture, is_for_lines}}
-pub use Rattle.icu_driver.specs.{Bounds.{is_own_word, is_stamp, may_name, may_write, size_by, size_of, steps_of}}
-pub use Rattle.icu_driver.specs.{Checks.{allows, answer_refused, channel_service, error_by, facts_by, has_notification}}
-pub use Rattle.icu_driver.specs.{Checks.{input_answer, reporting, service_of, suits}, Edges.{beginning_at}}
-pub use Rattle.icu_driver.specs.{Edges.{begins_rising, Edge, ends_rising, is_same, measures as measured_edges}}
-pub use Rattle.icu_driver.specs.{Edges.{measures, newest, up_to, value_of, values, values_by}, Machine.{acts_by, asked}}
-pub use Rattle.icu_driver.specs.{Machine.{by_channel, Capture, capture_at, channel_answer, channel_work, cleared}}
-pub use Rattle.icu_driver.specs.{Machine.{cleared_all, completes, edge_at_pin, edge_queued, edge_taken, handed}}
-pub use Rattle.icu_driver.specs.{Machine.{happens, icu_machine, IcuState, index, index_by, is_full, is_notified, is_on}}
-pub use Rattle.icu_driver.specs.{Machine.{is_taken, kinds_by, moved, notices_of, ready, ready_by, served, served_by}}
-pub use Rattle.icu_driver.specs.{Machine.{served_edge, stamp_in, Start, started, switched, value_or, waits}}
-pub use Rattle.icu_driver.specs.{Machine.{with_capture}, Refinement.{ActiveIs, all_are, Alternate, bare, bare_block}}
+pub use Rattle.icu_machine.specs.{Shown.{size_by, size_of}}
+pub use Rattle.icu_driver.specs.{Bounds.{is_own_word, is_stamp, may_name, may_write, steps_of}}
+pub use Rattle.icu_machine.specs.{Checks.{allows, answer_refused, channel_service, error_by, facts_by, has_notification}}
+pub use Rattle.icu_machine.specs.{Checks.{input_answer, reporting, service_of, suits}, Edges.{beginning_at}}
+pub use Rattle.icu_machine.specs.{Edges.{begins_rising, Edge, ends_rising, is_same, measures as measured_edges}}
+pub use Rattle.icu_machine.specs.{Edges.{measures, newest, up_to, value_of, values, values_by}, Machine.{acts_by, asked}}
+pub use Rattle.icu_machine.specs.{Machine.{by_channel, Capture, capture_at, channel_answer, channel_work, cleared}}
+pub use Rattle.icu_machine.specs.{Machine.{cleared_all, completes, edge_at_pin, edge_queued, edge_taken, handed}}
+pub use Rattle.icu_machine.specs.{Machine.{happens, icu_machine, IcuState, index, index_by, is_full, is_notified, is_on}}
+pub use Rattle.icu_machine.specs.{Machine.{is_taken, kinds_by, moved, notices_of, ready, ready_by, served, served_by}}
+pub use Rattle.icu_machine.specs.{Machine.{served_edge, stamp_in, Start, started, switched, value_or, waits}}
+pub use Rattle.icu_machine.specs.{Machine.{with_capture}}
+pub use Rattle.icu_driver.specs.{Refinement.{ActiveIs, all_are, Alternate, bare, bare_block}}
 pub use Rattle.icu_driver.specs.{Refinement.{behind, CaptureAgrees, ChannelWords, ChoosesAs, chosen, condition_by}}
 pub use Rattle.icu_driver.specs.{Refinement.{counts_edges, emptying, EndsAt, first_of, FitsIcu, half_told, has_lines}}
 pub use Rattle.icu_driver.specs.{Refinement.{HasPlace, HasTurns, icu_ground, icu_owns, IcuRepresents, interval_by}}
@@ -89,21 +93,24 @@ pub use Rattle.icu_driver.specs.{Refinement.{Nothing_seen, only, opening, oppose
 pub use Rattle.icu_driver.specs.{Refinement.{owns_written, seen_by, seen_from, seen_number, seen_with, settled}}
 pub use Rattle.icu_driver.specs.{Refinement.{size_word, Stamped, stamps_edges, StampWords, Start_seen, StartIs}}
 pub use Rattle.icu_driver.specs.{Refinement.{starts_at, state_word, told_by, told_with, unbroken, ValueIs}}
-pub use Rattle.icu_driver.specs.{Refinement.{waiting_value, whole_told}, Requests.{IsSmall}, Table.{channel_of}}
-pub use Rattle.icu_driver.specs.{Table.{channel_of_line, is_counter, is_detection, is_duty_cycle, is_linear}}
-pub use Rattle.icu_driver.specs.{Table.{is_measurement, is_timestamp}, Words.{bit, stamp_word, word}}
-pub use Rattle.icu_driver.specs.{declared.asked.Asked.{Asked}, declared.call.Call.{Call}}
-pub use Rattle.icu_driver.specs.{declared.call.Call.TheVariants.{DeInit, Init}, declared.call.ChannelCall.{ChannelCall}}
-pub use Rattle.icu_driver.specs.{declared.call.ChannelCall.TheVariants.{DisableEdgeCount, DisableEdgeDetection}}
-pub use Rattle.icu_driver.specs.{declared.call.ChannelCall.TheVariants.{DisableNotification, EnableEdgeCount}}
-pub use Rattle.icu_driver.specs.{declared.call.ChannelCall.TheVariants.{EnableEdgeDetection, EnableNotification}}
-pub use Rattle.icu_driver.specs.{declared.call.ChannelCall.TheVariants.{GetDutyCycleValues, GetEdgeNumbers}}
-pub use Rattle.icu_driver.specs.{declared.call.ChannelCall.TheVariants.{GetInputState, GetTimeElapsed}}
-pub use Rattle.icu_driver.specs.{declared.call.ChannelCall.TheVariants.{GetTimestampIndex, ResetEdgeCount}}
-pub use Rattle.icu_driver.specs.{declared.call.ChannelCall.TheVariants.{SetActivationCondition, StartSignalMeasurement}}
-pub use Rattle.icu_driver.specs.{declared.call.ChannelCall.TheVariants.{StartTimestamp, StopSignalMeasurement}}
-pub use Rattle.icu_driver.specs.{declared.call.ChannelCall.TheVariants.{StopTimestamp}}
-pub use Rattle.icu_driver.specs.{declared.driver.Channel.{Channel}, declared.driver.IcuDriver.{IcuDriver}}
+pub use Rattle.icu_machine.specs.{Requests.{IsSmall}, Table.{channel_of}}
+pub use Rattle.icu_driver.specs.{Refinement.{waiting_value, whole_told}}
+pub use Rattle.icu_machine.specs.{Table.{channel_of_line, is_counter, is_detection, is_duty_cycle, is_linear}}
+pub use Rattle.icu_machine.specs.{Table.{is_measurement, is_timestamp}}
+pub use Rattle.icu_driver.specs.{Words.{bit, stamp_word, word}}
+pub use Rattle.icu_machine.specs.{declared.call.Call.{Call}}
+pub use Rattle.icu_driver.specs.{declared.asked.Asked.{Asked}}
+pub use Rattle.icu_machine.specs.{declared.call.Call.TheVariants.{DeInit, Init}, declared.call.ChannelCall.{ChannelCall}}
+pub use Rattle.icu_machine.specs.{declared.call.ChannelCall.TheVariants.{DisableEdgeCount, DisableEdgeDetection}}
+pub use Rattle.icu_machine.specs.{declared.call.ChannelCall.TheVariants.{DisableNotification, EnableEdgeCount}}
+pub use Rattle.icu_machine.specs.{declared.call.ChannelCall.TheVariants.{EnableEdgeDetection, EnableNotification}}
+pub use Rattle.icu_machine.specs.{declared.call.ChannelCall.TheVariants.{GetDutyCycleValues, GetEdgeNumbers}}
+pub use Rattle.icu_machine.specs.{declared.call.ChannelCall.TheVariants.{GetInputState, GetTimeElapsed}}
+pub use Rattle.icu_machine.specs.{declared.call.ChannelCall.TheVariants.{GetTimestampIndex, ResetEdgeCount}}
+pub use Rattle.icu_machine.specs.{declared.call.ChannelCall.TheVariants.{SetActivationCondition, StartSignalMeasurement}}
+pub use Rattle.icu_machine.specs.{declared.call.ChannelCall.TheVariants.{StartTimestamp, StopSignalMeasurement}}
+pub use Rattle.icu_machine.specs.{declared.call.ChannelCall.TheVariants.{StopTimestamp}}
+pub use Rattle.icu_machine.specs.{declared.table.Channel.{Channel}, declared.table.IcuTable.{IcuTable}}
 pub use Rattle.icu_driver.specs.{declared.service.change.ChangeBody.{ChangeBody}}
 pub use Rattle.icu_driver.specs.{declared.service.change.ChangeBody.TheVariants.{Choose, Notify, Take}}
 pub use Rattle.icu_driver.specs.{declared.service.count.CountBody.{CountBody}}
@@ -128,7 +135,8 @@ pub use Rattle.icu_driver.specs.{declared.service.stamp.StampBody.{StampBody}}
 pub use Rattle.icu_driver.specs.{declared.service.stamp.StampBody.TheVariants.{Ask, Empty, On, Started}}
 pub use Rattle.icu_driver.specs.{declared.service.stamp.Stamping.{Stamping}, declared.words.TheConstants.{INTERVALS}}
 pub use Rattle.icu_driver.specs.{declared.words.TheConstants.{MARKS, PLACES, SIZES, STATE, SWITCHES, TIMES, VALUES}}
-pub use Rattle.icu_driver.specs.laws.{Course.{pin_still}, Fresh.{values_none}, Parts.{caught-bare, still}}
+pub use Rattle.icu_driver.specs.laws.{Fresh.{values_none}, Parts.{caught-bare}}
 pub use Rattle.icu_driver.specs.laws.{RefinementRight.{below_test, ground_right, lines_parts, other_line, own_stamp}}
 pub use Rattle.icu_driver.specs.laws.{RefinementRight.{own_word, within as within_eight, within}}
-pub use Rattle.icu_driver.specs.laws.{Tables.{by_channel_at, by_eight, by_if, mark_in, same_marks}}
+pub use Rattle.icu_machine.specs.laws.{Channels.{by_channel_at, by_eight, by_if}, Edges.{pin_still, still}}
+pub use Rattle.icu_driver.specs.laws.{Tables.{mark_in, same_marks}}

@@ -1,10 +1,9 @@
 ghost use Rattle.std.specs.Prelude.{◌≡◌};
-ghost use Rattle.icu_driver.specs.Checks as checks;
-ghost use Rattle.icu_driver.specs.Table as table;
+ghost use Rattle.icu_machine.specs.Checks as checks;
+ghost use Rattle.icu_machine.specs.Table as table;
 ghost use Rattle.icu_driver.specs.laws.Look as spec;
 
-use crate::call::{Call, ChannelCall};
-use crate::driver::{Channel, IcuDriver};
+use crate::driver::IcuDriver;
 use crate::service::change::ChangeBody;
 use crate::service::count::CountBody;
 use crate::service::deinit::DeInitBody;
@@ -16,6 +15,7 @@ use crate::service::stamp::{StampBody, Stamping};
 use crate::service::{self, IcuBody};
 use crate::words::STATE;
 use det_errors::{Facts, first_error};
+use icu_machine::{Call, Channel, ChannelCall};
 use mcal_base::{
     Answer, AnswerName, ErrorName, IcuMeasurementMode, IcuSignalMeasurementProperty, Service,
 };
@@ -85,8 +85,8 @@ impl Asked {
         ensures { result ≡ spec.begun_of self.now }
     {
         match self.call {
-            Call::Init => Looked::Goes(service::init_body(InitBody::Condition(self.driver, 0))),
-            Call::DeInit => Looked::Goes(service::deinit_body(DeInitBody::Store(self.driver))),
+            Call::Init => Looked::Goes(service::init_body(InitBody::Condition(*self.driver, 0))),
+            Call::DeInit => Looked::Goes(service::deinit_body(DeInitBody::Store(*self.driver))),
             Call::Channel(number, call) => match self.driver.channel(number) {
                 Some(channel) => self.begin_at(channel, call),
                 None => let_be(),

@@ -1,9 +1,8 @@
 ghost use Rattle.std.specs.Prelude.{◌≡◌, ◌≤◌};
 ghost use Rattle.icu_driver.specs.Bounds as bounds;
 
-use crate::call::Call;
 use crate::driver::IcuDriver;
-use crate::request;
+use icu_machine::{Call, call_of};
 use mcal_base::{ModuleName, Request, Service};
 use script_runner::Caller;
 
@@ -11,7 +10,7 @@ use script_runner::Caller;
 const MOST_STEPS: u32 = 64;
 
 impl Caller for IcuDriver {
-    ghost use Rattle.icu_driver.specs.Requests.{asked_for, has_service};
+    ghost use Rattle.icu_machine.specs.Requests.{asked_for, has_service};
     ghost use Rattle.icu_driver.specs.laws.Lawful.{slow_captures};
 
     ghost has_service = { λ _. has_service };
@@ -23,7 +22,7 @@ impl Caller for IcuDriver {
     }
 
     fn call(&self, request: &Request) -> Call {
-        request::call_of(request)
+        call_of(request)
     }
 
     fn call_steps(&self, call: &Call) -> u32 {

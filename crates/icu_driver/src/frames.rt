@@ -1,9 +1,9 @@
 use crate::asked::Asked;
-use crate::call::Call;
 use crate::driver::IcuDriver;
 use crate::handler::handler;
 use crate::service::IcuBody;
 use chip_model::Bus;
+use icu_machine::Call;
 use mcal_base::ModuleName;
 use run_model::Class;
 use service_outline::Short;
@@ -17,7 +17,7 @@ pub type IcuFrame = Short<Asked, IcuBody>;
 pub struct IcuMachine;
 
 impl Model for IcuMachine {
-    ghost use Rattle.icu_driver.specs.Machine.{IcuState, first_state};
+    ghost use Rattle.icu_machine.specs.Machine.{IcuState, first_state};
 
     ghost Value = { IcuState };
 

@@ -1,12 +1,12 @@
 ghost use Rattle.std.specs.Prelude.{◌≡◌};
-ghost use Rattle.icu_driver.specs.Table as table;
+ghost use Rattle.icu_machine.specs.Table as table;
 ghost use Rattle.icu_driver.specs.laws.Handler as spec;
 
-use crate::driver::Channel;
 use crate::service::detect::DetectBody;
 use crate::service::keep::{KeepBody, Kept};
 use crate::service::sample::{SampleBody, Sampled};
 use crate::service::{self, IcuBody};
+use icu_machine::Channel;
 use mcal_base::{
     IcuMeasurementMode, IcuSignalMeasurementProperty, IcuStartEdge, IcuTimestampMeasurementProperty,
 };

@@ -1,27 +1,21 @@
-//! The capture driver: its calls and handlers as frames of single steps, what it keeps of a configuration, and the
-//! machine of the capture channels.
+//! The capture driver: its calls and handlers as frames of single steps.
 //!
 //! The capture registers hold gates, waiting edges and counts, and driver words the rest: whether the module is
 //! initialised, the notifications and active marks, how far stamps came, and what a measurement has seen.
 #![tactic(auto)]
 
 mod asked;
-mod call;
 mod caller;
 mod driver;
 mod frames;
 mod handler;
-pub mod laws;
-mod request;
 mod service;
 mod shown;
 mod words;
 
 pub use asked::Asked;
-pub use call::{Call, ChannelCall};
-pub use driver::{Channel, IcuDriver};
+pub use driver::IcuDriver;
 pub use frames::{IcuFrame, IcuMachine};
-pub use request::call_of;
 pub use service::IcuBody;
 pub use service::change::ChangeBody;
 pub use service::count::CountBody;

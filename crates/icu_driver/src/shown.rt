@@ -1,13 +1,14 @@
 ghost use Rattle.std.specs.Prelude.{◌≡◌, ◌<◌};
-ghost use Rattle.icu_driver.specs.Bounds.{size_of};
+ghost use Rattle.icu_machine.specs.Shown.{size_of};
 ghost use Rattle.icu_driver.specs.Refinement.{settled, IcuRepresents};
-ghost use Rattle.icu_driver.specs.Machine.{IcuState};
+ghost use Rattle.icu_machine.specs.Machine.{IcuState};
 ghost use Rattle.icu_driver.specs.laws.Shown as spec;
 ghost use Rattle.run_model.specs.World.{World};
 
-use crate::driver::{Channel, IcuDriver};
+use crate::driver::IcuDriver;
 use crate::words::SIZES;
 use chip_model::Bus;
+use icu_machine::Channel;
 use mcal_base::IcuMeasurementMode;
 
 impl IcuDriver {

@@ -1,20 +1,12 @@
+ghost use Rattle.std.specs.Prelude.{◌≡◌, []};
 ghost use Rattle.config_facts.specs.Valid.{IsValid};
 
+use crate::frames::Frames;
 use crate::sights::Sights;
 use crate::wires::Wire;
-use bench_report::Purpose;
 use live_board::Live;
 use mcal_base::{Config, NoMemory};
 use std::alloc::Global;
-
-/// What a frame was begun for, and its level.
-#[derive(Clone, Copy)]
-pub(crate) struct Begun {
-    /// What it was begun for.
-    pub(crate) purpose: Purpose,
-    /// Its level.
-    pub(crate) level: u32,
-}
 
 /// A driver on the chip, from power on.
 #[derive(Drop)]
@@ -23,8 +15,8 @@ pub(crate) struct Board<B: Sights> {
     pub(crate) config: Config,
     /// The driver on the chip.
     pub(crate) live: Live<B::Driver>,
-    /// The frames under way, the newest last.
-    pub(crate) frames: Vec<Begun>,
+    /// The frames under way.
+    pub(crate) frames: Frames,
     /// What went over the first serial unit's wire.
     pub(crate) first_wire: Wire,
     /// And over the second's.
@@ -40,14 +32,17 @@ impl<B: Sights> Board<B> {
         Ok(Board {
             config,
             live,
-            frames: Vec::new(alloc),
+            frames: Frames::new(alloc),
             first_wire: Wire::new(alloc),
             second_wire: Wire::new(alloc),
         })
     }
 
     /// No frame is there, and nothing went over the wires, since the chip was reset.
-    pub(crate) fn forget(&mut self) {
+    pub(crate) fn forget(&mut self)
+        ensures frames { self.new.frames ≡ [] }
+        ensures live { self.new.live ≡ self.old.live }
+    {
         self.frames.clear();
         self.first_wire.clear();
         self.second_wire.clear();

@@ -3,6 +3,7 @@
 
 mod board;
 mod command;
+mod frames;
 mod lines;
 mod obey;
 mod page;

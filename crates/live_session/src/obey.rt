@@ -1,4 +1,4 @@
-use crate::board::{Begun, Board};
+use crate::board::Board;
 use crate::command::{Command, HELP};
 use crate::page::Page;
 use crate::shows::shown_text;
@@ -24,9 +24,7 @@ fn begin<B: Sights>(
             Ok(false)
         }
         Ok(()) => {
-            if let Some(purpose) = purpose_of(&directive.order) {
-                board.frames.push(Begun { purpose, level })?;
-            }
+            board.frames.begin(purpose_of(&directive.order), level)?;
             Ok(true)
         }
     }

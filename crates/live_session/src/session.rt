@@ -37,8 +37,7 @@ fn write_pending(bus: &Bus, page: &mut Page) -> Result<(), AllocError> {
 fn write_state<B: Sights>(board: &Board<B>, page: &mut Page) -> Result<(), AllocError> {
     let depth = board.live.depth();
     write!(page.text, "> {depth}")?;
-    if let Some(top) = board.frames.last() {
-        let level = top.level;
+    if let Some(level) = board.frames.top_level() {
         write!(page.text, " at {level}")?;
     }
     let bus = board.live.bus();

@@ -1,4 +1,12 @@
+ghost use Rattle.std.specs.Prelude.{◌≡◌, ◌++◌, [], Some, OnOk, drop, length};
+ghost use Rattle.bench_report.specs.Lines.{Restarts};
+ghost use Rattle.bench_report.specs.Report as report;
+ghost use Rattle.live_session.specs.Pages as pages;
+ghost use Rattle.live_session.specs.Steps as spec;
+ghost use Rattle.run_model.specs.Frame as model;
+
 use crate::board::Board;
+use crate::frames::Frames;
 use crate::page::Page;
 use crate::sights::Sights;
 use bench_report::{Line, Purpose};
@@ -58,7 +66,11 @@ pub(crate) fn tell_reset<B: Sights>(
     page: &mut Page,
     reason: Reason,
     dropped: u32,
-) -> Result<(), AllocError> {
+) -> Result<(), AllocError>
+    ensures told { OnOk result (page.new ≡ pages.say page.old (Restarts reason dropped)) }
+    ensures frames { OnOk result (board.new.frames ≡ []) }
+    ensures live { board.new.live ≡ board.old.live }
+{
     board.forget();
     page.say(Line::Restarts(reason, dropped))
 }
@@ -72,12 +84,11 @@ pub(crate) fn tell_refusal(page: &mut Page, refusal: Refusal) -> Result<(), Allo
 }
 
 /// Takes the topmost frame off, and tells of its end.
-fn tell_end<B: Sights>(
-    board: &mut Board<B>,
-    page: &mut Page,
-    answer: &Answer,
-) -> Result<(), AllocError> {
-    match board.frames.pop().map(|begun| begun.purpose) {
+fn tell_end(frames: &mut Frames, page: &mut Page, answer: &Answer) -> Result<(), AllocError>
+    ensures told { OnOk result (page.new ≡ pages.say_all page.old (report.end_lines frames.old (Some answer.now))) }
+    ensures frames { OnOk result (frames.new ≡ drop 1 frames.old) }
+{
+    match frames.end() {
         Some(Purpose::Call(service)) => page.say(Line::Returns(
             service,
             answer.head,
@@ -89,12 +100,9 @@ fn tell_end<B: Sights>(
 }
 
 /// Tells of a step.
-fn tell_step(
-    page: &mut Page,
-    traced: bool,
-    depth: u32,
-    stepped: &Stepped,
-) -> Result<(), AllocError> {
+fn tell_step(page: &mut Page, traced: bool, depth: u32, stepped: &Stepped) -> Result<(), AllocError>
+    ensures { OnOk result (page.new ≡ pages.say_all page.old (report.step_lines traced depth stepped.now ++ report.move_lines stepped.now.made)) }
+{
     if traced {
         page.say(Line::Makes(
             depth,
@@ -111,6 +119,27 @@ fn tell_step(
     }
 }
 
+/// Tells of the topmost frame's end, where a step made it.
+fn end_of(frames: &mut Frames, page: &mut Page, stepped: &Stepped) -> Result<Goes, AllocError>
+    ensures told { OnOk result (page.new ≡ pages.say_all page.old (report.end_lines frames.old stepped.now.ended)) }
+    ensures frames { OnOk result (frames.new ≡ report.frames_after_end frames.old stepped.now.ended) }
+{
+    match &stepped.ended {
+        Some(answer) => {
+            tell_end(frames, page, answer)?;
+            Ok(Goes::Off)
+        }
+        None => Ok(Goes::On),
+    }
+}
+
+/// Whether a move resets the chip.
+fn resets_chip(made: Move) -> bool
+    ensures { result ≡ model.resets_chip made }
+{
+    matches!(made, Move::Write(Reg::ResetRequest, _))
+}
+
 /// Tells of a step that was made, and does what follows it at once.
 fn follow<B: Sights>(
     board: &mut Board<B>,
@@ -118,20 +147,20 @@ fn follow<B: Sights>(
     traced: bool,
     depth: u32,
     stepped: &Stepped,
-) -> Result<Goes, AllocError> {
+) -> Result<Goes, AllocError>
+    ensures told { OnOk result (page.new ≡ pages.say_all page.old (spec.lines_of traced depth board.old.frames (length board.old.live.kept.frames) stepped.now)) }
+    ensures frames { OnOk result (board.new.frames ≡ spec.frames_of board.old.frames stepped.now) }
+{
     board.first_wire.take(0, stepped)?;
     board.second_wire.take(1, stepped)?;
     tell_step(page, traced, depth, stepped)?;
-    if let Some(answer) = &stepped.ended {
-        tell_end(board, page, answer)?;
-        return Ok(Goes::Off);
-    }
-    if matches!(stepped.made, Move::Write(Reg::ResetRequest, _)) {
+    let goes = end_of(&mut board.frames, page, stepped)?;
+    if resets_chip(stepped.made) {
         let dropped = board.live.reset(Reason::Software);
         tell_reset(board, page, Reason::Software, dropped)?;
         return Ok(Goes::Off);
     }
-    Ok(Goes::On)
+    Ok(goes)
 }
 
 /// Waits until the top frame's step may be made, and makes it. Where the watchdog's time ends in the wait no step is made, and
@@ -159,11 +188,11 @@ fn one_step<B: Sights>(
     traced: bool,
     stepped: &mut Stepped,
 ) -> Result<Goes, AllocError> {
-    let ticks = board.live.stall();
+    let ticks = if traced { board.live.stall() } else { 0 };
     let depth = board.live.depth();
     match turn(&mut board.live, rack, stepped) {
         Ok(None) => {
-            if traced && ticks > 0 {
+            if ticks > 0 {
                 page.say(Line::Waits(ticks))?;
             }
             follow(board, page, traced, depth, stepped)

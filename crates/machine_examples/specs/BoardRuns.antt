@@ -9,38 +9,38 @@ use Rattle.run_model.specs.World.{World, world_start, world_after}
 use Rattle.run_model.specs.Machine.{Happening, Moves, Told, Outcome}
 use Rattle.run_model.specs.Frame.{state_by}
 use Rattle.machine_examples.specs.Told.{told_by, acting, serving}
-use Rattle.mcu_driver.specs.Bounds.{shown_words}
-use Rattle.mcu_driver.specs.Machine.{McuState, mcu_machine, first_state as mcu_first}
-use Rattle.mcu_driver.specs.Table.{driver_of as mcu_of}
-use Rattle.mcu_driver.specs.declared.call.Call as mcu_calls
-use Rattle.mcu_driver.specs.declared.call.Call.TheVariants.{InitRamSection, Clock, GetPllStatus}
-use Rattle.mcu_driver.specs.declared.call.ClockCall.TheVariants.{InitClock, DistributePllClock}
-use Rattle.mcu_driver.specs.declared.call.Call.TheVariants as mcu
-use Rattle.mcu_driver.specs.declared.driver.McuDriver.{McuDriver}
-use Rattle.port_driver.specs.Bounds.{shown_levels}
-use Rattle.port_driver.specs.Machine.{PortState, port_machine, first_state as port_first}
-use Rattle.port_driver.specs.Table.{driver_of as port_of}
-use Rattle.port_driver.specs.declared.call.Call as port_calls
-use Rattle.port_driver.specs.declared.call.Call.TheVariants.{RefreshPortDirection, Pin}
-use Rattle.port_driver.specs.declared.call.Call.TheVariants as port
-use Rattle.port_driver.specs.declared.call.PinCall.TheVariants.{SetPinDirection}
-use Rattle.port_driver.specs.declared.driver.PortDriver.{PortDriver}
-use Rattle.gpt_driver.specs.Machine.{GptState, gpt_machine, first_state as gpt_first}
-use Rattle.gpt_driver.specs.Table.{driver_of as gpt_of}
-use Rattle.gpt_driver.specs.declared.call.Call as gpt_calls
-use Rattle.gpt_driver.specs.declared.call.Call.TheVariants.{Channel}
-use Rattle.gpt_driver.specs.declared.call.Call.TheVariants as gpt
-use Rattle.gpt_driver.specs.declared.call.ChannelCall.TheVariants.{GetTimeElapsed, GetTimeRemaining, StartTimer, Change}
-use Rattle.gpt_driver.specs.declared.call.Change.TheVariants.{Notification}
-use Rattle.gpt_driver.specs.declared.driver.GptDriver.{GptDriver}
+use Rattle.mcu_machine.specs.Shown.{shown_words}
+use Rattle.mcu_machine.specs.Machine.{McuState, mcu_machine, first_state as mcu_first}
+use Rattle.mcu_machine.specs.Table.{table_of as mcu_of}
+use Rattle.mcu_machine.specs.declared.call.Call as mcu_calls
+use Rattle.mcu_machine.specs.declared.call.Call.TheVariants.{InitRamSection, Clock, GetPllStatus}
+use Rattle.mcu_machine.specs.declared.call.ClockCall.TheVariants.{InitClock, DistributePllClock}
+use Rattle.mcu_machine.specs.declared.call.Call.TheVariants as mcu
+use Rattle.mcu_machine.specs.declared.table.McuTable.{McuTable}
+use Rattle.port_machine.specs.Shown.{shown_levels}
+use Rattle.port_machine.specs.Machine.{PortState, port_machine, first_state as port_first}
+use Rattle.port_machine.specs.Table.{table_of as port_of}
+use Rattle.port_machine.specs.declared.call.Call as port_calls
+use Rattle.port_machine.specs.declared.call.Call.TheVariants.{RefreshPortDirection, Pin}
+use Rattle.port_machine.specs.declared.call.Call.TheVariants as port
+use Rattle.port_machine.specs.declared.call.PinCall.TheVariants.{SetPinDirection}
+use Rattle.port_machine.specs.declared.table.PortTable.{PortTable}
+use Rattle.gpt_machine.specs.Machine.{GptState, gpt_machine, first_state as gpt_first}
+use Rattle.gpt_machine.specs.Table.{table_of as gpt_of}
+use Rattle.gpt_machine.specs.declared.call.Call as gpt_calls
+use Rattle.gpt_machine.specs.declared.call.Call.TheVariants.{Channel}
+use Rattle.gpt_machine.specs.declared.call.Call.TheVariants as gpt
+use Rattle.gpt_machine.specs.declared.call.ChannelCall.TheVariants.{GetTimeElapsed, GetTimeRemaining, StartTimer, Change}
+use Rattle.gpt_machine.specs.declared.call.Change.TheVariants.{Notification}
+use Rattle.gpt_machine.specs.declared.table.GptTable.{GptTable}
 
 -- ---- boards
 
 -- A board of clock, pins and timers.
 pub record Board : Type 0 where
-  pub clock : McuDriver
-  pub pins : PortDriver
-  pub timers : GptDriver
+  pub clock : McuTable
+  pub pins : PortTable
+  pub timers : GptTable
 
 -- a setting of 4, a RAM section of two words, a pin that is out and high and may change its direction, one that is in, and a continuous timer
 abbrev pub small_board : Board

@@ -7,19 +7,19 @@ use Rattle.mcal_base.specs.declared.config.icu.IcuTimestampMeasurementProperty.T
 use Rattle.mcal_base.specs.declared.directive.Reason.TheVariants.{PowerOn}
 use Rattle.run_model.specs.Machine.{Happening, Restarts, Told}
 use Rattle.machine_examples.specs.Told.{told, state_after, ticks, pin, acting, serving}
-use Rattle.icu_driver.specs.Bounds.{stamp_at, size_of}
-use Rattle.icu_driver.specs.Machine.{icu_machine, first_state}
-use Rattle.icu_driver.specs.Table.{driver_of}
-use Rattle.icu_driver.specs.declared.call.Call.{Call}
-use Rattle.icu_driver.specs.declared.call.Call.TheVariants.{Init, DeInit, Channel}
-use Rattle.icu_driver.specs.declared.call.ChannelCall.TheVariants.{SetActivationCondition, EnableNotification, DisableNotification, GetInputState, EnableEdgeDetection, DisableEdgeDetection, ResetEdgeCount, EnableEdgeCount, DisableEdgeCount, GetEdgeNumbers, StartTimestamp, StopTimestamp, GetTimestampIndex, StartSignalMeasurement, StopSignalMeasurement, GetTimeElapsed, GetDutyCycleValues}
-use Rattle.icu_driver.specs.declared.driver.IcuDriver.{IcuDriver}
+use Rattle.icu_machine.specs.Shown.{stamp_at, size_of}
+use Rattle.icu_machine.specs.Machine.{icu_machine, first_state}
+use Rattle.icu_machine.specs.Table.{table_of}
+use Rattle.icu_machine.specs.declared.call.Call.{Call}
+use Rattle.icu_machine.specs.declared.call.Call.TheVariants.{Init, DeInit, Channel}
+use Rattle.icu_machine.specs.declared.call.ChannelCall.TheVariants.{SetActivationCondition, EnableNotification, DisableNotification, GetInputState, EnableEdgeDetection, DisableEdgeDetection, ResetEdgeCount, EnableEdgeCount, DisableEdgeCount, GetEdgeNumbers, StartTimestamp, StopTimestamp, GetTimestampIndex, StartSignalMeasurement, StopSignalMeasurement, GetTimeElapsed, GetDutyCycleValues}
+use Rattle.icu_machine.specs.declared.table.IcuTable.{IcuTable}
 
 -- ---- boards
 
 -- timestamps of both edges of pin 1 in a linear buffer, the duty cycle of pin 2, a counter and a detection at pin 1
-abbrev pub mixed_board : IcuDriver
-mixed_board = driver_of (record {
+abbrev pub mixed_board : IcuTable
+mixed_board = table_of (record {
   dev_error_detect = true;
   classification = 1;
   channels =
@@ -31,8 +31,8 @@ mixed_board = driver_of (record {
 })
 
 -- the high time, the low time and the period from falling edges of pin 0, and timestamps of its rising edges in a circular buffer
-abbrev pub times_board : IcuDriver
-times_board = driver_of (record {
+abbrev pub times_board : IcuTable
+times_board = table_of (record {
   dev_error_detect = true;
   classification = 1;
   channels =
@@ -44,8 +44,8 @@ times_board = driver_of (record {
 })
 
 -- the duty cycle of pin 0 with falling start edges, and its period with both edges as start edges
-abbrev pub start_edges_board : IcuDriver
-start_edges_board = driver_of (record {
+abbrev pub start_edges_board : IcuTable
+start_edges_board = table_of (record {
   dev_error_detect = true;
   classification = 1;
   channels =
@@ -55,8 +55,8 @@ start_edges_board = driver_of (record {
 })
 
 -- a detection, a counter, timestamps and a high time, each without the notification that is for it
-abbrev pub plain_board : IcuDriver
-plain_board = driver_of (record {
+abbrev pub plain_board : IcuTable
+plain_board = table_of (record {
   dev_error_detect = true;
   classification = 1;
   channels =
@@ -67,14 +67,14 @@ plain_board = driver_of (record {
       ∷ [];
 })
 
-abbrev pub told_on : IcuDriver → List (Happening Call) → List (Option Told)
+abbrev pub told_on : IcuTable → List (Happening Call) → List (Option Told)
 told_on d hs = told (icu_machine d) first_state hs
 
 -- the first eight places of a channel's stamps after a run
-abbrev pub stamps_after : IcuDriver → List (Happening Call) → (channel : ℕ) → List ℕ
+abbrev pub stamps_after : IcuTable → List (Happening Call) → (channel : ℕ) → List ℕ
 stamps_after d hs c = map (λ i. stamp_at (state_after (icu_machine d) first_state hs) c i) (0 ∷ 1 ∷ 2 ∷ 3 ∷ 4 ∷ 5 ∷ 6 ∷ 7 ∷ [])
 
-abbrev pub size_after : IcuDriver → List (Happening Call) → (channel : ℕ) → Option ℕ
+abbrev pub size_after : IcuTable → List (Happening Call) → (channel : ℕ) → Option ℕ
 size_after d hs c = size_of (state_after (icu_machine d) first_state hs) c
 
 -- ---- what happens

@@ -5,17 +5,18 @@ use Rattle.mcal_base.specs.declared.module_name.ModuleName.TheVariants as module
 use Rattle.run_model.specs.declared.class.Tag.{Tag}
 use Rattle.run_model.specs.Machine.{Happening, Restarts, Told}
 use Rattle.machine_examples.specs.Told.{told, state_after, time_after, ticks, acting}
-use Rattle.mcu_driver.specs.Bounds.{class_of, section_words}
-use Rattle.mcu_driver.specs.Machine.{mcu_machine, first_state}
-use Rattle.mcu_driver.specs.Table.{driver_of, section_of}
-use Rattle.mcu_driver.specs.declared.call.Call.{Call}
-use Rattle.mcu_driver.specs.declared.call.Call.TheVariants.{Init, InitRamSection, Clock, GetPllStatus, GetResetReason, PerformReset, SetMode}
-use Rattle.mcu_driver.specs.declared.call.ClockCall.TheVariants.{InitClock, DistributePllClock}
-use Rattle.mcu_driver.specs.declared.driver.McuDriver.{McuDriver}
+use Rattle.mcu_machine.specs.Classes.{class_of}
+use Rattle.mcu_machine.specs.Shown.{section_words}
+use Rattle.mcu_machine.specs.Machine.{mcu_machine, first_state}
+use Rattle.mcu_machine.specs.Table.{table_of, section_of}
+use Rattle.mcu_machine.specs.declared.call.Call.{Call}
+use Rattle.mcu_machine.specs.declared.call.Call.TheVariants.{Init, InitRamSection, Clock, GetPllStatus, GetResetReason, PerformReset, SetMode}
+use Rattle.mcu_machine.specs.declared.call.ClockCall.TheVariants.{InitClock, DistributePllClock}
+use Rattle.mcu_machine.specs.declared.table.McuTable.{McuTable}
 
 -- a setting of 4, mode 0, and two RAM sections of two words
-abbrev pub clock_board : McuDriver
-clock_board = driver_of (record {
+abbrev pub clock_board : McuTable
+clock_board = table_of (record {
   dev_error_detect = true;
   clock_settings = record { id = 0; multiplier = 4 } ∷ [];
   modes = record { mode = 0 } ∷ [];
@@ -25,15 +26,15 @@ clock_board = driver_of (record {
 -- ---- what is told
 
 -- from power on
-abbrev pub told_on : McuDriver → List (Happening Call) → List (Option Told)
+abbrev pub told_on : McuTable → List (Happening Call) → List (Option Told)
 told_on d hs = told (mcu_machine d) first_state hs
 
 -- the words of a RAM section after a run
-abbrev pub words_after : McuDriver → List (Happening Call) → ℕ → List ℕ
+abbrev pub words_after : McuTable → List (Happening Call) → ℕ → List ℕ
 words_after d hs n = section_words (section_of d n) (state_after (mcu_machine d) first_state hs)
 
 -- the peripheral time after a run
-abbrev pub time_on : McuDriver → List (Happening Call) → ℕ
+abbrev pub time_on : McuTable → List (Happening Call) → ℕ
 time_on d hs = time_after (mcu_machine d) first_state hs
 
 -- the frame of a call of level 0

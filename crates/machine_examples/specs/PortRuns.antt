@@ -7,17 +7,17 @@ use Rattle.mcal_base.specs.declared.module_name.ModuleName.TheVariants as module
 use Rattle.run_model.specs.declared.class.Tag.{Tag}
 use Rattle.run_model.specs.Machine.{Happening, Restarts, Told}
 use Rattle.machine_examples.specs.Told.{told, seen, pin, acting}
-use Rattle.port_driver.specs.Bounds.{class_of}
-use Rattle.port_driver.specs.Machine.{port_machine, first_state, level_at}
-use Rattle.port_driver.specs.Table.{driver_of}
-use Rattle.port_driver.specs.declared.call.Call.{Call}
-use Rattle.port_driver.specs.declared.call.Call.TheVariants.{Init, RefreshPortDirection, Pin}
-use Rattle.port_driver.specs.declared.call.PinCall.TheVariants.{SetPinDirection, SetPinMode}
-use Rattle.port_driver.specs.declared.driver.PortDriver.{PortDriver}
+use Rattle.port_machine.specs.Classes.{class_of}
+use Rattle.port_machine.specs.Machine.{port_machine, first_state, level_at}
+use Rattle.port_machine.specs.Table.{table_of}
+use Rattle.port_machine.specs.declared.call.Call.{Call}
+use Rattle.port_machine.specs.declared.call.Call.TheVariants.{Init, RefreshPortDirection, Pin}
+use Rattle.port_machine.specs.declared.call.PinCall.TheVariants.{SetPinDirection, SetPinMode}
+use Rattle.port_machine.specs.declared.table.PortTable.{PortTable}
 
 -- pin 3 is out and high and may change its direction, pin 40 may change its mode between two, and is a pulse output at first
-abbrev pub pin_board : PortDriver
-pin_board = driver_of (record {
+abbrev pub pin_board : PortTable
+pin_board = table_of (record {
   dev_error_detect = true;
   pins =
       record { id = 40; direction = Out; direction_changeable = false; initial_mode = Pwm; modes = Dio ∷ Pwm ∷ []; mode_changeable = true; level_high = true }
@@ -28,11 +28,11 @@ pin_board = driver_of (record {
 -- ---- what is told and shown
 
 -- from power on
-abbrev pub told_on : PortDriver → List (Happening Call) → List (Option Told)
+abbrev pub told_on : PortTable → List (Happening Call) → List (Option Told)
 told_on d hs = told (port_machine d) first_state hs
 
 -- the level of a pin after each happening, with the output of the pulse channel that names it
-abbrev pub levels : PortDriver → List (Happening Call) → ℕ → Option Bool → List Bool
+abbrev pub levels : PortTable → List (Happening Call) → ℕ → Option Bool → List Bool
 levels d hs p pulse = seen (port_machine d) first_state (λ w s. level_at w s p pulse) hs
 
 -- the frame of a call of level 0

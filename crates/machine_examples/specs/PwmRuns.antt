@@ -10,15 +10,15 @@ use Rattle.run_model.specs.World.{world_start}
 use Rattle.run_model.specs.Machine.{Happening, Acts, Restarts, Told}
 use Rattle.mcal_base.specs.declared.directive.Reason.TheVariants.{PowerOn}
 use Rattle.machine_examples.specs.Told.{told, left_from, ticks, acting, serving}
-use Rattle.pwm_driver.specs.Bounds.{class_of}
-use Rattle.pwm_driver.specs.Machine.{pwm_machine, first_state, level_at}
-use Rattle.pwm_driver.specs.Table.{driver_of}
-use Rattle.pwm_driver.specs.declared.call.Call.{Call}
-use Rattle.pwm_driver.specs.declared.call.Call.TheVariants.{Init, DeInit, GetOutputState, Channel}
-use Rattle.pwm_driver.specs.declared.call.ChannelCall.{ChannelCall}
-use Rattle.pwm_driver.specs.declared.call.ChannelCall.TheVariants.{SetDutyCycle, SetPeriodAndDuty, SetOutputToIdle, EnableNotification, DisableNotification}
-use Rattle.pwm_driver.specs.declared.call.PwmEdge.TheVariants.{Rising, Falling, Both}
-use Rattle.pwm_driver.specs.declared.driver.PwmDriver.{PwmDriver}
+use Rattle.pwm_machine.specs.Classes.{class_of}
+use Rattle.pwm_machine.specs.Machine.{pwm_machine, first_state, level_at}
+use Rattle.pwm_machine.specs.Table.{table_of}
+use Rattle.pwm_machine.specs.declared.call.Call.{Call}
+use Rattle.pwm_machine.specs.declared.call.Call.TheVariants.{Init, DeInit, GetOutputState, Channel}
+use Rattle.pwm_machine.specs.declared.call.ChannelCall.{ChannelCall}
+use Rattle.pwm_machine.specs.declared.call.ChannelCall.TheVariants.{SetDutyCycle, SetPeriodAndDuty, SetOutputToIdle, EnableNotification, DisableNotification}
+use Rattle.pwm_machine.specs.declared.call.PwmEdge.TheVariants.{Rising, Falling, Both}
+use Rattle.pwm_machine.specs.declared.table.PwmTable.{PwmTable}
 
 -- ---- boards
 
@@ -27,33 +27,33 @@ abbrev pub first_channel : PwmChannelClass → (period : ℕ) → (notification 
 first_channel class period notification = record { id = 0; class = class; duty_cycle_default = 16384; idle_state = Low; polarity = High; notification = notification; period_ticks = period; pin = None; level = 1 }
 
 -- it alone
-abbrev pub board_of : PwmChannelClass → (period : ℕ) → (notification : Bool) → PwmDriver
-board_of class period notification = driver_of (record { dev_error_detect = true; channels = first_channel class period notification ∷ [] })
+abbrev pub board_of : PwmChannelClass → (period : ℕ) → (notification : Bool) → PwmTable
+board_of class period notification = table_of (record { dev_error_detect = true; channels = first_channel class period notification ∷ [] })
 
 -- a channel of a variable period of 10 without a notification, one with it, and one of a fixed period of 1000
-abbrev pub plain_board : PwmDriver
+abbrev pub plain_board : PwmTable
 plain_board = board_of VariablePeriod 10 false
 
-abbrev pub notifying_board : PwmDriver
+abbrev pub notifying_board : PwmTable
 notifying_board = board_of VariablePeriod 10 true
 
-abbrev pub fixed_board : PwmDriver
+abbrev pub fixed_board : PwmTable
 fixed_board = board_of FixedPeriod 1000 false
 
 -- the second of these, and channel 3 of a variable period of 4 and a quarter of duty, idle at high, with low polarity and a notification
-abbrev pub two_channels : PwmDriver
-two_channels = driver_of (record {
+abbrev pub two_channels : PwmTable
+two_channels = table_of (record {
   dev_error_detect = true;
   channels =
       first_channel VariablePeriod 10 true
       ∷ record { id = 3; class = VariablePeriod; duty_cycle_default = 8192; idle_state = High; polarity = Low; notification = true; period_ticks = 4; pin = None; level = 1 } ∷ [];
 })
 
-abbrev pub told_on : PwmDriver → List (Happening Call) → List (Option Told)
+abbrev pub told_on : PwmTable → List (Happening Call) → List (Option Told)
 told_on d hs = told (pwm_machine d) first_state hs
 
 -- the output of a channel after a run
-abbrev pub level_after : PwmDriver → List (Happening Call) → ℕ → Bool
+abbrev pub level_after : PwmTable → List (Happening Call) → ℕ → Bool
 level_after d hs c = left_from (pwm_machine d) (λ w s. level_at d w s c) (world_start 0) first_state hs
 
 -- the frame of a call of level 0, and that of a handler of level 1

@@ -9,7 +9,7 @@ use Rattle.mcal_base.specs.declared.notice.NoticeKind.{NoticeKind}
 use Rattle.run_model.specs.World.{World, world_start, world_after}
 use Rattle.run_model.specs.Machine.{Happening, Acts, Serves, Moves, Told, Begun, Outcome, Machine, no_answer, tells_nothing}
 use Rattle.run_model.specs.Frame.{begun_by, state_by}
-use Rattle.service_outline.specs.Done as done
+use Rattle.run_model.specs.Machine as done
 
 -- ---- runs
 

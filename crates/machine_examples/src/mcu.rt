@@ -5,9 +5,9 @@ ghost use Rattle.irq_control.specs.declared.held.Held.TheVariants.{Masked, Reent
 ghost use Rattle.mcal_base.specs.declared.answer_name.AnswerName.TheVariants.{EOk, ENotOk, McuPllLocked, McuPllUnlocked, McuPllStatusUndefined, McuPowerOnReset, McuWatchdogReset, McuSwReset, McuResetUndefined};
 ghost use Rattle.mcal_base.specs.declared.error_name.ErrorName.TheVariants.{McuUninit, McuParamRamsection, McuParamClock, McuPllNotLocked, McuParamMode};
 ghost use Rattle.run_model.specs.Causes.{call_cause};
-ghost use Rattle.mcu_driver.specs.Bounds.{class_of};
-ghost use Rattle.mcu_driver.specs.declared.call.Call.TheVariants.{Init, InitRamSection, Clock, GetResetReason, PerformReset, SetMode};
-ghost use Rattle.mcu_driver.specs.declared.call.ClockCall.TheVariants.{InitClock, DistributePllClock};
+ghost use Rattle.mcu_machine.specs.Classes.{class_of};
+ghost use Rattle.mcu_machine.specs.declared.call.Call.TheVariants.{Init, InitRamSection, Clock, GetResetReason, PerformReset, SetMode};
+ghost use Rattle.mcu_machine.specs.declared.call.ClockCall.TheVariants.{InitClock, DistributePllClock};
 ghost use Rattle.machine_examples.specs.Told.{silence, named, refused, refused_named};
 ghost use Rattle.machine_examples.specs.McuRuns.{clock_board, told_on, words_after, time_on, tag_of, clock_run, restart_run, second_init_run, watchdog_run, software_run, refused_run};
 

@@ -5,9 +5,9 @@ ghost use Rattle.irq_control.specs.declared.held.Held.TheVariants.{Reentry};
 ghost use Rattle.mcal_base.specs.declared.config.port.PortPinDirection.TheVariants.{In};
 ghost use Rattle.mcal_base.specs.declared.error_name.ErrorName.TheVariants.{PortUninit, PortParamPin, PortDirectionUnchangeable, PortParamInvalidMode, PortModeUnchangeable};
 ghost use Rattle.run_model.specs.Causes.{call_cause};
-ghost use Rattle.port_driver.specs.Bounds.{class_of};
-ghost use Rattle.port_driver.specs.declared.call.Call.TheVariants.{Init, RefreshPortDirection, Pin};
-ghost use Rattle.port_driver.specs.declared.call.PinCall.TheVariants.{SetPinDirection, SetPinMode};
+ghost use Rattle.port_machine.specs.Classes.{class_of};
+ghost use Rattle.port_machine.specs.declared.call.Call.TheVariants.{Init, RefreshPortDirection, Pin};
+ghost use Rattle.port_machine.specs.declared.call.PinCall.TheVariants.{SetPinDirection, SetPinMode};
 ghost use Rattle.machine_examples.specs.Told.{silence, refused};
 ghost use Rattle.machine_examples.specs.PortRuns.{pin_board, told_on, levels, tag_of, direction_run, mode_run, refused_run};
 

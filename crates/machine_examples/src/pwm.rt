@@ -6,9 +6,9 @@ ghost use Rattle.mcal_base.specs.declared.answer_name.AnswerName.TheVariants.{Pw
 ghost use Rattle.mcal_base.specs.declared.error_name.ErrorName.TheVariants.{PwmAlreadyInitialized, PwmUninit, PwmParamChannel, PwmPeriodUnchangeable};
 ghost use Rattle.mcal_base.specs.declared.notice.NoticeKind.TheVariants.{PwmNotification};
 ghost use Rattle.run_model.specs.Causes.{call_cause};
-ghost use Rattle.pwm_driver.specs.Bounds.{class_of};
-ghost use Rattle.pwm_driver.specs.declared.call.Call.TheVariants.{Init, DeInit, GetOutputState, Channel};
-ghost use Rattle.pwm_driver.specs.declared.call.ChannelCall.TheVariants.{SetDutyCycle, SetOutputToIdle, DisableNotification};
+ghost use Rattle.pwm_machine.specs.Classes.{class_of};
+ghost use Rattle.pwm_machine.specs.declared.call.Call.TheVariants.{Init, DeInit, GetOutputState, Channel};
+ghost use Rattle.pwm_machine.specs.declared.call.ChannelCall.TheVariants.{SetDutyCycle, SetOutputToIdle, DisableNotification};
 ghost use Rattle.machine_examples.specs.Told.{silence, named, noted, forbidden, refused, refused_named};
 ghost use Rattle.machine_examples.specs.PwmRuns.{plain_board, notifying_board, fixed_board, told_on, duties_run, period_end_run, notified_run, acts_change_run, takes_over_run, dropped_run, committed_run, refusals_run, fixed_run, two_channels, level_after, two_channels_run, begun_again_run, taken_over_run, in_place_run, kept_mark_run, both_ways_run, tag_of, handler_tag};
 

@@ -1,10 +1,11 @@
 //! The bench program: standard input, standard output and the words of the command line.
 #![tactic(auto)]
 
-ghost use Rattle.std.specs.Prelude.{◌≡◌, ◌≢◌, ◌≤◌, [], map, string_bytes};
+ghost use Rattle.std.specs.Prelude.{◌≡◌, ◌≢◌, ◌≤◌, [], map, string_bytes, vec_len};
 ghost use Rattle.std.specs.Io.KnownBytes.{Appends};
 ghost use Rattle.std.specs.Option.{IfSome};
 ghost use Rattle.std.specs.Process.{exit_status};
+ghost use Rattle.bench_top.specs.Calls.{stream_of};
 ghost use Rattle.bench_top.specs.Judged.{judged};
 ghost use Rattle.bench_top.specs.Words.{form_of};
 ghost use Rattle.mcal_base.specs.Causes.{Rose};
@@ -32,6 +33,27 @@ fn words(rt: &HostRuntime) -> Result<Vec<String>, NoMemory> {
     }
 }
 
+/// Has the bench do what the words ask for, with the two devices of a rack, and ends as it ends.
+fn ended_on<S: Source, K: Sink>(
+    alloc: Global,
+    words: &[String],
+    input: &mut S,
+    out: &mut K,
+    rack: &mut Vec<Box<dyn SerialDevice>>,
+) -> ExitCode
+    requires { vec_len rack.old ≡ 2 }
+    ensures exact { exit_status result ≢ 2 → exit_status result ≢ 3 → exit_status result ≢ 4 → IfSome (S.left input.old) (λ bytes.
+        HasEnded 2 (judged (form_of (map string_bytes words.now)) bytes) (exit_status result) (stream_of K.taken K.faults out.old out.new)) }
+    ensures on_some { exit_status result ≢ 2 → exit_status result ≢ 3 → exit_status result ≢ 4 →
+        HasEndedOnSome 2 (form_of (map string_bytes words.now)) (exit_status result) (stream_of K.taken K.faults out.old out.new) }
+    ensures known { exit_status result ≤ 7 }
+    ensures read { exit_status result ≡ 2 → Rose (S.faults input.old) (S.faults input.new) }
+    ensures write { exit_status result ≡ 3 → Rose (K.faults out.old) (K.faults out.new) }
+    ensures nothing { exit_status result ≡ 4 → Appends (K.taken out.old) (K.taken out.new) [] }
+{
+    ExitCode::from(bench(alloc, words, input, out, rack).status)
+}
+
 /// Has the bench do what the words ask for, with two devices, of which the first answers each word's complement and the
 /// second the word that it was sent before. It ends as the bench ends, and with 4 too where memory for the devices is
 /// wanting.
@@ -43,9 +65,10 @@ fn ended<S: Source, K: Sink>(
 ) -> ExitCode
     // Where no fault was met and memory was found, the status and the output are those of the definition, on two devices.
     ensures exact { exit_status result ≢ 2 → exit_status result ≢ 3 → exit_status result ≢ 4 → IfSome (S.left input.old) (λ bytes.
-        HasEnded 2 (judged (form_of (map string_bytes words.now)) bytes) (exit_status result) (K.taken out.old) (K.taken out.new)) }
+        HasEnded 2 (judged (form_of (map string_bytes words.now)) bytes) (exit_status result) (stream_of K.taken K.faults out.old out.new)) }
     // Whatever the source tells of its bytes, it ends as it is to end on some bytes.
-    ensures on_some { exit_status result ≢ 2 → exit_status result ≢ 3 → exit_status result ≢ 4 → HasEndedOnSome 2 (form_of (map string_bytes words.now)) (exit_status result) (K.taken out.old) (K.taken out.new) }
+    ensures on_some { exit_status result ≢ 2 → exit_status result ≢ 3 → exit_status result ≢ 4 →
+        HasEndedOnSome 2 (form_of (map string_bytes words.now)) (exit_status result) (stream_of K.taken K.faults out.old out.new) }
     // There are no other statuses.
     ensures known { exit_status result ≤ 7 }
     // A fault of the source, one of the sink, and want of memory, where nothing is written.
@@ -63,7 +86,7 @@ fn ended<S: Source, K: Sink>(
     if rack.push(complement).is_err() || rack.push(echo).is_err() {
         return ExitCode::from(4);
     }
-    ExitCode::from(bench(alloc, words, input, out, &mut rack).status)
+    ended_on(alloc, words, input, out, &mut rack)
 }
 
 fn main(rt: HostRuntime) -> ExitCode {

@@ -23,31 +23,31 @@ use Rattle.step_runner.specs.Union.{first_origins, second_origins, has_handler, 
 use Rattle.step_runner.specs.Whose.{only, all_of, is_of, module_of_word, KeepsTo, NamesOthers}
 use Rattle.guest_runner.specs.Guest.{keeps_off, IsPlaced, LetsIn, Hosts}
 use Rattle.guest_runner.specs.LetsLaws.{OwnsNone, lets-first, lets-second, lets-fewer, lets-same, off-first, off-second}
-use Rattle.mcu_driver.specs.Table as clock_table
+use Rattle.mcu_machine.specs.Table as clock_table
 use Rattle.mcu_driver.specs.laws.Lawful as clock_laws
 use Rattle.mcu_driver.specs.laws.Lawful.{mcu}
-use Rattle.wdg_driver.specs.Table as watchdog_table
+use Rattle.wdg_machine.specs.Table as watchdog_table
 use Rattle.wdg_driver.specs.laws.Lawful as watchdog_laws
 use Rattle.wdg_driver.specs.laws.Lawful.{wdg}
 use Rattle.port_driver.specs.Bounds.{is_alone, port_setting, PinsAgree}
-use Rattle.port_driver.specs.Machine.{Inverted, with_change}
-use Rattle.port_driver.specs.Table as pin_table
-use Rattle.port_driver.specs.declared.call.Call as pin_calls
-use Rattle.port_driver.specs.declared.call.Call.TheVariants as pin_call
-use Rattle.port_driver.specs.declared.driver.PortDriver.{PortDriver}
+use Rattle.port_machine.specs.Machine.{Inverted, with_change}
+use Rattle.port_machine.specs.Table as pin_table
+use Rattle.port_machine.specs.declared.call.Call as pin_calls
+use Rattle.port_machine.specs.declared.call.Call.TheVariants as pin_call
+use Rattle.port_machine.specs.declared.table.PortTable.{PortTable}
 use Rattle.port_driver.specs.laws.Guests.{flip_agrees, guest_state, lets_in, pins_let}
 use Rattle.dio_driver.specs.Fits as port_fits
 use Rattle.dio_driver.specs.Guest.{dio_may, state_after, SeesPins}
-use Rattle.dio_driver.specs.Table.{FitsDio}
-use Rattle.dio_driver.specs.Table as port_table
+use Rattle.dio_machine.specs.Table.{FitsDio}
+use Rattle.dio_machine.specs.Table as port_table
 use Rattle.dio_driver.specs.declared.frame.TheConstants.{NOWHERE}
-use Rattle.gpt_driver.specs.Table as timer_table
+use Rattle.gpt_machine.specs.Table as timer_table
 use Rattle.gpt_driver.specs.laws.Lawful as timer_laws
 use Rattle.gpt_driver.specs.laws.Lawful.{gpt}
 use Rattle.pwm_driver.specs.Bounds.{OutputsAgree}
-use Rattle.pwm_driver.specs.Table as pulse_table
+use Rattle.pwm_machine.specs.Table as pulse_table
 use Rattle.pwm_driver.specs.laws.Lawful as pulse_laws
-use Rattle.icu_driver.specs.Table as capture_table
+use Rattle.icu_machine.specs.Table as capture_table
 use Rattle.icu_driver.specs.laws.Lawful as capture_laws
 use Rattle.icu_driver.specs.laws.Lawful.{icu}
 use Rattle.adc_driver.specs.laws.bookkeeping.Joined.{joined_lawful as converters_lawful}
@@ -85,12 +85,12 @@ let_in _ e = absurd (cc)
 -- ---- what keeps it off
 
 -- a frame of a call about all pins, and no other
-alone_by : (d : PortDriver) (c : pin_calls.Call) → keeps_off (port_setting d) Port (Called c) ≡ is_alone (Called c)
+alone_by : (d : PortTable) (c : pin_calls.Call) → keeps_off (port_setting d) Port (Called c) ≡ is_alone (Called c)
 alone_by d pin_call.Init = refl
 alone_by d pin_call.RefreshPortDirection = refl
 alone_by d (pin_call.Pin p call) = refl
 
-alone : (d : PortDriver) (os : List (Origin pin_calls.Call)) → list_any (keeps_off (port_setting d) Port) os ≡ list_any is_alone os
+alone : (d : PortTable) (os : List (Origin pin_calls.Call)) → list_any (keeps_off (port_setting d) Port) os ≡ list_any is_alone os
 alone d [] = refl
 alone d (Called c ∷ os) = ap (λ b. b || list_any (keeps_off (port_setting d) Port) os) (alone_by d c) ∙ ap (λ b. is_alone (Called c) || b) (alone d os)
 alone d (Entered l ∷ os) = alone d os
@@ -101,7 +101,7 @@ sound_groups : (x : PortConfig) (g : DioConfig) → IsDio x g → All port_fits.
 sound_groups x g v = λ k d lt. let few = (v.tables.groups.each k d lt).port.most in omega (arith, few)
 
 module _ (c : Config) (v : IsValid c) (devices : ℕ) where
-  pub ports_fit : FitsDio (port_table.driver_of c.port c.dio)
+  pub ports_fit : FitsDio (port_table.table_of c.port c.dio)
   ports_fit = port_fits.fits_of c.port c.dio (sound_groups c.port c.dio v.dio)
 
   -- ---- the guest is let in
@@ -109,40 +109,40 @@ module _ (c : Config) (v : IsValid c) (devices : ℕ) where
   timed_lets : LetsIn (union_of (pins c) (timers c)) Port dio_may (λ made s. (guest_state made s.0, s.1))
   timed_lets =
       let ready = timers_ready c v devices in
-      lets-first (pins c) (timers c) Port dio_may guest_state (short_lawful (gpt (timer_table.driver_of c.gpt)) (timer_laws.lawful (timer_table.driver_of c.gpt) ready.fits)) (free_of (only Gpt) (timers c) ready.keeps refl refl)
-      (lets-fewer (pins c) Port lets_in guest_state (pins_let (pin_table.driver_of c.port)) dio_may let_in)
+      lets-first (pins c) (timers c) Port dio_may guest_state (short_lawful (gpt (timer_table.table_of c.gpt)) (timer_laws.lawful (timer_table.table_of c.gpt) ready.fits)) (free_of (only Gpt) (timers c) ready.keeps refl refl)
+      (lets-fewer (pins c) Port lets_in guest_state (pins_let (pin_table.table_of c.port)) dio_may let_in)
 
   firsts_let : LetsIn (union_of (union_of (clock c) (watchdog c)) (union_of (pins c) (timers c))) Port dio_may (λ made s. (s.0, (guest_state made s.1.0, s.1.1)))
   firsts_let =
       let ready = watched_ready c v devices in
       let fits = ready.fits in
-      let law = both (services_lawful (mcu (clock_table.driver_of c.mcu)) (clock_laws.lawful (clock_table.driver_of c.mcu) fits.0)) (short_lawful (wdg (watchdog_table.driver_of c.wdg)) (watchdog_laws.lawful (watchdog_table.driver_of c.wdg) fits.1)) fits.2 in
+      let law = both (services_lawful (mcu (clock_table.table_of c.mcu)) (clock_laws.lawful (clock_table.table_of c.mcu) fits.0)) (short_lawful (wdg (watchdog_table.table_of c.wdg)) (watchdog_laws.lawful (watchdog_table.table_of c.wdg) fits.1)) fits.2 in
       lets-second (union_of (clock c) (watchdog c)) (union_of (pins c) (timers c)) Port dio_may (λ made s. (guest_state made s.0, s.1)) law (free_of (all_of (only Mcu) (only Wdg)) (union_of (clock c) (watchdog c)) ready.keeps refl refl) timed_lets
 
   host_let : LetsIn (host (drivers_of c)) Port dio_may (λ made s. ((s.0.0, (guest_state made s.0.1.0, s.0.1.1)), s.1))
   host_let =
       let ready = seconds_ready c v devices in
       let fits = ready.fits in
-      let captured = both (pulse_laws.lawful (pulse_table.driver_of c.pwm) fits.0.0) (short_lawful (icu (capture_table.driver_of c.icu)) (capture_laws.lawful (capture_table.driver_of c.icu) fits.0.1)) fits.0.2 in
+      let captured = both (pulse_laws.lawful (pulse_table.table_of c.pwm) fits.0.0) (short_lawful (icu (capture_table.table_of c.icu)) (capture_laws.lawful (capture_table.table_of c.icu) fits.0.1)) fits.0.2 in
       let lasts = both (converters_lawful (converter_table.table_of c.adc) fits.1.0) (joined_lawful (serial_table.table_of c.spi) fits.1.1) fits.1.2 in
       lets-first (union_of (union_of (clock c) (watchdog c)) (union_of (pins c) (timers c))) (union_of (union_of (pulses c) (captures c)) (union_of (converters c) (serial c))) Port dio_may (λ made s. (s.0, (guest_state made s.1.0, s.1.1))) (both captured lasts fits.2)
       (free_of (all_of (all_of (only Pwm) (only Icu)) (all_of (only Adc) (only Spi))) (union_of (union_of (pulses c) (captures c)) (union_of (converters c) (serial c))) ready.keeps refl refl) firsts_let
 
-  same_state : (made : Move) (s : SystemState) → state_after (host_pins (pulse_table.driver_of c.pwm) (wiring_of c).outputs) made s ≡ ((s.0.0, (guest_state made s.0.1.0, s.0.1.1)), s.1)
+  same_state : (made : Move) (s : SystemState) → state_after (host_pins (pulse_table.table_of c.pwm) (wiring_of c).outputs) made s ≡ ((s.0.0, (guest_state made s.0.1.0, s.0.1.1)), s.1)
   same_state (Write (PortPut q) word) s = refl
   same_state (Read (PinFlip p)) s = refl
   same_state _ s = refl
 
   -- ---- what it sees
 
-  module _ (chip : Chip) (w : World) (s : SystemState) (stand : PinsAgree chip.pins s.0.1.0) (agree : OutputsAgree (pulse_table.driver_of c.pwm) chip.pulses w s.1.0.0) (wired : chip.wiring.outputs ≡ (wiring_of c).outputs) (p : ℕ) (lt : p < 64) where
+  module _ (chip : Chip) (w : World) (s : SystemState) (stand : PinsAgree chip.pins s.0.1.0) (agree : OutputsAgree (pulse_table.table_of c.pwm) chip.pulses w s.1.0.0) (wired : chip.wiring.outputs ≡ (wiring_of c).outputs) (p : ℕ) (lt : p < 64) where
     abbrev level : World → SystemState → ℕ → Bool
-    level = (host_pins (pulse_table.driver_of c.pwm) (wiring_of c).outputs).level
+    level = (host_pins (pulse_table.table_of c.pwm) (wiring_of c).outputs).level
 
     seen_level : outside_at chip p ≡ w.levels p → pin_of chip p ≡ level w s p
     seen_level outside = level_is c v.pwm chip w s agree wired p lt stand outside ∙ sym (same_level c v.pwm w s p)
 
-  sees : (chip : Chip) (w : World) (s : SystemState) (origins : List (Origin HostCall)) → list_any (keeps_off (host (drivers_of c)).setting Port) origins ≡ false → IsPlaced (ports_of (port_table.driver_of c.port c.dio) (pulse_table.driver_of c.pwm) (wiring_of c).outputs) chip w → (host (drivers_of c)).setting.unmasked chip w s origins → SeesPins (host_pins (pulse_table.driver_of c.pwm) (wiring_of c).outputs) chip w s
+  sees : (chip : Chip) (w : World) (s : SystemState) (origins : List (Origin HostCall)) → list_any (keeps_off (host (drivers_of c)).setting Port) origins ≡ false → IsPlaced (ports_of (port_table.table_of c.port c.dio) (pulse_table.table_of c.pwm) (wiring_of c).outputs) chip w → (host (drivers_of c)).setting.unmasked chip w s origins → SeesPins (host_pins (pulse_table.table_of c.pwm) (wiring_of c).outputs) chip w s
   sees chip w s origins off placed shown =
       let watched = union_of (clock c) (watchdog c) in
       let timed = union_of (pins c) (timers c) in
@@ -152,14 +152,14 @@ module _ (c : Config) (v : IsValid c) (devices : ℕ) where
       let in_timed = second_origins (has_handler watched) in_firsts in
       let in_pins = first_origins (has_handler (pins c)) in_timed in
       let none = off-first (has_handler (pins c)) (pins c).setting (timers c).setting Port in_timed (off-second (has_handler watched) watched.setting timed.setting Port in_firsts (off-first (has_handler firsts) firsts.setting seconds.setting Port origins off)) in
-      let stand = shown.0.1.0 (sym (alone (pin_table.driver_of c.port) in_pins) ∙ none) in
+      let stand = shown.0.1.0 (sym (alone (pin_table.table_of c.port) in_pins) ∙ none) in
       record {
         levels = λ p lt. seen_level chip w s stand.0 shown.1.0.0 placed.1 p lt (placed.0.levels p lt);
         flips = λ p lt. seen_level (flipped chip p) w (with_pins s (with_change s.0.1.0 (Inverted p))) (flip_agrees chip.pins s.0.1.0 p stand.1 stand.0) shown.1.0.0 placed.1 p lt (placed.0.levels p lt);
       }
 
-  pub ports_hosted : Hosts (host (drivers_of c)) (ports_of (port_table.driver_of c.port c.dio) (pulse_table.driver_of c.pwm) (wiring_of c).outputs)
+  pub ports_hosted : Hosts (host (drivers_of c)) (ports_of (port_table.table_of c.port c.dio) (pulse_table.table_of c.pwm) (wiring_of c).outputs)
   ports_hosted = record {
-    lets = lets-same (host (drivers_of c)) Port dio_may (λ made s. ((s.0.0, (guest_state made s.0.1.0, s.0.1.1)), s.1)) host_let (state_after (host_pins (pulse_table.driver_of c.pwm) (wiring_of c).outputs)) same_state;
+    lets = lets-same (host (drivers_of c)) Port dio_may (λ made s. ((s.0.0, (guest_state made s.0.1.0, s.0.1.1)), s.1)) host_let (state_after (host_pins (pulse_table.table_of c.pwm) (wiring_of c).outputs)) same_state;
     shows = sees;
   }

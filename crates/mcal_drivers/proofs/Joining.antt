@@ -13,22 +13,22 @@ use Rattle.step_runner.specs.declared.either.Either.TheVariants.{Left, Right}
 use Rattle.step_runner.specs.Whose.{only, all_of, are_disjoint, KeepsTo}
 use Rattle.step_runner.proofs.Whose.{keeps-both, disjoint-apart}
 use Rattle.mcu_driver.specs.Fits as clock_fits
-use Rattle.mcu_driver.specs.Table as clock_table
+use Rattle.mcu_machine.specs.Table as clock_table
 use Rattle.mcu_driver.specs.laws.Keeps.{keeps_clock}
 use Rattle.wdg_driver.specs.Fits as watchdog_fits
-use Rattle.wdg_driver.specs.Table as watchdog_table
+use Rattle.wdg_machine.specs.Table as watchdog_table
 use Rattle.wdg_driver.specs.laws.Keeps.{keeps_watchdog}
 use Rattle.port_driver.specs.Fits as pin_fits
-use Rattle.port_driver.specs.Table as pin_table
+use Rattle.port_machine.specs.Table as pin_table
 use Rattle.port_driver.specs.laws.Keeps.{keeps_pins}
 use Rattle.gpt_driver.specs.Fits as timer_fits
-use Rattle.gpt_driver.specs.Table as timer_table
+use Rattle.gpt_machine.specs.Table as timer_table
 use Rattle.gpt_driver.specs.laws.Keeps.{keeps_timers}
 use Rattle.pwm_driver.specs.Fits as pulse_fits
-use Rattle.pwm_driver.specs.Table as pulse_table
+use Rattle.pwm_machine.specs.Table as pulse_table
 use Rattle.pwm_driver.specs.laws.Keeps.{keeps_pulses}
 use Rattle.icu_driver.specs.Fits as capture_fits
-use Rattle.icu_driver.specs.Table as capture_table
+use Rattle.icu_machine.specs.Table as capture_table
 use Rattle.icu_driver.specs.laws.Keeps.{keeps_captures}
 use Rattle.adc_driver.specs.laws.words.ConfigurationFits as converter_fits
 use Rattle.adc_driver.specs.laws.bookkeeping.Joined.{keeps_converters}
@@ -67,22 +67,22 @@ module _ (c : Config) (v : IsValid c) (devices : ℕ) where
   Ready mine d = IsReady mine power d
 
   clock_ready : Ready (only Mcu) (clock c)
-  clock_ready = record { fits = clock_fits.fits_of c.mcu (sound_clock c.mcu v.mcu); wired = λ room. tt; keeps = keeps_clock (clock_table.driver_of c.mcu) }
+  clock_ready = record { fits = clock_fits.fits_of c.mcu (sound_clock c.mcu v.mcu); wired = λ room. tt; keeps = keeps_clock (clock_table.table_of c.mcu) }
 
   watchdog_ready : Ready (only Wdg) (watchdog c)
-  watchdog_ready = record { fits = watchdog_fits.fits_of c.wdg; wired = λ room. tt; keeps = keeps_watchdog (watchdog_table.driver_of c.wdg) }
+  watchdog_ready = record { fits = watchdog_fits.fits_of c.wdg; wired = λ room. tt; keeps = keeps_watchdog (watchdog_table.table_of c.wdg) }
 
   pins_ready : Ready (only Port) (pins c)
-  pins_ready = record { fits = pin_fits.fits_of c.port (sound_pins c.port v.port); wired = λ room. tt; keeps = keeps_pins (pin_table.driver_of c.port) }
+  pins_ready = record { fits = pin_fits.fits_of c.port (sound_pins c.port v.port); wired = λ room. tt; keeps = keeps_pins (pin_table.table_of c.port) }
 
   pub timers_ready : Ready (only Gpt) (timers c)
-  timers_ready = record { fits = timer_fits.fits_of c.gpt (sound_timers c.gpt v.gpt); wired = λ room. tt; keeps = keeps_timers (timer_table.driver_of c.gpt) }
+  timers_ready = record { fits = timer_fits.fits_of c.gpt (sound_timers c.gpt v.gpt); wired = λ room. tt; keeps = keeps_timers (timer_table.table_of c.gpt) }
 
   pulses_ready : Ready (only Pwm) (pulses c)
-  pulses_ready = record { fits = pulse_fits.fits_of c.pwm; wired = λ room. tt; keeps = keeps_pulses (pulse_table.driver_of c.pwm) }
+  pulses_ready = record { fits = pulse_fits.fits_of c.pwm; wired = λ room. tt; keeps = keeps_pulses (pulse_table.table_of c.pwm) }
 
   captures_ready : Ready (only Icu) (captures c)
-  captures_ready = record { fits = capture_fits.fits_of c.icu (sound_captures c.icu v.icu); wired = λ room. wired_captures c.icu 0; keeps = keeps_captures (capture_table.driver_of c.icu) }
+  captures_ready = record { fits = capture_fits.fits_of c.icu (sound_captures c.icu v.icu); wired = λ room. wired_captures c.icu 0; keeps = keeps_captures (capture_table.table_of c.icu) }
 
   converters_ready : Ready (only Adc) (converters c)
   converters_ready =

@@ -14,11 +14,11 @@ use Rattle.mcal_base.specs.declared.layout.Array.TheVariants.{Round, Stamps, Sou
 use Rattle.run_model.specs.Moment.{Moment}
 use Rattle.run_model.specs.World.{World}
 use Rattle.port_driver.specs.Bounds.{PinsAgree}
-use Rattle.port_driver.specs.Machine as pins
+use Rattle.port_machine.specs.Machine as pins
 use Rattle.port_driver.specs.laws.Levels.{level_stands}
 use Rattle.pwm_driver.specs.Bounds.{OutputsAgree}
-use Rattle.pwm_driver.specs.Machine as pulses
-use Rattle.pwm_driver.specs.Table as pulse_table
+use Rattle.pwm_machine.specs.Machine as pulses
+use Rattle.pwm_machine.specs.Table as pulse_table
 use Rattle.mcal_drivers.specs.Setting.{SystemState, SystemCall, seen_at, system_setting}
 use Rattle.mcal_drivers.specs.Shows.{channel_on, pulse_at, level_at, ram_at, user_at}
 use Rattle.mcal_drivers.proofs.Named.{few, named}
@@ -34,16 +34,16 @@ module _ (c : Config) (v : IsPwm c.pwm) where
   fused level None = refl
   fused level (Some x) = refl
 
-  same_pulse : (w : World) (s : SystemState) (p : ℕ) → seen_at (pulse_table.driver_of c.pwm) (wiring_of c).outputs w s p ≡ pulse_at c w s p
+  same_pulse : (w : World) (s : SystemState) (p : ℕ) → seen_at (pulse_table.table_of c.pwm) (wiring_of c).outputs w s p ≡ pulse_at c w s p
   same_pulse w s p =
-      let level : ℕ → Bool = λ k. pulses.level_at (pulse_table.driver_of c.pwm) w s.1.0.0 k in
+      let level : ℕ → Bool = λ k. pulses.level_at (pulse_table.table_of c.pwm) w s.1.0.0 k in
       ap (λ o. option_map level o) (named c p v) ∙ fused level (channel_on c p)
 
   -- a pin's level is what the driver of channels and ports has of it
-  pub same_level : (w : World) (s : SystemState) (p : ℕ) → pins.level_at w s.0.1.0 p (seen_at (pulse_table.driver_of c.pwm) (wiring_of c).outputs w s p) ≡ level_at c w s p
+  pub same_level : (w : World) (s : SystemState) (p : ℕ) → pins.level_at w s.0.1.0 p (seen_at (pulse_table.table_of c.pwm) (wiring_of c).outputs w s p) ≡ level_at c w s p
   same_level w s p = ap (λ o. pins.level_at w s.0.1.0 p o) (same_pulse w s p)
 
-  module _ (chip : Chip) (w : World) (s : SystemState) (agree : OutputsAgree (pulse_table.driver_of c.pwm) chip.pulses w s.1.0.0) (wired : chip.wiring.outputs ≡ (wiring_of c).outputs) where
+  module _ (chip : Chip) (w : World) (s : SystemState) (agree : OutputsAgree (pulse_table.table_of c.pwm) chip.pulses w s.1.0.0) (wired : chip.wiring.outputs ≡ (wiring_of c).outputs) where
     seen : (p : ℕ) → output_at chip p ≡ pulse_at c w s p
     seen p =
         let level : ℕ → Bool = λ k. outputs.level_at chip.pulses k in
@@ -51,7 +51,7 @@ module _ (c : Config) (v : IsPwm c.pwm) where
         ∙ (ap (λ o. option_map level o) (named c p v)
         ∙ by (channel_on c p) (few c p v))
       where
-        by : (q : Option PwmChannel) → ((x : PwmChannel) → q ≡ Some x → x.id < 8) → option_map (λ k. outputs.level_at chip.pulses k) (option_map (λ (x : PwmChannel). x.id) q) ≡ option_map (λ (x : PwmChannel). pulses.level_at (pulse_table.driver_of c.pwm) w s.1.0.0 x.id) q
+        by : (q : Option PwmChannel) → ((x : PwmChannel) → q ≡ Some x → x.id < 8) → option_map (λ k. outputs.level_at chip.pulses k) (option_map (λ (x : PwmChannel). x.id) q) ≡ option_map (λ (x : PwmChannel). pulses.level_at (pulse_table.table_of c.pwm) w s.1.0.0 x.id) q
         by None small = refl
         by (Some x) small = ap (λ b. Some b) (agree x.id (small x refl))
 
@@ -60,7 +60,7 @@ module _ (c : Config) (v : IsPwm c.pwm) where
 
 module _ (c : Config) (devices room : ℕ) (chip : Chip) (m : Moment SystemState SystemCall) (rests : Rests (system_setting c) (hung devices (power_on c room)) chip m) where
   -- the outputs of all pulse units are the machine's
-  outputs_agree : OutputsAgree (pulse_table.driver_of c.pwm) m.chip.pulses m.world m.state.1.0.0
+  outputs_agree : OutputsAgree (pulse_table.table_of c.pwm) m.chip.pulses m.world m.state.1.0.0
   unfolding system_setting
   outputs_agree = (rests.served.outputs rests.unmasked).1.0.0
 

@@ -22,12 +22,12 @@ use Rattle.mcal_base.specs.declared.config.icu.IcuMeasurementMode.{IcuMeasuremen
 use Rattle.mcal_base.specs.declared.config.icu.IcuMeasurementMode.TheVariants.{SignalEdgeDetect, EdgeCounter, Timestamp, SignalMeasurement}
 use Rattle.mcu_driver.specs.Fits as clock_fits
 use Rattle.port_driver.specs.Fits as pin_fits
-use Rattle.port_driver.specs.Table.{is_same, lists}
+use Rattle.port_machine.specs.Table.{is_same, lists}
 use Rattle.gpt_driver.specs.Fits as timer_fits
 use Rattle.icu_driver.specs.Fits as capture_fits
 use Rattle.icu_driver.specs.Refinement.{WiredAs, pin_by}
-use Rattle.icu_driver.specs.Table as capture_table
-use Rattle.icu_driver.specs.laws.Tables.{by_eight}
+use Rattle.icu_machine.specs.Table as capture_table
+use Rattle.icu_machine.specs.laws.Channels.{by_eight}
 
 -- ---- the clock
 
@@ -135,5 +135,5 @@ pin_found (x ∷ xs) i = by (x.id == i) (pin_found xs i)
     by false more = more
 
 -- each channel is wired to its pin
-pub wired_captures : (g : IcuConfig) (time : ℕ) → WiredAs (capture_table.driver_of g) (captures_fresh (pins_in g.channels) time)
-wired_captures g time = by_eight (λ c. slice_index_or (pins_in g.channels) c None ≡ pin_by (capture_table.channel_of (capture_table.driver_of g) c)) (pin_found g.channels 0) (pin_found g.channels 1) (pin_found g.channels 2) (pin_found g.channels 3) (pin_found g.channels 4) (pin_found g.channels 5) (pin_found g.channels 6) (pin_found g.channels 7)
+pub wired_captures : (g : IcuConfig) (time : ℕ) → WiredAs (capture_table.table_of g) (captures_fresh (pins_in g.channels) time)
+wired_captures g time = by_eight (λ c. slice_index_or (pins_in g.channels) c None ≡ pin_by (capture_table.channel_of (capture_table.table_of g) c)) (pin_found g.channels 0) (pin_found g.channels 1) (pin_found g.channels 2) (pin_found g.channels 3) (pin_found g.channels 4) (pin_found g.channels 5) (pin_found g.channels 6) (pin_found g.channels 7)

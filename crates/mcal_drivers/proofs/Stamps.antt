@@ -12,13 +12,13 @@ use Rattle.mcal_base.specs.declared.config.icu.IcuConfig.{IcuConfig}
 use Rattle.mcal_base.specs.declared.config.whole.Config.{Config}
 use Rattle.mcal_base.specs.declared.layout.Array.TheVariants.{Stamps}
 use Rattle.run_model.specs.World.{World}
-use Rattle.icu_driver.specs.Bounds.{size_by, size_of}
+use Rattle.icu_machine.specs.Shown.{size_by, size_of}
 use Rattle.icu_driver.specs.Refinement.{settled, stamps_edges, IsStart, IcuRepresents}
-use Rattle.icu_driver.specs.Machine.{IcuState, Start, capture_at}
-use Rattle.icu_driver.specs.Table.{taken, channel_in, driver_of, channel_of}
-use Rattle.icu_driver.specs.declared.driver.Channel.{Channel}
-use Rattle.icu_driver.specs.declared.driver.IcuDriver.{IcuDriver}
-use Rattle.icu_driver.specs.laws.Tables.{by_eight}
+use Rattle.icu_machine.specs.Machine.{IcuState, Start, capture_at}
+use Rattle.icu_machine.specs.Table.{taken, channel_in, table_of, channel_of}
+use Rattle.icu_machine.specs.declared.table.Channel.{Channel}
+use Rattle.icu_machine.specs.declared.table.IcuTable.{IcuTable}
+use Rattle.icu_machine.specs.laws.Channels.{by_eight}
 
 -- the places of a number's channel, none where it isn't configured
 abbrev places_in : List IcuChannel → ℕ → ℕ
@@ -63,23 +63,23 @@ all_places (x ∷ xs) i e = by (x.id == i) (all_places xs i) e
 
 -- ---- the driver's table
 
-to_driver : (g : IcuConfig) (i : ℕ) → i < 8 → is_some (channel_in g.channels i) ≡ true → is_some (channel_of (driver_of g) i) ≡ true
-to_driver g = by_eight (λ c. is_some (channel_in g.channels c) ≡ true → is_some (channel_of (driver_of g) c) ≡ true) (λ e. e) (λ e. e) (λ e. e) (λ e. e) (λ e. e) (λ e. e) (λ e. e) (λ e. e)
+to_driver : (g : IcuConfig) (i : ℕ) → i < 8 → is_some (channel_in g.channels i) ≡ true → is_some (channel_of (table_of g) i) ≡ true
+to_driver g = by_eight (λ c. is_some (channel_in g.channels c) ≡ true → is_some (channel_of (table_of g) c) ≡ true) (λ e. e) (λ e. e) (λ e. e) (λ e. e) (λ e. e) (λ e. e) (λ e. e) (λ e. e)
 
-of_driver : (g : IcuConfig) (i : ℕ) → i < 8 → is_some (channel_of (driver_of g) i) ≡ true → is_some (channel_in g.channels i) ≡ true
-of_driver g = by_eight (λ c. is_some (channel_of (driver_of g) c) ≡ true → is_some (channel_in g.channels c) ≡ true) (λ e. e) (λ e. e) (λ e. e) (λ e. e) (λ e. e) (λ e. e) (λ e. e) (λ e. e)
+of_driver : (g : IcuConfig) (i : ℕ) → i < 8 → is_some (channel_of (table_of g) i) ≡ true → is_some (channel_in g.channels i) ≡ true
+of_driver g = by_eight (λ c. is_some (channel_of (table_of g) c) ≡ true → is_some (channel_in g.channels c) ≡ true) (λ e. e) (λ e. e) (λ e. e) (λ e. e) (λ e. e) (λ e. e) (λ e. e) (λ e. e)
 
 module _ (c : Config) (i k : ℕ) (lt : k < length_of c (Stamps i)) where
   pub stamps_few : k < 64
   stamps_few = few_places c.icu.channels i k lt
 
   -- a channel with places is configured
-  pub has_channel : IsIcu c.icu → is_some (channel_of (driver_of c.icu) i) ≡ true
+  pub has_channel : IsIcu c.icu → is_some (channel_of (table_of c.icu) i) ≡ true
   has_channel v = to_driver c.icu i (small_number c.icu.channels i k v.channels.each lt) (has_found c.icu.channels i k lt)
 
 -- ---- the places that are shown
 
-module _ (d : IcuDriver) (chip : Chip) (w : World) (s : IcuState) (h : IcuRepresents d settled chip w s) (i : ℕ) (lt : i < 8) where
+module _ (d : IcuTable) (chip : Chip) (w : World) (s : IcuState) (h : IcuRepresents d settled chip w s) (i : ℕ) (lt : i < 8) where
   started : (o : Option Channel) → channel_of d i ≡ o → (a : Start) → (capture_at s i).start ≡ Some a → is_some (channel_of d i) ≡ true
   started None e a f = absurd (let none = (h.course i lt).0.unstarted (ap (λ o. stamps_edges o) e) in cc)
   started (Some k) e a f = ap (λ o. is_some o) e
@@ -89,7 +89,7 @@ module _ (d : IcuDriver) (chip : Chip) (w : World) (s : IcuState) (h : IcuRepres
   size_fits (Some a) e = (subst IsStart e (h.course i lt).0.start).1
 
   -- no more than the channel has
-  pub size_few : (c : Config) → d ≡ driver_of c.icu → IfSome (size_of s i) (λ n. n ≤ length_of c (Stamps i))
+  pub size_few : (c : Config) → d ≡ table_of c.icu → IfSome (size_of s i) (λ n. n ≤ length_of c (Stamps i))
   size_few c is = by (capture_at s i).start refl
     where
       by : (a : Option Start) → (capture_at s i).start ≡ a → IfSome (size_by a) (λ n. n ≤ length_of c (Stamps i))

@@ -8,49 +8,49 @@ use Rattle.mcal_base.specs.declared.config.whole.Config.{Config}
 use Rattle.mcal_base.specs.declared.error_name.ErrorName.{ErrorName}
 use Rattle.run_model.specs.Machine.{Acts, Serves, Starts, Aborts, Moves, Restarts, Begun, Outcome, outcome, tells_nothing}
 use Rattle.run_model.specs.World.{World}
-use Rattle.mcu_driver.specs.Machine as clock
-use Rattle.mcu_driver.specs.Table as clock_table
-use Rattle.mcu_driver.specs.declared.call.Call as clock_calls
-use Rattle.mcu_driver.specs.declared.call.Call.TheVariants as clock_call
-use Rattle.mcu_driver.specs.declared.call.ClockCall.TheVariants.{InitClock, DistributePllClock}
-use Rattle.mcu_driver.specs.declared.driver.McuDriver.{McuDriver}
-use Rattle.wdg_driver.specs.Machine as watchdogs
-use Rattle.wdg_driver.specs.Table as watchdog_table
-use Rattle.wdg_driver.specs.declared.call.Call as watchdog_calls
-use Rattle.wdg_driver.specs.declared.call.Call.TheVariants as watchdog_call
-use Rattle.wdg_driver.specs.declared.driver.WdgDriver.{WdgDriver}
+use Rattle.mcu_machine.specs.Machine as clock
+use Rattle.mcu_machine.specs.Table as clock_table
+use Rattle.mcu_machine.specs.declared.call.Call as clock_calls
+use Rattle.mcu_machine.specs.declared.call.Call.TheVariants as clock_call
+use Rattle.mcu_machine.specs.declared.call.ClockCall.TheVariants.{InitClock, DistributePllClock}
+use Rattle.mcu_machine.specs.declared.table.McuTable.{McuTable}
+use Rattle.wdg_machine.specs.Machine as watchdogs
+use Rattle.wdg_machine.specs.Table as watchdog_table
+use Rattle.wdg_machine.specs.declared.call.Call as watchdog_calls
+use Rattle.wdg_machine.specs.declared.call.Call.TheVariants as watchdog_call
+use Rattle.wdg_machine.specs.declared.table.WdgTable.{WdgTable}
 use Rattle.mcal_base.specs.declared.config.wdg.WdgMode.{WdgMode}
-use Rattle.port_driver.specs.Machine as pins
-use Rattle.port_driver.specs.Table as pin_table
-use Rattle.port_driver.specs.declared.call.Call as pin_calls
-use Rattle.port_driver.specs.declared.driver.PortDriver.{PortDriver}
-use Rattle.dio_driver.specs.Machine.{does_by}
-use Rattle.dio_driver.specs.Table as port_table
-use Rattle.dio_driver.specs.declared.access.PortPins.{PortPins}
-use Rattle.dio_driver.specs.declared.call.Call as port_calls
-use Rattle.dio_driver.specs.declared.call.Call.TheVariants as port_call
-use Rattle.gpt_driver.specs.Machine as timers
-use Rattle.gpt_driver.specs.declared.call.Call as timer_calls
-use Rattle.gpt_driver.specs.declared.call.Call.TheVariants as timer_call
-use Rattle.gpt_driver.specs.declared.call.ChannelCall.TheVariants as asks
-use Rattle.gpt_driver.specs.declared.call.GptMode.TheVariants as modes
-use Rattle.gpt_driver.specs.declared.call.Change.{Change}
-use Rattle.gpt_driver.specs.declared.driver.Channel as timer_channels
-use Rattle.gpt_driver.specs.declared.driver.GptDriver.{GptDriver}
-use Rattle.gpt_driver.specs.Table as timer_table
-use Rattle.pwm_driver.specs.Machine as pulses
-use Rattle.pwm_driver.specs.Table as pulse_table
-use Rattle.pwm_driver.specs.declared.call.Call as pulse_calls
-use Rattle.pwm_driver.specs.declared.call.Call.TheVariants as pulse_call
-use Rattle.pwm_driver.specs.declared.driver.PwmDriver.{PwmDriver}
-use Rattle.icu_driver.specs.Edges.{Edge}
-use Rattle.icu_driver.specs.Machine as captures
-use Rattle.icu_driver.specs.Table as capture_table
-use Rattle.icu_driver.specs.declared.call.Call as capture_calls
-use Rattle.icu_driver.specs.declared.call.Call.TheVariants as capture_call
-use Rattle.icu_driver.specs.declared.call.ChannelCall as capture_asks
-use Rattle.icu_driver.specs.declared.driver.Channel as capture_channels
-use Rattle.icu_driver.specs.declared.driver.IcuDriver.{IcuDriver}
+use Rattle.port_machine.specs.Machine as pins
+use Rattle.port_machine.specs.Table as pin_table
+use Rattle.port_machine.specs.declared.call.Call as pin_calls
+use Rattle.port_machine.specs.declared.table.PortTable.{PortTable}
+use Rattle.dio_machine.specs.Machine.{does_by}
+use Rattle.dio_machine.specs.Table as port_table
+use Rattle.dio_machine.specs.declared.table.PortPins.{PortPins}
+use Rattle.dio_machine.specs.declared.call.Call as port_calls
+use Rattle.dio_machine.specs.declared.call.Call.TheVariants as port_call
+use Rattle.gpt_machine.specs.Machine as timers
+use Rattle.gpt_machine.specs.declared.call.Call as timer_calls
+use Rattle.gpt_machine.specs.declared.call.Call.TheVariants as timer_call
+use Rattle.gpt_machine.specs.declared.call.ChannelCall.TheVariants as asks
+use Rattle.gpt_machine.specs.declared.call.GptMode.TheVariants as modes
+use Rattle.gpt_machine.specs.declared.call.Change.{Change}
+use Rattle.gpt_machine.specs.declared.table.Channel as timer_channels
+use Rattle.gpt_machine.specs.declared.table.GptTable.{GptTable}
+use Rattle.gpt_machine.specs.Table as timer_table
+use Rattle.pwm_machine.specs.Machine as pulses
+use Rattle.pwm_machine.specs.Table as pulse_table
+use Rattle.pwm_machine.specs.declared.call.Call as pulse_calls
+use Rattle.pwm_machine.specs.declared.call.Call.TheVariants as pulse_call
+use Rattle.pwm_machine.specs.declared.table.PwmTable.{PwmTable}
+use Rattle.icu_machine.specs.Edges.{Edge}
+use Rattle.icu_machine.specs.Machine as captures
+use Rattle.icu_machine.specs.Table as capture_table
+use Rattle.icu_machine.specs.declared.call.Call as capture_calls
+use Rattle.icu_machine.specs.declared.call.Call.TheVariants as capture_call
+use Rattle.icu_machine.specs.declared.call.ChannelCall as capture_asks
+use Rattle.icu_machine.specs.declared.table.Channel as capture_channels
+use Rattle.icu_machine.specs.declared.table.IcuTable.{IcuTable}
 use Rattle.adc_machine.specs.Groups.{Round, Status, Idle, Busy, Completed, StreamCompleted}
 use Rattle.adc_machine.specs.Machine as converters
 use Rattle.adc_machine.specs.Table as converter_table
@@ -80,7 +80,7 @@ none_if q x out none e = ap (λ y. y.begins) (sym (serve_by q x out e)) ∙ none
 
 -- ---- clock and pins
 
-clock_work : (d : McuDriver) (w : World) (s : clock.McuState) (call : clock_calls.Call) → (clock.work d w s call).begins ≡ None
+clock_work : (d : McuTable) (w : World) (s : clock.McuState) (call : clock_calls.Call) → (clock.work d w s call).begins ≡ None
 clock_work d w s clock_call.Init = refl
 clock_work d w s (clock_call.InitRamSection n) = refl
 clock_work d w s (clock_call.Clock (InitClock n)) = refl
@@ -90,11 +90,11 @@ clock_work d w s clock_call.GetResetReason = refl
 clock_work d w s clock_call.PerformReset = refl
 clock_work d w s (clock_call.SetMode m) = refl
 
-clock_acts : (d : McuDriver) (w : World) (s : clock.McuState) (call : clock_calls.Call) (e : Option ErrorName) → (clock.acts_by d w s call e).begins ≡ None
+clock_acts : (d : McuTable) (w : World) (s : clock.McuState) (call : clock_calls.Call) (e : Option ErrorName) → (clock.acts_by d w s call e).begins ≡ None
 clock_acts d w s call None = clock_work d w s call
 clock_acts d w s call (Some e) = refl
 
-clock_wordless : (d : McuDriver) → IsWordless (clock.mcu_machine d)
+clock_wordless : (d : McuTable) → IsWordless (clock.mcu_machine d)
 clock_wordless d w s (Acts call times) out e = none_of (clock.acts d w s call) out (clock_acts d w s call _) e
 clock_wordless d w s (Serves l received) out e = absurd (cc e)
 clock_wordless d w s (Starts u made_by received) out e = absurd (cc e)
@@ -110,17 +110,17 @@ watchdog_timed : (w : World) (s : watchdogs.WdgState) (n : ℕ) (m : Option WdgM
 watchdog_timed w s n None = refl
 watchdog_timed w s n (Some m) = refl
 
-watchdog_work : (d : WdgDriver) (w : World) (s : watchdogs.WdgState) (call : watchdog_calls.Call) → (watchdogs.work d w s call).begins ≡ None
+watchdog_work : (d : WdgTable) (w : World) (s : watchdogs.WdgState) (call : watchdog_calls.Call) → (watchdogs.work d w s call).begins ≡ None
 watchdog_work d w s watchdog_call.Init = refl
 watchdog_work d w s (watchdog_call.SetMode None) = refl
 watchdog_work d w s (watchdog_call.SetMode (Some m)) = watchdog_set w s m (watchdog_table.allows d m)
 watchdog_work d w s (watchdog_call.SetTriggerCondition n) = watchdog_timed w s n s.mode
 
-watchdog_acts : (d : WdgDriver) (w : World) (s : watchdogs.WdgState) (call : watchdog_calls.Call) (e : Option ErrorName) → (watchdogs.acts_by d w s call e).begins ≡ None
+watchdog_acts : (d : WdgTable) (w : World) (s : watchdogs.WdgState) (call : watchdog_calls.Call) (e : Option ErrorName) → (watchdogs.acts_by d w s call e).begins ≡ None
 watchdog_acts d w s call None = watchdog_work d w s call
 watchdog_acts d w s call (Some e) = refl
 
-watchdog_wordless : (d : WdgDriver) → IsWordless (watchdogs.wdg_machine d)
+watchdog_wordless : (d : WdgTable) → IsWordless (watchdogs.wdg_machine d)
 watchdog_wordless d w s (Acts call times) out e = none_of (watchdogs.acts d w s call) out (watchdog_acts d w s call _) e
 watchdog_wordless d w s (Serves l received) out e = absurd (cc e)
 watchdog_wordless d w s (Starts u made_by received) out e = absurd (cc e)
@@ -128,11 +128,11 @@ watchdog_wordless d w s (Aborts u) out e = absurd (cc e)
 watchdog_wordless d w s (Moves order) out e = none_of (outcome s tells_nothing) out refl e
 watchdog_wordless d w s (Restarts reason) out e = none_of (outcome watchdogs.first_state tells_nothing) out refl e
 
-pin_acts : (d : PortDriver) (s : pins.PortState) (call : pin_calls.Call) (e : Option ErrorName) → (pins.acts_by d s call e).begins ≡ None
+pin_acts : (d : PortTable) (s : pins.PortState) (call : pin_calls.Call) (e : Option ErrorName) → (pins.acts_by d s call e).begins ≡ None
 pin_acts d s call None = refl
 pin_acts d s call (Some e) = refl
 
-pins_wordless : (d : PortDriver) → IsWordless (pins.port_machine d)
+pins_wordless : (d : PortTable) → IsWordless (pins.port_machine d)
 pins_wordless d w s (Acts call times) out e = none_of (pins.acts d s call) out (pin_acts d s call _) e
 pins_wordless d w s (Serves l received) out e = absurd (cc e)
 pins_wordless d w s (Starts u made_by received) out e = absurd (cc e)
@@ -146,7 +146,7 @@ timer_switches : (k : Option timer_channels.Channel) (s : timers.GptState) (c : 
 timer_switches None s c by = refl
 timer_switches (Some k) s c by = refl
 
-timer_work : (d : GptDriver) (w : World) (s : timers.GptState) (call : timer_calls.Call) → (timers.work d w s call).begins ≡ None
+timer_work : (d : GptTable) (w : World) (s : timers.GptState) (call : timer_calls.Call) → (timers.work d w s call).begins ≡ None
 timer_work d w s timer_call.Init = refl
 timer_work d w s timer_call.DeInit = refl
 timer_work d w s (timer_call.SetMode None) = refl
@@ -158,7 +158,7 @@ timer_work d w s (timer_call.Channel c (asks.StartTimer v)) = refl
 timer_work d w s (timer_call.Channel c asks.StopTimer) = refl
 timer_work d w s (timer_call.Channel c (asks.Change by)) = timer_switches (timer_table.channel_of d c) s c by
 
-timer_acts : (d : GptDriver) (w : World) (s : timers.GptState) (call : timer_calls.Call) (e : Option ErrorName) → (timers.acts_by d w s call e).begins ≡ None
+timer_acts : (d : GptTable) (w : World) (s : timers.GptState) (call : timer_calls.Call) (e : Option ErrorName) → (timers.acts_by d w s call e).begins ≡ None
 timer_acts d w s call None = timer_work d w s call
 timer_acts d w s call (Some e) = refl
 
@@ -166,7 +166,7 @@ timer_served : (w : World) (s : timers.GptState) (c : ℕ) (wakes notifies : Boo
 timer_served w s c true notifies = refl
 timer_served w s c false notifies = refl
 
-timers_wordless : (d : GptDriver) → IsWordless (timers.gpt_machine d)
+timers_wordless : (d : GptTable) → IsWordless (timers.gpt_machine d)
 timers_wordless d w s (Acts call times) out e = none_of (timers.acts d w s call) out (timer_acts d w s call _) e
 timers_wordless d w s (Serves c received) out e = none_if (timers.ready d w s c) (timers.served w s c) out (timer_served w s c _ _) e
 timers_wordless d w s (Starts u made_by received) out e = absurd (cc e)
@@ -176,17 +176,17 @@ timers_wordless d w s (Restarts reason) out e = none_of (outcome timers.first_st
 
 -- ---- pulse outputs
 
-pulse_work : (d : PwmDriver) (w : World) (s : pulses.PwmState) (call : pulse_calls.Call) (committed : ℕ → ℕ) → (pulses.work d w s call committed).begins ≡ None
+pulse_work : (d : PwmTable) (w : World) (s : pulses.PwmState) (call : pulse_calls.Call) (committed : ℕ → ℕ) → (pulses.work d w s call committed).begins ≡ None
 pulse_work d w s pulse_call.Init committed = refl
 pulse_work d w s pulse_call.DeInit committed = refl
 pulse_work d w s (pulse_call.GetOutputState c) committed = refl
 pulse_work d w s (pulse_call.Channel c call) committed = refl
 
-pulse_acts : (d : PwmDriver) (w : World) (s : pulses.PwmState) (call : pulse_calls.Call) (committed : ℕ → ℕ) (e : Option ErrorName) → (pulses.acts_by d w s call committed e).begins ≡ None
+pulse_acts : (d : PwmTable) (w : World) (s : pulses.PwmState) (call : pulse_calls.Call) (committed : ℕ → ℕ) (e : Option ErrorName) → (pulses.acts_by d w s call committed e).begins ≡ None
 pulse_acts d w s call committed None = pulse_work d w s call committed
 pulse_acts d w s call committed (Some e) = refl
 
-pulses_wordless : (d : PwmDriver) → IsWordless (pulses.pwm_machine d)
+pulses_wordless : (d : PwmTable) → IsWordless (pulses.pwm_machine d)
 pulses_wordless d w s (Acts call committed) out e = none_of (pulses.acts d w s call committed) out (pulse_acts d w s call committed _) e
 pulses_wordless d w s (Serves l received) out e = none_if (pulses.ready d w s l) (pulses.served w s (pulse_table.channel_number l)) out refl e
 pulses_wordless d w s (Starts u made_by received) out e = absurd (cc e)
@@ -200,12 +200,12 @@ capture_asked : (k : Option capture_channels.Channel) (s : captures.IcuState) (c
 capture_asked None s c call = refl
 capture_asked (Some k) s c call = refl
 
-capture_work : (d : IcuDriver) (s : captures.IcuState) (call : capture_calls.Call) → (captures.work d s call).begins ≡ None
+capture_work : (d : IcuTable) (s : captures.IcuState) (call : capture_calls.Call) → (captures.work d s call).begins ≡ None
 capture_work d s capture_call.Init = refl
 capture_work d s capture_call.DeInit = refl
 capture_work d s (capture_call.Channel c call) = capture_asked (capture_table.channel_of d c) s c call
 
-capture_acts : (d : IcuDriver) (s : captures.IcuState) (call : capture_calls.Call) (e : Option ErrorName) → (captures.acts_by d s call e).begins ≡ None
+capture_acts : (d : IcuTable) (s : captures.IcuState) (call : capture_calls.Call) (e : Option ErrorName) → (captures.acts_by d s call e).begins ≡ None
 capture_acts d s call None = capture_work d s call
 capture_acts d s call (Some e) = refl
 
@@ -214,7 +214,7 @@ capture_served (Some k) s c (e ∷ es) = refl
 capture_served (Some k) s c [] = refl
 capture_served None s c es = refl
 
-captures_wordless : (d : IcuDriver) → IsWordless (captures.icu_machine d)
+captures_wordless : (d : IcuTable) → IsWordless (captures.icu_machine d)
 captures_wordless d w s (Acts call committed) out e = none_of (captures.acts d s call) out (capture_acts d s call _) e
 captures_wordless d w s (Serves l received) out e = none_if (captures.ready d w s l) (captures.served d s (capture_table.channel_number l)) out (capture_served _ s _ _) e
 captures_wordless d w s (Starts u made_by received) out e = absurd (cc e)
@@ -311,7 +311,7 @@ serial_wired d u w s (Restarts reason) out e = ap (λ (y : Outcome SpiState). wi
 -- ---- channels and ports
 
 -- what their calls do begins no word, and leaves the words that are on the wires
-port_by : (p : PwmDriver) (outputs : List (Option ℕ)) (u : ℕ) (w : World) (s : SystemState) (call : port_calls.Call) (pins : Option PortPins) → Stays (λ (x : SystemState). shows.wire_at x u) s (does_by (host_pins p outputs) w s call pins)
+port_by : (p : PwmTable) (outputs : List (Option ℕ)) (u : ℕ) (w : World) (s : SystemState) (call : port_calls.Call) (pins : Option PortPins) → Stays (λ (x : SystemState). shows.wire_at x u) s (does_by (host_pins p outputs) w s call pins)
 port_by p outputs u w s call None = (refl, refl)
 port_by p outputs u w s (port_call.ReadChannel n) (Some pins) = (refl, refl)
 port_by p outputs u w s (port_call.WriteChannel n high) (Some pins) = (refl, refl)
@@ -332,12 +332,12 @@ system_wired c u =
     let firsts = joined watched timed in
     let lasts = joined (converter_setting c) (serial_setting c) in
     let seconds = joined captured lasts in
-    let timed_wordless = wordless_both (pin_setting c).used (pin_setting c).machine (timer_setting c).machine (pins_wordless (pin_table.driver_of c.port)) (timers_wordless (timer_table.driver_of c.gpt)) in
-    let watched_wordless = wordless_both (clock_setting c).used (clock_setting c).machine (watchdog_setting c).machine (clock_wordless (clock_table.driver_of c.mcu)) (watchdog_wordless (watchdog_table.driver_of c.wdg)) in
+    let timed_wordless = wordless_both (pin_setting c).used (pin_setting c).machine (timer_setting c).machine (pins_wordless (pin_table.table_of c.port)) (timers_wordless (timer_table.table_of c.gpt)) in
+    let watched_wordless = wordless_both (clock_setting c).used (clock_setting c).machine (watchdog_setting c).machine (clock_wordless (clock_table.table_of c.mcu)) (watchdog_wordless (watchdog_table.table_of c.wdg)) in
     let firsts_wordless = wordless_both watched.used watched.machine timed.machine watched_wordless timed_wordless in
-    let captured_wordless = wordless_both (pulse_setting c).used (pulse_setting c).machine (capture_setting c).machine (pulses_wordless (pulse_table.driver_of c.pwm)) (captures_wordless (capture_table.driver_of c.icu)) in
+    let captured_wordless = wordless_both (pulse_setting c).used (pulse_setting c).machine (capture_setting c).machine (pulses_wordless (pulse_table.table_of c.pwm)) (captures_wordless (capture_table.table_of c.icu)) in
     let lasts_wired = wired_second (converter_setting c).used (converter_setting c).machine (serial_setting c).machine (λ s. wire_at s u) u (converters_wordless (converter_table.table_of c.adc)) (serial_wired (serial_table.table_of c.spi) u) in
     let seconds_wired = wired_second captured.used captured.machine lasts.machine (λ s. wire_at s.1 u) u captured_wordless lasts_wired in
     let hosts_wired = wired_second firsts.used firsts.machine seconds.machine (λ s. wire_at s.1.1 u) u firsts_wordless seconds_wired in
-    let d = port_table.driver_of c.port c.dio in
-    wired_guest (host_setting c).machine (port_guest c) (λ (s : SystemState). shows.wire_at s u) u (λ w s call. port_by (pulse_table.driver_of c.pwm) (wiring_of c).outputs u w s call (port_table.pins_of d call)) hosts_wired
+    let d = port_table.table_of c.port c.dio in
+    wired_guest (host_setting c).machine (port_guest c) (λ (s : SystemState). shows.wire_at s u) u (λ w s call. port_by (pulse_table.table_of c.pwm) (wiring_of c).outputs u w s call (port_table.pins_of d call)) hosts_wired

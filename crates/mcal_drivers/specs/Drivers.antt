@@ -6,30 +6,30 @@ use Rattle.service_outline.specs.ShortServices as short
 use Rattle.step_runner.specs.Driver.{Driver}
 use Rattle.step_runner.specs.Union.{union_of}
 use Rattle.guest_runner.specs.Guest.{guest_of}
-use Rattle.mcu_driver.specs.Machine.{McuState}
-use Rattle.mcu_driver.specs.Table as clock_table
-use Rattle.mcu_driver.specs.declared.call.Call as clock_calls
+use Rattle.mcu_machine.specs.Machine.{McuState}
+use Rattle.mcu_machine.specs.Table as clock_table
+use Rattle.mcu_machine.specs.declared.call.Call as clock_calls
 use Rattle.mcu_driver.specs.laws.Lawful.{mcu}
-use Rattle.wdg_driver.specs.Machine.{WdgState}
-use Rattle.wdg_driver.specs.Table as watchdog_table
-use Rattle.wdg_driver.specs.declared.call.Call as watchdog_calls
+use Rattle.wdg_machine.specs.Machine.{WdgState}
+use Rattle.wdg_machine.specs.Table as watchdog_table
+use Rattle.wdg_machine.specs.declared.call.Call as watchdog_calls
 use Rattle.wdg_driver.specs.laws.Lawful.{wdg}
-use Rattle.port_driver.specs.Machine.{PortState}
-use Rattle.port_driver.specs.Table as pin_table
-use Rattle.port_driver.specs.declared.call.Call as pin_calls
+use Rattle.port_machine.specs.Machine.{PortState}
+use Rattle.port_machine.specs.Table as pin_table
+use Rattle.port_machine.specs.declared.call.Call as pin_calls
 use Rattle.port_driver.specs.laws.Lawful.{port}
-use Rattle.dio_driver.specs.Table as port_table
-use Rattle.gpt_driver.specs.Machine.{GptState}
-use Rattle.gpt_driver.specs.Table as timer_table
-use Rattle.gpt_driver.specs.declared.call.Call as timer_calls
+use Rattle.dio_machine.specs.Table as port_table
+use Rattle.gpt_machine.specs.Machine.{GptState}
+use Rattle.gpt_machine.specs.Table as timer_table
+use Rattle.gpt_machine.specs.declared.call.Call as timer_calls
 use Rattle.gpt_driver.specs.laws.Lawful.{gpt}
-use Rattle.pwm_driver.specs.Machine.{PwmState}
-use Rattle.pwm_driver.specs.Table as pulse_table
-use Rattle.pwm_driver.specs.declared.call.Call as pulse_calls
+use Rattle.pwm_machine.specs.Machine.{PwmState}
+use Rattle.pwm_machine.specs.Table as pulse_table
+use Rattle.pwm_machine.specs.declared.call.Call as pulse_calls
 use Rattle.pwm_driver.specs.laws.Lawful.{pwm}
-use Rattle.icu_driver.specs.Machine.{IcuState}
-use Rattle.icu_driver.specs.Table as capture_table
-use Rattle.icu_driver.specs.declared.call.Call as capture_calls
+use Rattle.icu_machine.specs.Machine.{IcuState}
+use Rattle.icu_machine.specs.Table as capture_table
+use Rattle.icu_machine.specs.declared.call.Call as capture_calls
 use Rattle.icu_driver.specs.laws.Lawful.{icu}
 use Rattle.adc_driver.specs.laws.bookkeeping.Joined.{joined as converters_of}
 use Rattle.adc_machine.specs.Table as converter_table
@@ -45,26 +45,26 @@ use Rattle.mcal_drivers.specs.declared.drivers.Drivers.{Drivers}
 
 -- what the code keeps of a configuration
 abbrev pub drivers_of : Config → Drivers
-drivers_of c = record { clock = clock_table.driver_of c.mcu; watchdog = watchdog_table.driver_of c.wdg; pins = pin_table.driver_of c.port; timers = timer_table.driver_of c.gpt; pulses = pulse_table.driver_of c.pwm; captures = capture_table.driver_of c.icu; converters = record { table = converter_table.table_of c.adc }; serial = record { table = serial_table.table_of c.spi }; ports = port_table.driver_of c.port c.dio; outputs = (wiring_of c).outputs }
+drivers_of c = record { clock = clock_table.table_of c.mcu; watchdog = watchdog_table.table_of c.wdg; pins = pin_table.table_of c.port; timers = timer_table.table_of c.gpt; pulses = pulse_table.table_of c.pwm; captures = capture_table.table_of c.icu; converters = record { table = converter_table.table_of c.adc }; serial = record { table = serial_table.table_of c.spi }; ports = port_table.table_of c.port c.dio; outputs = (wiring_of c).outputs }
 
 -- each module's driver
 abbrev pub clock : Config → Driver McuState clock_calls.Call ClockFrame
-clock c = services_driver (mcu (clock_table.driver_of c.mcu))
+clock c = services_driver (mcu (clock_table.table_of c.mcu))
 
 abbrev pub watchdog : Config → Driver WdgState watchdog_calls.Call WatchdogFrame
-watchdog c = short.driver_of (wdg (watchdog_table.driver_of c.wdg))
+watchdog c = short.driver_of (wdg (watchdog_table.table_of c.wdg))
 
 abbrev pub pins : Config → Driver PortState pin_calls.Call PinFrame
-pins c = services_driver (port (pin_table.driver_of c.port))
+pins c = services_driver (port (pin_table.table_of c.port))
 
 abbrev pub timers : Config → Driver GptState timer_calls.Call TimerFrame
-timers c = short.driver_of (gpt (timer_table.driver_of c.gpt))
+timers c = short.driver_of (gpt (timer_table.table_of c.gpt))
 
 abbrev pub pulses : Config → Driver PwmState pulse_calls.Call PulseFrame
-pulses c = services_driver (pwm (pulse_table.driver_of c.pwm))
+pulses c = services_driver (pwm (pulse_table.table_of c.pwm))
 
 abbrev pub captures : Config → Driver IcuState capture_calls.Call CaptureFrame
-captures c = short.driver_of (icu (capture_table.driver_of c.icu))
+captures c = short.driver_of (icu (capture_table.table_of c.icu))
 
 abbrev pub converters : Config → Driver AdcState converter_calls.Call ConverterFrame
 converters c = services_driver (converters_of (converter_table.table_of c.adc))

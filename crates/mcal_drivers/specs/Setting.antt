@@ -12,45 +12,45 @@ use Rattle.step_runner.specs.declared.either.Either.{Either}
 use Rattle.step_runner.specs.declared.either.Either.TheVariants.{Left, Right}
 use Rattle.guest_runner.specs.Guest.{Guest, guest_setting}
 use Rattle.mcu_driver.specs.Bounds.{mcu_setting}
-use Rattle.mcu_driver.specs.Machine.{McuState}
-use Rattle.mcu_driver.specs.Requests as clock_requests
-use Rattle.mcu_driver.specs.Table as clock_table
-use Rattle.mcu_driver.specs.declared.call.Call as clock_calls
+use Rattle.mcu_machine.specs.Machine.{McuState}
+use Rattle.mcu_machine.specs.Requests as clock_requests
+use Rattle.mcu_machine.specs.Table as clock_table
+use Rattle.mcu_machine.specs.declared.call.Call as clock_calls
 use Rattle.wdg_driver.specs.Bounds.{wdg_setting}
-use Rattle.wdg_driver.specs.Machine.{WdgState}
-use Rattle.wdg_driver.specs.Requests as watchdog_requests
-use Rattle.wdg_driver.specs.Table as watchdog_table
-use Rattle.wdg_driver.specs.declared.call.Call as watchdog_calls
+use Rattle.wdg_machine.specs.Machine.{WdgState}
+use Rattle.wdg_machine.specs.Requests as watchdog_requests
+use Rattle.wdg_machine.specs.Table as watchdog_table
+use Rattle.wdg_machine.specs.declared.call.Call as watchdog_calls
 use Rattle.port_driver.specs.Bounds.{port_setting}
-use Rattle.port_driver.specs.Machine.{PortState, Put, Inverted, with_change}
-use Rattle.port_driver.specs.Machine as pins
-use Rattle.port_driver.specs.Requests as pin_requests
-use Rattle.port_driver.specs.Table as pin_table
-use Rattle.port_driver.specs.declared.call.Call as pin_calls
+use Rattle.port_machine.specs.Machine.{PortState, Put, Inverted, with_change}
+use Rattle.port_machine.specs.Machine as pins
+use Rattle.port_machine.specs.Requests as pin_requests
+use Rattle.port_machine.specs.Table as pin_table
+use Rattle.port_machine.specs.declared.call.Call as pin_calls
 use Rattle.dio_driver.specs.Guest.{dio}
-use Rattle.dio_driver.specs.Machine.{HostPins}
-use Rattle.dio_driver.specs.Requests as port_requests
-use Rattle.dio_driver.specs.Table as port_table
-use Rattle.dio_driver.specs.declared.call.Call as port_calls
-use Rattle.dio_driver.specs.declared.driver.DioDriver.{DioDriver}
+use Rattle.dio_machine.specs.Machine.{HostPins}
+use Rattle.dio_machine.specs.Requests as port_requests
+use Rattle.dio_machine.specs.Table as port_table
+use Rattle.dio_machine.specs.declared.call.Call as port_calls
+use Rattle.dio_machine.specs.declared.table.DioTable.{DioTable}
 use Rattle.dio_driver.specs.declared.frame.DioFrame.{DioFrame}
 use Rattle.gpt_driver.specs.Refinement.{gpt_setting}
-use Rattle.gpt_driver.specs.Machine.{GptState}
-use Rattle.gpt_driver.specs.Requests as timer_requests
-use Rattle.gpt_driver.specs.Table as timer_table
-use Rattle.gpt_driver.specs.declared.call.Call as timer_calls
+use Rattle.gpt_machine.specs.Machine.{GptState}
+use Rattle.gpt_machine.specs.Requests as timer_requests
+use Rattle.gpt_machine.specs.Table as timer_table
+use Rattle.gpt_machine.specs.declared.call.Call as timer_calls
 use Rattle.pwm_driver.specs.Bounds.{pwm_setting}
-use Rattle.pwm_driver.specs.Machine.{PwmState}
-use Rattle.pwm_driver.specs.Machine as pulses
-use Rattle.pwm_driver.specs.Requests as pulse_requests
-use Rattle.pwm_driver.specs.Table as pulse_table
-use Rattle.pwm_driver.specs.declared.call.Call as pulse_calls
-use Rattle.pwm_driver.specs.declared.driver.PwmDriver.{PwmDriver}
+use Rattle.pwm_machine.specs.Machine.{PwmState}
+use Rattle.pwm_machine.specs.Machine as pulses
+use Rattle.pwm_machine.specs.Requests as pulse_requests
+use Rattle.pwm_machine.specs.Table as pulse_table
+use Rattle.pwm_machine.specs.declared.call.Call as pulse_calls
+use Rattle.pwm_machine.specs.declared.table.PwmTable.{PwmTable}
 use Rattle.icu_driver.specs.Bounds.{icu_setting}
-use Rattle.icu_driver.specs.Machine.{IcuState}
-use Rattle.icu_driver.specs.Requests as capture_requests
-use Rattle.icu_driver.specs.Table as capture_table
-use Rattle.icu_driver.specs.declared.call.Call as capture_calls
+use Rattle.icu_machine.specs.Machine.{IcuState}
+use Rattle.icu_machine.specs.Requests as capture_requests
+use Rattle.icu_machine.specs.Table as capture_table
+use Rattle.icu_machine.specs.declared.call.Call as capture_calls
 use Rattle.adc_driver.specs.Requests as converter_requests
 use Rattle.adc_machine.specs.Bounds.{adc_setting}
 use Rattle.adc_machine.specs.Requests.{has_service as has_converter}
@@ -78,7 +78,7 @@ SystemCall = Either HostCall port_calls.Call
 -- ---- the pins
 
 -- the output of the pulse channel that is seen at a pin
-abbrev pub seen_at : PwmDriver → (outputs : List (Option ℕ)) → World → SystemState → (pin : ℕ) → Option Bool
+abbrev pub seen_at : PwmTable → (outputs : List (Option ℕ)) → World → SystemState → (pin : ℕ) → Option Bool
 seen_at d outputs w s p = option_map (λ k. pulses.level_at d w s.1.0.0 k) (channel_from 0 outputs p)
 
 -- with these pins
@@ -86,7 +86,7 @@ abbrev pub with_pins : SystemState → PortState → SystemState
 with_pins s x = ((s.0.0, (x, s.0.1.1)), s.1)
 
 -- the pins of all modules: their levels, and what of their latches may be changed
-abbrev pub host_pins : PwmDriver → (outputs : List (Option ℕ)) → HostPins SystemState
+abbrev pub host_pins : PwmTable → (outputs : List (Option ℕ)) → HostPins SystemState
 host_pins d outputs = record {
   level = λ w s p. pins.level_at w s.0.1.0 p (seen_at d outputs w s p);
   put = λ q word s. with_pins s (with_change s.0.1.0 (Put q word));
@@ -94,29 +94,29 @@ host_pins d outputs = record {
 }
 
 -- the driver of channels and ports as their guest, on a chip whose pulse outputs are seen at these pins
-abbrev pub ports_of : DioDriver → PwmDriver → (outputs : List (Option ℕ)) → Guest SystemState port_calls.Call DioFrame
+abbrev pub ports_of : DioTable → PwmTable → (outputs : List (Option ℕ)) → Guest SystemState port_calls.Call DioFrame
 ports_of d p outputs = dio d (host_pins p outputs) (λ wiring. wiring.outputs ≡ outputs)
 
 -- ---- the setting
 
 -- each module's under a configuration
 abbrev pub clock_setting : Config → Setting McuState clock_calls.Call
-clock_setting c = mcu_setting (clock_table.driver_of c.mcu)
+clock_setting c = mcu_setting (clock_table.table_of c.mcu)
 
 abbrev pub watchdog_setting : Config → Setting WdgState watchdog_calls.Call
-watchdog_setting c = wdg_setting (watchdog_table.driver_of c.wdg)
+watchdog_setting c = wdg_setting (watchdog_table.table_of c.wdg)
 
 abbrev pub pin_setting : Config → Setting PortState pin_calls.Call
-pin_setting c = port_setting (pin_table.driver_of c.port)
+pin_setting c = port_setting (pin_table.table_of c.port)
 
 abbrev pub timer_setting : Config → Setting GptState timer_calls.Call
-timer_setting c = gpt_setting (timer_table.driver_of c.gpt)
+timer_setting c = gpt_setting (timer_table.table_of c.gpt)
 
 abbrev pub pulse_setting : Config → Setting PwmState pulse_calls.Call
-pulse_setting c = pwm_setting (pulse_table.driver_of c.pwm)
+pulse_setting c = pwm_setting (pulse_table.table_of c.pwm)
 
 abbrev pub capture_setting : Config → Setting IcuState capture_calls.Call
-capture_setting c = icu_setting (capture_table.driver_of c.icu)
+capture_setting c = icu_setting (capture_table.table_of c.icu)
 
 abbrev pub converter_setting : Config → Setting AdcState converter_calls.Call
 converter_setting c = adc_setting (converter_table.table_of c.adc)
@@ -129,7 +129,7 @@ abbrev pub joined : {S T C D : Type 0} → Setting S C → Setting T D → Setti
 joined g h = union_setting g.used g h
 
 abbrev pub port_guest : Config → Guest SystemState port_calls.Call DioFrame
-port_guest c = ports_of (port_table.driver_of c.port c.dio) (pulse_table.driver_of c.pwm) (wiring_of c).outputs
+port_guest c = ports_of (port_table.table_of c.port c.dio) (pulse_table.table_of c.pwm) (wiring_of c).outputs
 
 -- all modules that have a state as one, and all modules
 abbrev pub host_setting : Config → Setting SystemState HostCall

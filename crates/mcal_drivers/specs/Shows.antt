@@ -6,11 +6,11 @@ use Rattle.mcal_base.specs.declared.config.whole.Config.{Config}
 use Rattle.mcal_base.specs.declared.layout.Array.{Array}
 use Rattle.mcal_base.specs.declared.layout.Array.TheVariants.{Round, Stamps, Source, Destination}
 use Rattle.run_model.specs.World.{World}
-use Rattle.mcu_driver.specs.Machine as clock
-use Rattle.port_driver.specs.Machine as pins
-use Rattle.pwm_driver.specs.Machine as pulses
-use Rattle.pwm_driver.specs.Table as pulse_table
-use Rattle.icu_driver.specs.Bounds as captures
+use Rattle.mcu_machine.specs.Machine as clock
+use Rattle.port_machine.specs.Machine as pins
+use Rattle.pwm_machine.specs.Machine as pulses
+use Rattle.pwm_machine.specs.Table as pulse_table
+use Rattle.icu_machine.specs.Shown as captures
 use Rattle.adc_machine.specs.Machine as converters
 use Rattle.adc_machine.specs.Table as converter_table
 use Rattle.adc_machine.specs.Words.{buffer_number, place_count}
@@ -33,7 +33,7 @@ channel_on c p = find (λ (x : PwmChannel). is_pin x.pin p) c.pwm.channels
 
 -- the output of the pulse channel that names a pin
 abbrev pub pulse_at : Config → World → SystemState → (pin : ℕ) → Option Bool
-pulse_at c w s p = option_map (λ (x : PwmChannel). pulses.level_at (pulse_table.driver_of c.pwm) w s.1.0.0 x.id) (channel_on c p)
+pulse_at c w s p = option_map (λ (x : PwmChannel). pulses.level_at (pulse_table.table_of c.pwm) w s.1.0.0 x.id) (channel_on c p)
 
 -- the level of a pin
 abbrev pub level_at : Config → World → SystemState → (pin : ℕ) → Bool

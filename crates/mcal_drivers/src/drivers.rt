@@ -100,7 +100,7 @@ type HostCall = Either<
 >;
 
 /// A call of one of them, or of their guest.
-type Call = Either<HostCall, dio_driver::Call>;
+type Call = Either<HostCall, dio_machine::Call>;
 
 /// The states of their machines.
 type States = (
@@ -352,7 +352,7 @@ impl Caller for Drivers {
                     self.converters.call(request),
                 ))))
             }
-            ModuleName::Dio => Either::Right(dio_driver::call_of(request)),
+            ModuleName::Dio => Either::Right(dio_machine::call_of(request)),
             _ => Either::Left(Either::Right(Either::Right(Either::Right(
                 self.serial.call(request),
             )))),

@@ -22,17 +22,17 @@ use Rattle.service_outline.specs.Services.{entering}
 use Rattle.step_runner.specs.Driver.{Driver}
 use Rattle.step_runner.specs.Union.{either_handler, has_handler, union_setting, union_of}
 use Rattle.guest_runner.specs.Guest.{guest_setting}
-use Rattle.gpt_driver.specs.Table as timer_table
+use Rattle.gpt_machine.specs.Table as timer_table
 use Rattle.gpt_driver.specs.declared.asked.Asked as timer_asked
-use Rattle.gpt_driver.specs.declared.driver.Channel as timer_channels
+use Rattle.gpt_machine.specs.declared.table.Channel as timer_channels
 use Rattle.gpt_driver.specs.laws.Lawful as timer_laws
-use Rattle.icu_driver.specs.Table as capture_table
+use Rattle.icu_machine.specs.Table as capture_table
 use Rattle.icu_driver.specs.declared.asked.Asked as capture_asked
-use Rattle.icu_driver.specs.declared.driver.Channel as capture_channels
+use Rattle.icu_machine.specs.declared.table.Channel as capture_channels
 use Rattle.icu_driver.specs.laws.Handler as capture_laws
-use Rattle.pwm_driver.specs.Table as pulse_table
+use Rattle.pwm_machine.specs.Table as pulse_table
 use Rattle.pwm_driver.specs.declared.asked.Asked as pulse_asked
-use Rattle.pwm_driver.specs.declared.driver.Channel as pulse_channels
+use Rattle.pwm_machine.specs.declared.table.Channel as pulse_channels
 use Rattle.pwm_driver.specs.laws.Lawful as pulse_laws
 use Rattle.adc_driver.specs.Handlers.{handled_by as handled_converter}
 use Rattle.adc_groups.specs.declared.asked.Asked as converter_asked
@@ -62,21 +62,21 @@ timer_line None = refl
 timer_line (Some k) = refl
 
 timer_lines : (c : Config) → has_handler (timers c) ≡ (timer_setting c).used
-timer_lines c = fun_ext (λ l. timer_line (timer_table.channel_of (timer_table.driver_of c.gpt) l))
+timer_lines c = fun_ext (λ l. timer_line (timer_table.channel_of (timer_table.table_of c.gpt) l))
 
 pulse_line : (k : Option pulse_channels.Channel) → is_some (entering {Asked = pulse_asked.Asked} (pulse_laws.body_by k)) ≡ is_some k
 pulse_line None = refl
 pulse_line (Some k) = refl
 
 pulse_lines : (c : Config) → has_handler (pulses c) ≡ (pulse_setting c).used
-pulse_lines c = fun_ext (λ l. pulse_line (pulse_table.channel_of_line (pulse_table.driver_of c.pwm) l))
+pulse_lines c = fun_ext (λ l. pulse_line (pulse_table.channel_of_line (pulse_table.table_of c.pwm) l))
 
 capture_line : (k : Option capture_channels.Channel) → is_some (entering {Asked = capture_asked.Asked} (capture_laws.body_by k)) ≡ is_some k
 capture_line None = refl
 capture_line (Some k) = refl
 
 capture_lines : (c : Config) → has_handler (captures c) ≡ (capture_setting c).used
-capture_lines c = fun_ext (λ l. capture_line (capture_table.channel_of_line (capture_table.driver_of c.icu) l))
+capture_lines c = fun_ext (λ l. capture_line (capture_table.channel_of_line (capture_table.table_of c.icu) l))
 
 converter_line : (d : AdcTable) (line : ℕ) (q : Bool) → is_some (entering {Asked = converter_asked.Asked} (handled_converter d line q)) ≡ q
 converter_line d line true = refl

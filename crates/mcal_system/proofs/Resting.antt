@@ -20,10 +20,10 @@ use Rattle.mcu_driver.specs.laws.Lawful.{mcu}
 use Rattle.wdg_driver.specs.laws.Lawful.{wdg}
 use Rattle.port_driver.specs.laws.Lawful.{port}
 use Rattle.pwm_driver.specs.laws.Lawful.{pwm}
-use Rattle.icu_driver.specs.Bounds.{size_of}
+use Rattle.icu_machine.specs.Shown.{size_of}
 use Rattle.icu_driver.specs.Refinement.{settled, IcuRepresents}
-use Rattle.icu_driver.specs.Machine.{IcuState}
-use Rattle.icu_driver.specs.declared.driver.IcuDriver.{IcuDriver}
+use Rattle.icu_machine.specs.Machine.{IcuState}
+use Rattle.icu_machine.specs.declared.table.IcuTable.{IcuTable}
 use Rattle.icu_driver.specs.laws.Lawful.{icu}
 use Rattle.adc_driver.specs.declared.driver.AdcDriver.{AdcDriver}
 use Rattle.adc_driver.specs.laws.words.ConfigurationFits as converter_fits
@@ -77,7 +77,7 @@ serial_related : (u : Drivers) (chip : Chip) (w : World) (s : SystemState) → (
 serial_related u chip w s h = second_of (services_driver (converters_of u.converters.table)) (services_driver (serial_of u.serial.table)) chip w s.1.1 (lasts_related u chip w s h)
 
 -- what the capture driver says of the places of a channel's stamps
-abbrev pub ToldSize : IcuDriver → Chip → (channel : ℕ) → Option ℕ → Type 0
+abbrev pub ToldSize : IcuTable → Chip → (channel : ℕ) → Option ℕ → Type 0
 ToldSize d chip n result = (w : World) (s : IcuState) → n < 8 → IcuRepresents d settled chip w s → result ≡ size_of s n
 
 -- what the converter driver says of the buffer that was chosen for a group
@@ -120,7 +120,7 @@ module _ {c : Config} {script : List Directive} {devices : ℕ} {es : List Entry
   captures_agree : IcuRepresents (drivers_of c).captures settled chip there.world there.state.1.0.1
   captures_agree = captures_related (drivers_of c) chip there.world there.state rests.relates
 
-  pub size_there : (d : IcuDriver) → d ≡ (drivers_of c).captures → (n : ℕ) → n < 8 → (result : Option ℕ) → ToldSize d chip n result → result ≡ size_at (moment_at r).state n
+  pub size_there : (d : IcuTable) → d ≡ (drivers_of c).captures → (n : ℕ) → n < 8 → (result : Option ℕ) → ToldSize d chip n result → result ≡ size_at (moment_at r).state n
   size_there d made n lt result told = so (λ x. result ≡ size_at (moment_at x).state n) (subst (λ k. ToldSize k chip n result) made told there.world there.state.1.0.1 lt captures_agree)
 
   pub size_fits : (n : ℕ) → n < 8 → IfSome (size_at (moment_at r).state n) (λ k. k ≤ length_of r.config (Stamps n))

@@ -20,8 +20,10 @@ use Rattle.mcal_base.specs.declared.moves.Move.TheVariants.{Read, Write, Load, S
 use Rattle.mcal_base.specs.declared.register.Reg.{Reg}
 use Rattle.mcal_base.specs.declared.register.Reg.TheVariants.{EnableSet, EnableClear, TimerLow, CaptureCountLow, CaptureTimeLow, ConverterAbort, SerialSelect, SerialWidth, SerialData, SerialAck, PinFlip}
 use Rattle.run_model.specs.declared.item.Stepped.{Stepped}
-use Rattle.run_model.specs.declared.item.Item.{Item}
-use Rattle.run_model.specs.Entry.{Entry, Said, entries, said_at}
+use Rattle.run_model.specs.declared.kept.JournalLists.{JournalLists}
+use Rattle.run_model.specs.declared.kept.Kept.{Kept}
+use Rattle.run_model.specs.Entry.{Entry, Said, said_at}
+use Rattle.run_model.specs.Packing.{what_of, entries_in}
 use Rattle.run_model.specs.Entry as said
 use Rattle.run_model.specs.Frame.{Open, outcome_at, state_by, begun_by}
 use Rattle.run_model.specs.Legal.{IsBegun, SendsRight, LegalStep, IsLegalDeed, IsLegal}
@@ -231,10 +233,10 @@ deeds_told u script (e ∷ es) t =
     ∙ deeds_told u script es (with_said u e.said t)
 
 -- where the first item is told the others are left
-pub first_told : (u : ℕ) (words : List ℕ) (xs : List Item) (none : Item) (t told : Wire) → told ≡ with_said u (said_at words (get_or xs 0 none).what) t → 1 ≤ length xs
-    → with_all u (entries words (take (length xs - 1) (drop 1 xs))) told ≡ with_all u (entries words xs) t
-first_told u words [] none t told is le = absurd (omega (arith, le))
-first_told u words (x ∷ xs) none t told is le = ap (λ ys. with_all u (entries words ys) told) (take_rest (x ∷ xs) 1) ∙ ap (λ z. with_all u (entries words xs) z) is
+pub first_told : (u : ℕ) (lists : JournalLists) (xs : List Kept) (none : Kept) (t told : Wire) → told ≡ with_said u (said_at lists.words.now (what_of lists.rests.now (get_or xs 0 none).what)) t → 1 ≤ length xs
+    → with_all u (entries_in lists (take (length xs - 1) (drop 1 xs))) told ≡ with_all u (entries_in lists xs) t
+first_told u lists [] none t told is le = absurd (omega (arith, le))
+first_told u lists (x ∷ xs) none t told is le = ap (λ ys. with_all u (entries_in lists ys) told) (take_rest (x ∷ xs) 1) ∙ ap (λ z. with_all u (entries_in lists xs) z) is
 
 -- ---- what is told is so in the moment
 

@@ -104,9 +104,10 @@ pub(crate) fn told_by(
         width: 0,
         words: Vec::new(alloc),
     };
-    let mut rest = journal.items();
+    let lists = journal.lists();
+    let mut rest = lists.items;
     while let [item, behind @ ..] = rest {
-        told.take(unit, item.what)?;
+        told.take(unit, item.says(lists.rests))?;
         rest = behind;
     }
     Ok(told.words)

@@ -6,8 +6,8 @@ use Rattle.std.proofs.lemmas.Option.{slice_get_within, get_or_from_slice_get}
 use Rattle.mcal_base.specs.declared.config.mcu.McuClockSetting.{McuClockSetting}
 use Rattle.mcal_base.specs.declared.config.mcu.McuRamSection.{McuRamSection}
 use Rattle.mcal_base.specs.declared.config.mcu.McuConfig.{McuConfig}
-use Rattle.mcu_driver.specs.Table.{multiplier_in, taken, taken_if, section_in, driver_of, multiplier_of, section_of, is_within, FitsMcu}
-use Rattle.mcu_driver.specs.declared.driver.Section.{Section}
+use Rattle.mcu_machine.specs.Table.{multiplier_in, taken, taken_if, section_in, table_of, multiplier_of, section_of, is_within, FitsMcu}
+use Rattle.mcu_machine.specs.declared.table.Section.{Section}
 
 -- the multiplier is one that the PLL has
 pub record IsSoundSetting (x : McuClockSetting) : Type 0 where
@@ -53,11 +53,11 @@ within n o x e = by (nat_lt n 8) refl e
     by true i f = grind (arith, nat_tests)
     by false i f = absurd (cc)
 
-setting_in : (g : McuConfig) (n k : ℕ) → multiplier_of (driver_of g) n ≡ Some k → multiplier_in g.clock_settings n ≡ Some k
-setting_in g n k e = by_eight (λ i. multiplier_of (driver_of g) i ≡ Some k → multiplier_in g.clock_settings i ≡ Some k) (λ f. f) (λ f. f) (λ f. f) (λ f. f) (λ f. f) (λ f. f) (λ f. f) (λ f. f) n (within n _ k e) e
+setting_in : (g : McuConfig) (n k : ℕ) → multiplier_of (table_of g) n ≡ Some k → multiplier_in g.clock_settings n ≡ Some k
+setting_in g n k e = by_eight (λ i. multiplier_of (table_of g) i ≡ Some k → multiplier_in g.clock_settings i ≡ Some k) (λ f. f) (λ f. f) (λ f. f) (λ f. f) (λ f. f) (λ f. f) (λ f. f) (λ f. f) n (within n _ k e) e
 
-in_sections : (g : McuConfig) (n : ℕ) (x : Section) → section_of (driver_of g) n ≡ Some x → section_in g.ram_sections n ≡ Some x
-in_sections g n x e = by_eight (λ i. section_of (driver_of g) i ≡ Some x → section_in g.ram_sections i ≡ Some x) (λ f. f) (λ f. f) (λ f. f) (λ f. f) (λ f. f) (λ f. f) (λ f. f) (λ f. f) n (within n _ x e) e
+in_sections : (g : McuConfig) (n : ℕ) (x : Section) → section_of (table_of g) n ≡ Some x → section_in g.ram_sections n ≡ Some x
+in_sections g n x e = by_eight (λ i. section_of (table_of g) i ≡ Some x → section_in g.ram_sections i ≡ Some x) (λ f. f) (λ f. f) (λ f. f) (λ f. f) (λ f. f) (λ f. f) (λ f. f) (λ f. f) n (within n _ x e) e
 
 found_by : (x : McuClockSetting) (o : Option ℕ) (k : ℕ) (q : Bool) → IsSoundSetting x → (o ≡ Some k → (0 < k) × (k ≤ 16)) → (if q then Some x.multiplier else o) ≡ Some k → (0 < k) × (k ≤ 16)
 found_by x o k true sound more e = let is : x.multiplier ≡ k = cc in subst (λ y. (0 < y) × (y ≤ 16)) is (sound.positive, sound.most)
@@ -71,7 +71,7 @@ found (x ∷ xs) n k sound e = found_by x (multiplier_in xs n) k (x.id == n) (so
 abbrev Stands : McuConfig → ℕ → Section → Type 0
 Stands g n x = (y : McuRamSection) × (slice_get g.ram_sections n ≡ Some y) × (taken y ≡ x)
 
-stands : (g : McuConfig) (n : ℕ) (x : Section) → section_of (driver_of g) n ≡ Some x → Stands g n x
+stands : (g : McuConfig) (n : ℕ) (x : Section) → section_of (table_of g) n ≡ Some x → Stands g n x
 stands g n x e = by (slice_get g.ram_sections n) refl (in_sections g n x e)
   where
     by : (o : Option McuRamSection) → slice_get g.ram_sections n ≡ o → taken_if o ≡ Some x → Stands g n x
@@ -100,7 +100,7 @@ apart_by xs m n k x y apart e f ne = by (nat_lt m n) refl
     by false i = let lt : n < m = grind (arith, nat_tests) in separate_back x y k (apart n m y x lt f e)
 
 -- the driver of a sound configuration
-pub fits_of : (g : McuConfig) → IsSound g → FitsMcu (driver_of g)
+pub fits_of : (g : McuConfig) → IsSound g → FitsMcu (table_of g)
 fits_of g sound = record {
   multiplier = λ n k e. found g.clock_settings n k sound.settings (setting_in g n k e);
   inside = λ n x e. let s = stands g n x e in subst (λ y. y.base + y.size ≤ 512) s.2 (sound_at g.ram_sections n s.0 sound.sections s.1).inside;

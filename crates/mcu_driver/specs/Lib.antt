@@ -1,10 +1,5 @@
 pub mod Bounds
-pub mod Checks
 pub mod Fits
 pub mod Refinement
-pub mod Machine
-pub mod Requests
-pub mod Runs
-pub mod Table
 pub mod Terms
 pub mod laws

@@ -8,12 +8,12 @@ use Rattle.run_model.specs.World.{World}
 use Rattle.run_model.specs.Frame.{Called}
 use Rattle.service_outline.specs.Services.{ReservedBy, SharedRefinement}
 use Rattle.mcu_driver.specs.Bounds.{owns, mcu_setting}
-use Rattle.mcu_driver.specs.Machine.{Pll, McuState, ram_at}
-use Rattle.mcu_driver.specs.Table.{section_of, is_within}
-use Rattle.mcu_driver.specs.declared.call.Call.{Call}
-use Rattle.mcu_driver.specs.declared.call.Call.TheVariants.{InitRamSection}
-use Rattle.mcu_driver.specs.declared.driver.McuDriver.{McuDriver}
-use Rattle.mcu_driver.specs.declared.driver.Section.{Section}
+use Rattle.mcu_machine.specs.Machine.{Pll, McuState, ram_at}
+use Rattle.mcu_machine.specs.Table.{section_of, is_within}
+use Rattle.mcu_machine.specs.declared.call.Call.{Call}
+use Rattle.mcu_machine.specs.declared.call.Call.TheVariants.{InitRamSection}
+use Rattle.mcu_machine.specs.declared.table.McuTable.{McuTable}
+use Rattle.mcu_machine.specs.declared.table.Section.{Section}
 use Rattle.mcu_driver.specs.declared.words.TheConstants.{STATE, MODE}
 
 -- ---- what is held
@@ -35,7 +35,7 @@ abbrev pub done_by : Option Section → (upto old k : ℕ) → ℕ
 done_by None i old k = old
 done_by (Some x) i old k = if is_done x i k then x.default_value else old
 
-abbrev pub want : McuDriver → Reservations → (ℕ → ℕ) → ℕ → ℕ
+abbrev pub want : McuTable → Reservations → (ℕ → ℕ) → ℕ → ℕ
 want d [] f k = f k
 want d (h ∷ hs) f k = done_by (section_of d h.what.section) h.what.upto (want d hs f k) k
 
@@ -69,7 +69,7 @@ mode_word (Some m) = m
 -- ---- the agreement
 
 -- at every step, in windows too, the clock block is the machine's, and so are the RAM words but for those that frames are filling
-pub record McuRepresents (d : McuDriver) (held : Reservations) (chip : Chip) (w : World) (s : McuState) : Type 0 where
+pub record McuRepresents (d : McuTable) (held : Reservations) (chip : Chip) (w : World) (s : McuState) : Type 0 where
   pub right : AllRight s.initialised held
   pub all : HasAll chip
   pub clock : chip.clock ≡ clock_of w s
@@ -80,7 +80,7 @@ pub record McuRepresents (d : McuDriver) (held : Reservations) (chip : Chip) (w 
   pub ram : (k : ℕ) → k < 512 → slice_index chip.ram k ≡ want d held (ram_at s) k
 
 -- what all services of the driver stand on; nothing is ever under work
-abbrev pub mcu_basis : McuDriver → SharedRefinement McuState Call
+abbrev pub mcu_basis : McuTable → SharedRefinement McuState Call
 mcu_basis d = record {
   setting = mcu_setting d;
   wired = λ chip. Unit {0};

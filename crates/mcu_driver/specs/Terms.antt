@@ -38,8 +38,10 @@ pub use Rattle.run_model.specs.{World.{world_after}}
 pub use Rattle.step_runner.proofs.Whose.{not-unless}
 pub use Rattle.step_runner.specs.Whose.{is_of, KeepsTo, module_of_register, module_of_word, NamesOthers, NamesWithin}
 pub use Rattle.step_runner.specs.Whose.{only, WritesOthers, WritesWithin}
-pub use Rattle.service_outline.specs.{Acts.{Cleans}, Both.{both}, Done.{answers, ends, goes, named, owed_error}}
-pub use Rattle.service_outline.specs.{Done.{tells_error}, FrameHistory.{FrameHistory, fresh_history, Is_this_frame}}
+pub use Rattle.run_model.specs.{Machine.{answers, named}}
+pub use Rattle.service_outline.specs.{Acts.{Cleans}, Both.{both}, Done.{ends, goes, owed_error}}
+pub use Rattle.run_model.specs.{Machine.{tells_error}}
+pub use Rattle.service_outline.specs.{FrameHistory.{FrameHistory, fresh_history, Is_this_frame}}
 pub use Rattle.service_outline.specs.{FrameHistory.{IsThisFrame}, Fuel.{Shortens, ShortensTo}, Services.{Agreed}}
 pub use Rattle.service_outline.specs.{Services.{AllLet, AreLong, AreServices, AssertedAt, Beside, Decides, IsBasis}}
 pub use Rattle.service_outline.specs.{Services.{KeepsMask, LongBodies, mark_of, MayCome, place_at, PointAssertion}}
@@ -58,18 +60,22 @@ pub use Rattle.service_outline.specs.laws.{Reports.{error_told}, Seen.{free_wind
 pub use Rattle.service_outline.specs.laws.{ShortServices.{plain_turns}, StepKinds.{or_true}, Sweeping.{sweep_right}}
 pub use Rattle.service_outline.specs.laws.{There.{move_there}, Words.{fills_there, stored_other, stored_same}}
 pub use Rattle.service_outline.specs.laws.{Words.{stores_in, word_apart, word_later}}
-pub use Rattle.mcu_driver.specs.{Bounds.{call_steps, class_of, is_own_word, is_register, may, mcu_setting, owns}}
-pub use Rattle.mcu_driver.specs.{Bounds.{size_of}, Checks.{answer_refused, error_by, facts_by, reporting, service_of}}
-pub use Rattle.mcu_driver.specs.{Machine.{acts_by, after_reset, clocked, distributed, filled, fills_with, happens}}
-pub use Rattle.mcu_driver.specs.{Machine.{is_locked, mcu_machine, McuState, Pll, ram_at, reason_name, status_name}}
-pub use Rattle.mcu_driver.specs.{Machine.{word_in, work}, Refinement.{AllRight, clock_of, done_by, is_done, IsSlowPll}}
+pub use Rattle.mcu_machine.specs.{Classes.{class_of}}
+pub use Rattle.mcu_driver.specs.{Bounds.{call_steps, is_own_word, is_register, may, mcu_setting, owns}}
+pub use Rattle.mcu_machine.specs.{Checks.{answer_refused, error_by, facts_by, reporting, service_of}}
+pub use Rattle.mcu_driver.specs.{Bounds.{size_of}}
+pub use Rattle.mcu_machine.specs.{Machine.{acts_by, after_reset, clocked, distributed, filled, fills_with, happens}}
+pub use Rattle.mcu_machine.specs.{Machine.{is_locked, mcu_machine, McuState, Pll, ram_at, reason_name, status_name}}
+pub use Rattle.mcu_machine.specs.{Machine.{word_in, work}}
+pub use Rattle.mcu_driver.specs.{Refinement.{AllRight, clock_of, done_by, is_done, IsSlowPll}}
 pub use Rattle.mcu_driver.specs.{Refinement.{mcu_basis, McuRepresents, Part, pll_of, Reservations, state_word, want}}
-pub use Rattle.mcu_driver.specs.{Table.{FitsMcu, is_within, multiplier_of, section_of}, declared.asked.Asked.{Asked}}
-pub use Rattle.mcu_driver.specs.{declared.call.Call.{Call}, declared.call.Call.TheVariants.{Clock, GetPllStatus}}
-pub use Rattle.mcu_driver.specs.{declared.call.Call.TheVariants.{GetResetReason, Init, InitRamSection, PerformReset}}
-pub use Rattle.mcu_driver.specs.{declared.call.Call.TheVariants.{SetMode}}
-pub use Rattle.mcu_driver.specs.{declared.call.ClockCall.TheVariants.{DistributePllClock, InitClock}}
-pub use Rattle.mcu_driver.specs.{declared.driver.McuDriver.{McuDriver}, declared.driver.Section.{Section}}
+pub use Rattle.mcu_machine.specs.{Table.{FitsMcu, is_within, multiplier_of, section_of}}
+pub use Rattle.mcu_driver.specs.{declared.asked.Asked.{Asked}}
+pub use Rattle.mcu_machine.specs.{declared.call.Call.{Call}, declared.call.Call.TheVariants.{Clock, GetPllStatus}}
+pub use Rattle.mcu_machine.specs.{declared.call.Call.TheVariants.{GetResetReason, Init, InitRamSection, PerformReset}}
+pub use Rattle.mcu_machine.specs.{declared.call.Call.TheVariants.{SetMode}}
+pub use Rattle.mcu_machine.specs.{declared.call.ClockCall.TheVariants.{DistributePllClock, InitClock}}
+pub use Rattle.mcu_machine.specs.{declared.table.McuTable.{McuTable}, declared.table.Section.{Section}}
 pub use Rattle.mcu_driver.specs.{declared.service.clock.ClockBody.{ClockBody}}
 pub use Rattle.mcu_driver.specs.{declared.service.clock.ClockBody.TheVariants.{Look, Start, Take}}
 pub use Rattle.mcu_driver.specs.{declared.service.fill.Fill.{Fill}, declared.service.fill.FilledBody.{FilledBody}}

@@ -1,9 +1,8 @@
 ghost use Rattle.std.specs.Prelude.{◌≡◌};
 ghost use Rattle.mcu_driver.specs.laws.Look as spec;
-ghost use Rattle.mcu_driver.specs.Checks as checks;
+ghost use Rattle.mcu_machine.specs.Checks as checks;
 
-use crate::call::{Call, ClockCall};
-use crate::driver::{McuDriver, Section};
+use crate::driver::McuDriver;
 use crate::service::clock::ClockBody;
 use crate::service::fill::Fill;
 use crate::service::query::QueryBody;
@@ -13,6 +12,7 @@ use crate::service::{self, McuBody};
 use crate::words::STATE;
 use det_errors::{Facts, first_error};
 use mcal_base::{Answer, AnswerName, ErrorName, Service};
+use mcu_machine::{Call, ClockCall, Section};
 use service_outline::{Done, Epilogue, Looked, Reply, named, nothing};
 
 /// A call with the driver that it is made of.

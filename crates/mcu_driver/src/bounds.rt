@@ -1,9 +1,9 @@
 ghost use Rattle.std.specs.Prelude.{◌≡◌, ◌≤◌};
 ghost use Rattle.mcu_driver.specs.Bounds as spec;
-ghost use Rattle.mcu_driver.specs.Table.{FitsMcu, section_of};
+ghost use Rattle.mcu_machine.specs.Table.{FitsMcu, section_of};
 
-use crate::call::Call;
 use crate::driver::McuDriver;
+use mcu_machine::Call;
 
 impl McuDriver {
     /// The most steps of a call's frame.

@@ -6,18 +6,14 @@
 
 mod asked;
 mod bounds;
-mod call;
 mod caller;
 mod driver;
 mod frames;
-pub mod laws;
-mod request;
 mod service;
 mod words;
 
 pub use asked::Asked;
-pub use call::{Call, ClockCall};
-pub use driver::{McuDriver, Section};
+pub use driver::McuDriver;
 pub use frames::{McuFrame, McuMachine};
 pub use service::clock::ClockBody;
 pub use service::fill::{Fill, FilledBody};

@@ -1,6 +1,6 @@
--- Which calls may begin over which, the bounds of their frames, what frames may name, what stands in the pins, and what a run of the driver is over.
-use Rattle.std.specs.Prelude.{◌≡◌, ℕ, zero, suc, ◌+◌, ◌*◌, ◌/◌, ◌%◌, ◌<◌, ◌==◌, nat_lt, Bool, true, false, not, ◌&&◌, ◌||◌, sum_by, List, [], ◌∷◌, ◌++◌, length, map, Option, Some, None, is_some}
-use Rattle.std.specs.List.{filter, list_any, range_with_len}
+-- Lines, the bounds of frames, what frames may name, what stands in the pins, and what a run of the driver is over.
+use Rattle.std.specs.Prelude.{◌≡◌, ℕ, zero, suc, ◌+◌, ◌*◌, ◌/◌, ◌%◌, ◌<◌, ◌==◌, nat_lt, Bool, true, false, not, ◌&&◌, ◌||◌, sum_by, List, [], ◌∷◌, ◌++◌, length, Option, Some, None, is_some}
+use Rattle.std.specs.List.{list_any}
 use Rattle.chip_units.specs.Pins as pins
 use Rattle.mcal_base.specs.Bits.{bit_of, has_bit}
 use Rattle.mcal_base.specs.declared.module_name.ModuleName.{ModuleName}
@@ -9,28 +9,20 @@ use Rattle.mcal_base.specs.declared.moves.Move.{Move}
 use Rattle.mcal_base.specs.declared.moves.Move.TheVariants.{Read, Write, Load, Store}
 use Rattle.mcal_base.specs.declared.register.Reg.{Reg}
 use Rattle.mcal_base.specs.declared.register.Reg.TheVariants.{PinDirectionSet, PinDirectionClear, PinOutSet, PinOutClear, PinMode, PortPut, PinFlip}
-use Rattle.run_model.specs.declared.class.Class.{Class}
-use Rattle.run_model.specs.declared.class.Kind.TheVariants.{Exclusive, Keyed}
-use Rattle.run_model.specs.declared.class.KeyKind.TheVariants as keys
 use Rattle.run_model.specs.Causes.{is_exclusive}
 use Rattle.run_model.specs.Frame.{Origin, Called, Entered}
 use Rattle.run_model.specs.Moment.{Setting}
-use Rattle.run_model.specs.World.{World}
 use Rattle.service_outline.specs.There.{names_there}
-use Rattle.port_driver.specs.Machine.{PinState, PortState, pin_at, first_state, is_out, level_at, port_machine}
-use Rattle.port_driver.specs.Table.{pin_of}
-use Rattle.port_driver.specs.declared.call.Call.{Call}
-use Rattle.port_driver.specs.declared.call.Call.TheVariants.{Init, RefreshPortDirection}
-use Rattle.port_driver.specs.declared.call.Call.TheVariants as calls
-use Rattle.port_driver.specs.declared.driver.Pin.{Pin}
-use Rattle.port_driver.specs.declared.driver.PortDriver.{PortDriver}
+use Rattle.port_machine.specs.Machine.{PinState, PortState, pin_at, first_state, is_out, port_machine}
+use Rattle.port_machine.specs.Table.{pin_of}
+use Rattle.port_machine.specs.declared.call.Call.{Call}
+use Rattle.port_machine.specs.declared.call.Call.TheVariants.{Init, RefreshPortDirection}
+use Rattle.port_machine.specs.declared.call.Call.TheVariants as calls
+use Rattle.port_machine.specs.declared.table.Pin.{Pin}
+use Rattle.port_machine.specs.declared.table.PortTable.{PortTable}
+use Rattle.port_machine.specs.Classes.{class_of}
 
--- ---- classes
-
--- the class of a call: one about a pin has that pin as its key, and any other begins over no frame of the module
-abbrev pub class_of : Call → Class
-class_of (calls.Pin p call) = record { kind = Keyed; «module» = Port; key = Some (record { kind = keys.Pin; number = p }) }
-class_of _ = record { kind = Exclusive; «module» = Port; key = None }
+-- ---- lines
 
 -- the module uses no line
 abbrev pub level_of : (line : ℕ) → ℕ
@@ -45,15 +37,15 @@ owner_of line = Port
 abbrev pub counted : Option Pin → ℕ
 counted k = bit_of (is_some k)
 
-abbrev pub pin_count : PortDriver → ℕ
+abbrev pub pin_count : PortTable → ℕ
 pin_count d = sum_by counted d.pins
 
 -- the most steps of a call's frame: of `Port_Init` 48 more for each configured pin
-abbrev pub call_steps : PortDriver → Call → ℕ
+abbrev pub call_steps : PortTable → Call → ℕ
 call_steps d Init = 64 + 48 * pin_count d
 call_steps d _ = 64
 
-abbrev pub steps_of : PortDriver → Origin Call → ℕ
+abbrev pub steps_of : PortTable → Origin Call → ℕ
 steps_of d (Called call) = call_steps d call
 steps_of d (Entered line) = 64
 
@@ -122,12 +114,12 @@ latch_duty p None = []
 latch_duty p (Some k) = puts_latch k.level_high p ∷ []
 
 -- the latch of each configured pin below n
-unfoldable pub latch_duties : PortDriver → (n : ℕ) → List (Move → Bool)
+unfoldable pub latch_duties : PortTable → (n : ℕ) → List (Move → Bool)
 latch_duties d zero = []
 latch_duties d (suc n) = latch_duty n (pin_of d n) ++ latch_duties d n
 
 -- `Port_Init` writes the latch of each configured pin, in every call
-abbrev pub must_by : PortDriver → Call → List (Move → Bool)
+abbrev pub must_by : PortTable → Call → List (Move → Bool)
 must_by d Init = latch_duties d 64
 must_by d RefreshPortDirection = []
 must_by d (calls.Pin p call) = []
@@ -153,14 +145,10 @@ is_alone (Entered line) = false
 abbrev pub PinsStand : pins.Pins → PortState → List (Origin Call) → Type 0
 PinsStand b s origins = list_any is_alone origins ≡ false → PinsAgree b s × (length b.latches ≡ 2)
 
--- the levels that are shown: of the configured pins by number, with the outputs of the pulse channels that name them
-abbrev pub shown_levels : PortDriver → World → PortState → (pulses : ℕ → Option Bool) → List (ℕ × Bool)
-shown_levels d w s pulses = map (λ p. (p, level_at w s p (pulses p))) (filter (λ p. is_some (pin_of d p)) (range_with_len 0 64))
-
 -- ---- the setting
 
 -- what a run of the driver is over
-abbrev pub port_setting : PortDriver → Setting PortState Call
+abbrev pub port_setting : PortTable → Setting PortState Call
 port_setting d = record {
   machine = port_machine d;
   first = first_state;

@@ -7,8 +7,8 @@ use Rattle.mcal_base.specs.declared.config.port.PortPin.{PortPin}
 use Rattle.mcal_base.specs.declared.config.port.PortPinMode.{PortPinMode}
 use Rattle.mcal_base.specs.declared.config.port.PortPinMode.TheVariants.{Adc, Dio, Icu, Pwm, Spi}
 use Rattle.mcal_base.specs.declared.config.port.PortConfig.{PortConfig}
-use Rattle.port_driver.specs.Table.{lists, modes_of, taken, pin_in, pins_by_number, driver_of, pin_of, is_among, FitsPort}
-use Rattle.port_driver.specs.declared.driver.Pin.{Pin}
+use Rattle.port_machine.specs.Table.{lists, modes_of, taken, pin_in, pins_by_number, table_of, pin_of, is_among, FitsPort}
+use Rattle.port_machine.specs.declared.table.Pin.{Pin}
 
 -- the pin's initial mode is one of its modes
 abbrev pub IsSoundPin : PortPin → Type 0
@@ -33,7 +33,7 @@ found [] p k sound e = absurd (cc)
 found (x ∷ xs) p k sound e = found_by x (pin_in xs p) k (x.id == p) (sound 0 x (omega arith)) (λ f. found xs p k (λ i y lt. sound (suc i) y (omega arith)) f) e
 
 -- a pin of the driver is the first of its number
-numbered : (g : PortConfig) (p : ℕ) (k : Pin) → pin_of (driver_of g) p ≡ Some k → pin_in g.pins p ≡ Some k
+numbered : (g : PortConfig) (p : ℕ) (k : Pin) → pin_of (table_of g) p ≡ Some k → pin_in g.pins p ≡ Some k
 numbered g p k e = by (nat_lt p 64) refl e
   where
     by : (q : Bool) → nat_lt p 64 ≡ q → (if q then slice_index_or (pins_by_number g.pins) p None else None) ≡ Some k → pin_in g.pins p ≡ Some k
@@ -41,5 +41,5 @@ numbered g p k e = by (nat_lt p 64) refl e
     by false i f = absurd (cc)
 
 -- the driver of a configuration with sound pins
-pub fits_of : (g : PortConfig) → All IsSoundPin g.pins → FitsPort (driver_of g)
+pub fits_of : (g : PortConfig) → All IsSoundPin g.pins → FitsPort (table_of g)
 fits_of g sound = record { initial = λ p k e. found g.pins p k sound (numbered g p k e) }

@@ -9,13 +9,13 @@ use Rattle.run_model.specs.World.{World}
 use Rattle.run_model.specs.Frame.{Called}
 use Rattle.service_outline.specs.Services.{ReservedBy, SharedRefinement}
 use Rattle.port_driver.specs.Bounds.{owns, port_setting}
-use Rattle.port_driver.specs.Machine.{PortState, pin_at, is_out}
-use Rattle.port_driver.specs.Table.{pin_of}
+use Rattle.port_machine.specs.Machine.{PortState, pin_at, is_out}
+use Rattle.port_machine.specs.Table.{pin_of}
 use Rattle.port_driver.specs.Writes.{wants, configured, rank_of}
-use Rattle.port_driver.specs.declared.call.Call.{Call}
-use Rattle.port_driver.specs.declared.call.Call.TheVariants.{Init}
-use Rattle.port_driver.specs.declared.driver.Pin.{Pin}
-use Rattle.port_driver.specs.declared.driver.PortDriver.{PortDriver}
+use Rattle.port_machine.specs.declared.call.Call.{Call}
+use Rattle.port_machine.specs.declared.call.Call.TheVariants.{Init}
+use Rattle.port_machine.specs.declared.table.Pin.{Pin}
+use Rattle.port_machine.specs.declared.table.PortTable.{PortTable}
 use Rattle.port_driver.specs.declared.words.TheConstants.{STATE}
 use Rattle.port_driver.specs.declared.writes.Side.TheVariants.{Levels, Directions, Fixed}
 
@@ -31,7 +31,7 @@ abbrev pub nothing_written : Written
 nothing_written = record { levels = 0; modes = 0; directions = 0 }
 
 -- after so many of all
-abbrev pub written : PortDriver → ℕ → Written
+abbrev pub written : PortTable → ℕ → Written
 written d i = record { levels = min i 4; modes = min (i - 4) (configured d); directions = i - (4 + configured d) }
 
 abbrev pub Reservations : Type 0
@@ -70,13 +70,13 @@ put_mode (Some k) rank made old = if nat_lt rank made then k.initial_mode else o
 
 -- the latches, the modes and the directions are the machine's, but for what has been written; of the directions that
 -- may not change so many writes of a refresh are made
-abbrev pub LatchesAgree : PortDriver → (made : ℕ) → pins.Pins → PortState → Type 0
+abbrev pub LatchesAgree : PortTable → (made : ℕ) → pins.Pins → PortState → Type 0
 LatchesAgree d made b s = (p : ℕ) → p < 64 → pins.latch b p ≡ put (wants d Levels p) p made (pin_at s p).latch
 
-abbrev pub ModesAgree : PortDriver → (made : ℕ) → pins.Pins → PortState → Type 0
+abbrev pub ModesAgree : PortTable → (made : ℕ) → pins.Pins → PortState → Type 0
 ModesAgree d made b s = (p : ℕ) → p < 64 → pins.mode b p ≡ put_mode (pin_of d p) (rank_of d p) made (pin_at s p).mode
 
-abbrev pub DirectionsAgree : PortDriver → (made refreshed : ℕ) → pins.Pins → PortState → Type 0
+abbrev pub DirectionsAgree : PortTable → (made refreshed : ℕ) → pins.Pins → PortState → Type 0
 DirectionsAgree d made refreshed b s = (p : ℕ) → p < 64 → pins.is_out b p ≡ put (wants d Fixed p) p refreshed (put (wants d Directions p) p made (is_out (pin_at s p).direction))
 
 -- the block has two halves of bits, and 64 modes
@@ -86,7 +86,7 @@ pub record IsWhole (b : pins.Pins) : Type 0 where
   pub modes : length b.modes ≡ 64
 
 -- the pins and the word agree with the state and with what is held, but for what a refresh has under work
-pub record PortRepresents (d : PortDriver) (held : Reservations) (refreshed : ℕ) (chip : Chip) (w : World) (s : PortState) : Type 0 where
+pub record PortRepresents (d : PortTable) (held : Reservations) (refreshed : ℕ) (chip : Chip) (w : World) (s : PortState) : Type 0 where
   pub right : HeldRight held
   pub all : HasAll chip
   pub whole : IsWhole chip.pins
@@ -96,7 +96,7 @@ pub record PortRepresents (d : PortDriver) (held : Reservations) (refreshed : �
   pub directions : DirectionsAgree d (written_in held).directions refreshed chip.pins s
 
 -- what all services of the driver stand on
-abbrev pub port_basis : PortDriver → SharedRefinement PortState Call
+abbrev pub port_basis : PortTable → SharedRefinement PortState Call
 port_basis d = record {
   setting = port_setting d;
   wired = λ chip. Unit {0};

@@ -41,7 +41,8 @@ pub use Rattle.run_model.specs.{World.{with_at, World, world_after}}
 pub use Rattle.step_runner.proofs.Whose.{not-unless}
 pub use Rattle.step_runner.specs.{Driver.{IsLawful}, Whose.{is_of, KeepsTo, module_of_register, module_of_word}}
 pub use Rattle.step_runner.specs.{Whose.{NamesOthers, NamesWithin, only, WritesOthers, WritesWithin}}
-pub use Rattle.service_outline.specs.{Both.{both}, Done.{ends, goes, owed_error, tells_error}}
+pub use Rattle.run_model.specs.{Machine.{tells_error}}
+pub use Rattle.service_outline.specs.{Both.{both}, Done.{ends, goes, owed_error}}
 pub use Rattle.service_outline.specs.{FrameHistory.{FrameHistory, fresh_history, Is_this_frame, IsThisFrame}}
 pub use Rattle.service_outline.specs.{FrameHistory.{past_wrote}, Fuel.{Shortens}, Services.{AllLet, AreLong}}
 pub use Rattle.service_outline.specs.{Services.{AreServices, AssertedAt, Beside, Decides, IsBasis, LongBodies, MakesTo}}
@@ -61,22 +62,27 @@ pub use Rattle.service_outline.specs.laws.{Duties.{none_on, none_unless}, Lawful
 pub use Rattle.service_outline.specs.laws.{Reports.{error_told}, Seen.{free_windows}, StepKinds.{or_true}}
 pub use Rattle.service_outline.specs.laws.{Sweep.{each_but, next_by}, Sweeping.{sweep_right}, There.{move_there}}
 pub use Rattle.service_outline.specs.laws.{Words.{fills_there, stored_same, stores_in, word_apart, word_later}}
-pub use Rattle.port_driver.specs.{Bounds.{call_steps, class_of, is_alone, is_guests, is_of_init, is_own_word, is_register}}
+pub use Rattle.port_machine.specs.{Classes.{class_of}}
+pub use Rattle.port_driver.specs.{Bounds.{call_steps, is_alone, is_guests, is_of_init, is_own_word, is_register}}
 pub use Rattle.port_driver.specs.{Bounds.{latch_duty, may, must_by, owns, pin_count, PinsAgree, port_may, port_setting}}
-pub use Rattle.port_driver.specs.{Bounds.{puts_latch, writes_latches}, Checks.{error_by, facts_by, has_mode, reporting}}
-pub use Rattle.port_driver.specs.{Checks.{service_of}, Machine.{acts_by, changed, first_state, happens, initial}}
-pub use Rattle.port_driver.specs.{Machine.{is_out, is_pulse, level_at, pin_at, PinState, port_machine, PortState}}
-pub use Rattle.port_driver.specs.{Machine.{refreshed, work}, Refinement.{Alone, DirectionsAgree, HeldRight, Is_alone}}
+pub use Rattle.port_machine.specs.{Checks.{error_by, facts_by, has_mode, reporting}}
+pub use Rattle.port_driver.specs.{Bounds.{puts_latch, writes_latches}}
+pub use Rattle.port_machine.specs.{Checks.{service_of}, Machine.{acts_by, changed, first_state, happens, initial}}
+pub use Rattle.port_machine.specs.{Machine.{is_out, is_pulse, level_at, pin_at, PinState, port_machine, PortState}}
+pub use Rattle.port_machine.specs.{Machine.{refreshed, work}}
+pub use Rattle.port_driver.specs.{Refinement.{Alone, DirectionsAgree, HeldRight, Is_alone}}
 pub use Rattle.port_driver.specs.{Refinement.{IsWhole, LatchesAgree, ModesAgree, port_basis, PortRepresents, put}}
 pub use Rattle.port_driver.specs.{Refinement.{put_mode, Reservations, turn, Written, written, written_in}}
-pub use Rattle.port_driver.specs.{Table.{FitsPort, pin_of}, Writes.{asks, chosen, configured, half_write, initial_mode}}
+pub use Rattle.port_machine.specs.{Table.{FitsPort, pin_of}}
+pub use Rattle.port_driver.specs.{Writes.{asks, chosen, configured, half_write, initial_mode}}
 pub use Rattle.port_driver.specs.{Writes.{is_configured, mode_number, mode_of, mode_write, ones, rank_of, ranked}}
 pub use Rattle.port_driver.specs.{Writes.{register, sets, wanted_of, wants}, declared.asked.Asked.{Asked}}
-pub use Rattle.port_driver.specs.{declared.call.Call.{Call}, declared.call.Call.TheVariants.{Init}}
-pub use Rattle.port_driver.specs.{declared.call.Call.TheVariants.{RefreshPortDirection}}
-pub use Rattle.port_driver.specs.{declared.call.PinCall.{PinCall}, declared.call.PinCall.TheVariants.{SetPinDirection}}
-pub use Rattle.port_driver.specs.{declared.call.PinCall.TheVariants.{SetPinMode}, declared.driver.Pin.{Pin}}
-pub use Rattle.port_driver.specs.{declared.driver.PortDriver.{PortDriver}, declared.service.init.InitDone.{InitDone}}
+pub use Rattle.port_machine.specs.{declared.call.Call.{Call}, declared.call.Call.TheVariants.{Init}}
+pub use Rattle.port_machine.specs.{declared.call.Call.TheVariants.{RefreshPortDirection}}
+pub use Rattle.port_machine.specs.{declared.call.PinCall.{PinCall}, declared.call.PinCall.TheVariants.{SetPinDirection}}
+pub use Rattle.port_machine.specs.{declared.call.PinCall.TheVariants.{SetPinMode}, declared.table.Pin.{Pin}}
+pub use Rattle.port_machine.specs.{declared.table.PortTable.{PortTable}}
+pub use Rattle.port_driver.specs.{declared.service.init.InitDone.{InitDone}}
 pub use Rattle.port_driver.specs.{declared.service.init.Setup.{Setup}, declared.service.pin.PinBody.{PinBody}}
 pub use Rattle.port_driver.specs.{declared.service.pin.PinBody.TheVariants.{Direction, Mode}}
 pub use Rattle.port_driver.specs.{declared.service.refresh.RefreshBody.{RefreshBody}}

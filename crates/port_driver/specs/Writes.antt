@@ -7,10 +7,10 @@ use Rattle.mcal_base.specs.declared.moves.Move.{Move}
 use Rattle.mcal_base.specs.declared.moves.Move.TheVariants.{Write}
 use Rattle.mcal_base.specs.declared.register.Reg.{Reg}
 use Rattle.mcal_base.specs.declared.register.Reg.TheVariants.{PinDirectionSet, PinDirectionClear, PinOutSet, PinOutClear, PinMode}
-use Rattle.port_driver.specs.Machine.{is_out}
-use Rattle.port_driver.specs.Table.{pin_of}
-use Rattle.port_driver.specs.declared.driver.Pin.{Pin}
-use Rattle.port_driver.specs.declared.driver.PortDriver.{PortDriver}
+use Rattle.port_machine.specs.Machine.{is_out}
+use Rattle.port_machine.specs.Table.{pin_of}
+use Rattle.port_machine.specs.declared.table.Pin.{Pin}
+use Rattle.port_machine.specs.declared.table.PortTable.{PortTable}
 use Rattle.port_driver.specs.declared.writes.Side.{Side}
 use Rattle.port_driver.specs.declared.writes.Side.TheVariants.{Levels, Directions, Fixed}
 
@@ -29,7 +29,7 @@ abbrev pub wanted_of : Side → Option Pin → Option Bool
 wanted_of side None = None
 wanted_of side (Some k) = wanted side k
 
-abbrev pub wants : PortDriver → Side → ℕ → Option Bool
+abbrev pub wants : PortTable → Side → ℕ → Option Bool
 wants d side p = wanted_of side (pin_of d p)
 
 -- whether a bit that is wanted so is one of those that are set, or cleared
@@ -54,7 +54,7 @@ register Directions false half = PinDirectionClear half
 register Fixed true half = PinDirectionSet half
 register Fixed false half = PinDirectionClear half
 
-abbrev pub half_write : PortDriver → Side → ℕ → Move
+abbrev pub half_write : PortTable → Side → ℕ → Move
 half_write d side write = Write (register side (sets write) (write / 2)) (ones (wants d side) write)
 
 -- ---- pin by pin
@@ -66,7 +66,7 @@ mode_number Icu = 2
 mode_number Pwm = 3
 mode_number Spi = 4
 
-abbrev pub is_configured : PortDriver → ℕ → Bool
+abbrev pub is_configured : PortTable → ℕ → Bool
 is_configured d p = is_some (pin_of d p)
 
 -- how many below n pass the test, and the one of those that has this rank among them
@@ -79,21 +79,21 @@ with_rank test rank zero = 0
 with_rank test rank (suc n) = if test n && counted test n == rank then n else with_rank test rank n
 
 -- how many pins are configured, the rank of one of them, and the one of a rank
-abbrev pub configured : PortDriver → ℕ
+abbrev pub configured : PortTable → ℕ
 configured d = counted (is_configured d) 64
 
-abbrev pub rank_of : PortDriver → ℕ → ℕ
+abbrev pub rank_of : PortTable → ℕ → ℕ
 rank_of d p = counted (is_configured d) p
 
-abbrev pub ranked : PortDriver → ℕ → ℕ
+abbrev pub ranked : PortTable → ℕ → ℕ
 ranked d rank = with_rank (is_configured d) rank 64
 
 abbrev pub mode_of : Option Pin → PortPinMode
 mode_of None = Adc
 mode_of (Some k) = k.initial_mode
 
-abbrev pub initial_mode : PortDriver → ℕ → PortPinMode
+abbrev pub initial_mode : PortTable → ℕ → PortPinMode
 initial_mode d p = mode_of (pin_of d p)
 
-abbrev pub mode_write : PortDriver → ℕ → Move
+abbrev pub mode_write : PortTable → ℕ → Move
 mode_write d rank = Write (PinMode (ranked d rank)) (mode_number (initial_mode d (ranked d rank)))

@@ -1,9 +1,8 @@
 ghost use Rattle.std.specs.Prelude.{◌≡◌};
 ghost use Rattle.port_driver.specs.laws.Look as spec;
-ghost use Rattle.port_driver.specs.Checks as checks;
+ghost use Rattle.port_machine.specs.Checks as checks;
 
-use crate::call::{Call, PinCall};
-use crate::driver::{Pin, PortDriver};
+use crate::driver::PortDriver;
 use crate::service::init::Setup;
 use crate::service::pin::PinBody;
 use crate::service::refresh::RefreshBody;
@@ -11,6 +10,7 @@ use crate::service::{self, PortBody};
 use crate::words::STATE;
 use det_errors::{Facts, first_error};
 use mcal_base::{Answer, ErrorName, PortPinMode};
+use port_machine::{Call, Pin, PinCall};
 use service_outline::{Done, Epilogue, Looked, error, nothing};
 
 /// A call with the driver that it is made of.

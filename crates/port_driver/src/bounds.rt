@@ -1,11 +1,11 @@
 //! The most steps of frames.
 
-ghost use Rattle.std.specs.Prelude.{◌≡◌, ◌≤◌};
+ghost use Rattle.std.specs.Prelude.{◌≡◌, ◌≤◌, sum_by};
 ghost use Rattle.run_model.specs.Frame.{Called, Entered};
 ghost use Rattle.port_driver.specs.Bounds as spec;
 
-use crate::call::Call;
-use crate::driver::{Pin, PortDriver};
+use crate::driver::PortDriver;
+use port_machine::{Call, Pin};
 
 /// The most steps of a call but `Port_Init`.
 const MOST_STEPS: u32 = 64;
@@ -35,12 +35,20 @@ impl PortDriver {
         ensures count { result ≡ spec.pin_count self.now }
         ensures few { result ≤ 64 }
     {
-        let mut count = 0;
-        for pin in &self.pins {
-            count += counted(*pin);
-        }
-        count
+        count_of(&self.pins)
     }
+}
+
+/// How many of these pins are configured.
+fn count_of(pins: &[Option<Pin>; 64]) -> u32
+    ensures count { result ≡ sum_by spec.counted pins.now }
+    ensures few { result ≤ 64 }
+{
+    let mut count = 0;
+    for pin in pins {
+        count += counted(*pin);
+    }
+    count
 }
 
 /// 1 where the pin is configured, and 0 where it isn't.

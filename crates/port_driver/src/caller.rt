@@ -1,11 +1,10 @@
-use crate::call::Call;
 use crate::driver::PortDriver;
-use crate::request;
 use mcal_base::{ModuleName, Request, Service};
+use port_machine::{Call, call_of};
 use script_runner::Caller;
 
 impl Caller for PortDriver {
-    ghost use Rattle.port_driver.specs.Requests.{has_service, asked_for};
+    ghost use Rattle.port_machine.specs.Requests.{has_service, asked_for};
     ghost use Rattle.port_driver.specs.laws.Lawful.{slow_pins};
 
     ghost has_service = { λ _. has_service };
@@ -17,7 +16,7 @@ impl Caller for PortDriver {
     }
 
     fn call(&self, request: &Request) -> Call {
-        request::call_of(request)
+        call_of(request)
     }
 
     fn call_steps(&self, call: &Call) -> u32 {

@@ -1,4 +1,4 @@
-//! The driver of the pins: its calls as frames of single steps, its configuration, and the machine that it has to be.
+//! The driver of the pins: its calls as frames of single steps.
 //!
 //! The pins' registers are the machine's pins, but while `Port_Init` writes them, and one driver word says whether the
 //! module is initialised.
@@ -6,19 +6,15 @@
 
 mod asked;
 mod bounds;
-mod call;
 mod caller;
 mod driver;
 mod frames;
-pub mod laws;
-mod request;
 mod service;
 mod words;
 mod writes;
 
 pub use asked::Asked;
-pub use call::{Call, PinCall};
-pub use driver::{Modes, Pin, PortDriver};
+pub use driver::PortDriver;
 pub use frames::{PortFrame, PortMachine};
 pub use service::PortBody;
 pub use service::init::{InitDone, Setup};

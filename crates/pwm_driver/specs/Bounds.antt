@@ -8,35 +8,26 @@ use Rattle.mcal_base.specs.declared.moves.Move.{Move}
 use Rattle.mcal_base.specs.declared.moves.Move.TheVariants.{Read, Write, Load, Store}
 use Rattle.mcal_base.specs.declared.register.Reg.{Reg}
 use Rattle.mcal_base.specs.declared.register.Reg.TheVariants.{EnableSet, EnableClear, PulsePeriod, PulseDuty, PulsePolarity, PulseCommit, PulseIdle, PulseOut, PulseEdges, PulseFlags}
-use Rattle.run_model.specs.declared.class.Class.{Class}
-use Rattle.run_model.specs.declared.class.Kind.TheVariants.{Exclusive, Keyed, Query}
-use Rattle.run_model.specs.declared.class.KeyKind.TheVariants as keys
 use Rattle.run_model.specs.Frame.{Origin, Called}
 use Rattle.run_model.specs.World.{World}
 use Rattle.run_model.specs.Moment.{Setting}
 use Rattle.service_outline.specs.There.{names_there}
-use Rattle.pwm_driver.specs.Machine.{PwmState, first_state, level_at, pwm_machine}
-use Rattle.pwm_driver.specs.Table.{channel_of, channel_of_line}
-use Rattle.pwm_driver.specs.declared.call.Call.{Call}
-use Rattle.pwm_driver.specs.declared.call.Call.TheVariants.{Init, DeInit, GetOutputState, Channel}
-use Rattle.pwm_driver.specs.declared.driver.Channel as configured
-use Rattle.pwm_driver.specs.declared.driver.PwmDriver.{PwmDriver}
+use Rattle.pwm_machine.specs.Machine.{PwmState, first_state, level_at, pwm_machine}
+use Rattle.pwm_machine.specs.Table.{channel_of, channel_of_line}
+use Rattle.pwm_machine.specs.declared.call.Call.{Call}
+use Rattle.pwm_machine.specs.declared.call.Call.TheVariants.{Init, DeInit, GetOutputState, Channel}
+use Rattle.pwm_machine.specs.declared.table.Channel as configured
+use Rattle.pwm_machine.specs.declared.table.PwmTable.{PwmTable}
+use Rattle.pwm_machine.specs.Classes.{class_of}
 
--- ---- classes, levels, lines
-
--- the class of a call: the state of an output may always be asked, and what is asked of a channel otherwise has that channel as its key
-abbrev pub class_of : Call → Class
-class_of Init = record { kind = Exclusive; «module» = Pwm; key = None }
-class_of DeInit = record { kind = Exclusive; «module» = Pwm; key = None }
-class_of (GetOutputState c) = record { kind = Query; «module» = Pwm; key = None }
-class_of (Channel c call) = record { kind = Keyed; «module» = Pwm; key = Some (record { kind = keys.Channel; number = c }) }
+-- ---- lines
 
 -- the level of a line, 1 where no configured channel uses it
 abbrev pub level_by : Option configured.Channel → ℕ
 level_by None = 1
 level_by (Some k) = k.level
 
-abbrev pub level_of : PwmDriver → ℕ → ℕ
+abbrev pub level_of : PwmTable → ℕ → ℕ
 level_of d l = level_by (channel_of_line d l)
 
 abbrev pub owner_of : ℕ → ModuleName
@@ -45,17 +36,17 @@ owner_of l = Pwm
 -- ---- steps and windows
 
 -- the number of configured channels
-abbrev pub counted : PwmDriver → ℕ → ℕ
+abbrev pub counted : PwmTable → ℕ → ℕ
 counted d c = bit_of (is_some (channel_of d c))
 
-abbrev pub channel_count : PwmDriver → ℕ
+abbrev pub channel_count : PwmTable → ℕ
 channel_count d = counted d 0 + counted d 1 + counted d 2 + counted d 3 + counted d 4 + counted d 5 + counted d 6 + counted d 7
 
 -- the most steps of a frame: of `Pwm_Init` and of `Pwm_DeInit` 48 more for each configured channel
-abbrev pub whole_steps : PwmDriver → ℕ
+abbrev pub whole_steps : PwmTable → ℕ
 whole_steps d = 64 + 48 * channel_count d
 
-abbrev pub steps_of : PwmDriver → Origin Call → ℕ
+abbrev pub steps_of : PwmTable → Origin Call → ℕ
 steps_of d (Called Init) = whole_steps d
 steps_of d (Called DeInit) = whole_steps d
 steps_of d _ = 64
@@ -119,12 +110,12 @@ duty_of kind c None = []
 duty_of kind c (Some k) = kind c ∷ []
 
 -- such a write of each configured channel below n
-unfoldable pub duties : PwmDriver → (kind : ℕ → Move → Bool) → (n : ℕ) → List (Move → Bool)
+unfoldable pub duties : PwmTable → (kind : ℕ → Move → Bool) → (n : ℕ) → List (Move → Bool)
 duties d kind zero = []
 duties d kind (suc n) = duty_of kind n (channel_of d n) ++ duties d kind n
 
 -- `Pwm_Init` commits the output of each configured channel, and `Pwm_DeInit` idles it
-abbrev pub must_by : PwmDriver → Call → List (Move → Bool)
+abbrev pub must_by : PwmTable → Call → List (Move → Bool)
 must_by d Init = duties d commits_at 8
 must_by d DeInit = duties d idles_at 8
 must_by d (GetOutputState c) = []
@@ -133,13 +124,13 @@ must_by d (Channel c call) = []
 -- ---- the outputs
 
 -- the outputs of all eight pulse units are the machine's
-abbrev pub OutputsAgree : PwmDriver → pulses.Pulses → World → PwmState → Type 0
+abbrev pub OutputsAgree : PwmTable → pulses.Pulses → World → PwmState → Type 0
 OutputsAgree d b w s = (c : ℕ) → c < 8 → pulses.level_at b c ≡ level_at d w s c
 
 -- ---- the setting
 
 -- what a run of the driver is over
-abbrev pub pwm_setting : PwmDriver → Setting PwmState Call
+abbrev pub pwm_setting : PwmTable → Setting PwmState Call
 pwm_setting d = record {
   machine = pwm_machine d;
   first = first_state;

@@ -4,9 +4,9 @@ use Rattle.std.specs.Prelude.{if◌then◌else◌}
 use Rattle.std.proofs.lemmas.Bool.Decides.{nat_tests}
 use Rattle.mcal_base.specs.declared.config.pwm.PwmChannel.{PwmChannel}
 use Rattle.mcal_base.specs.declared.config.pwm.PwmConfig.{PwmConfig}
-use Rattle.pwm_driver.specs.Table.{taken, channel_in, driver_of, channel_of, FitsPwm}
-use Rattle.pwm_driver.specs.declared.driver.Channel.{Channel}
-use Rattle.pwm_driver.specs.laws.Parts.{by_eight}
+use Rattle.pwm_machine.specs.Table.{taken, channel_in, table_of, channel_of, FitsPwm}
+use Rattle.pwm_machine.specs.declared.table.Channel.{Channel}
+use Rattle.pwm_machine.specs.laws.Channels.{by_eight}
 
 -- a channel that was found has the number that was sought
 found_by : (x : PwmChannel) (o : Option Channel) (c : ℕ) (k : Channel) (q : Bool) → (o ≡ Some k → k.number ≡ c) → (if q then Some (taken x c) else o) ≡ Some k → k.number ≡ c
@@ -25,8 +25,8 @@ within c o k e = by (nat_lt c 8) refl e
     by true i f = grind (arith, nat_tests)
     by false i f = absurd (cc)
 
-kept : (g : PwmConfig) (c : ℕ) (k : Channel) → channel_of (driver_of g) c ≡ Some k → channel_in g.channels c ≡ Some k
-kept g c k e = by_eight (λ i. channel_of (driver_of g) i ≡ Some k → channel_in g.channels i ≡ Some k) (λ f. f) (λ f. f) (λ f. f) (λ f. f) (λ f. f) (λ f. f) (λ f. f) (λ f. f) c (within c _ k e) e
+kept : (g : PwmConfig) (c : ℕ) (k : Channel) → channel_of (table_of g) c ≡ Some k → channel_in g.channels c ≡ Some k
+kept g c k e = by_eight (λ i. channel_of (table_of g) i ≡ Some k → channel_in g.channels i ≡ Some k) (λ f. f) (λ f. f) (λ f. f) (λ f. f) (λ f. f) (λ f. f) (λ f. f) (λ f. f) c (within c _ k e) e
 
-pub fits_of : (g : PwmConfig) → FitsPwm (driver_of g)
+pub fits_of : (g : PwmConfig) → FitsPwm (table_of g)
 fits_of g = record { number = λ c k e. found g.channels c k (kept g c k e) }

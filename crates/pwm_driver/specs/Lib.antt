@@ -1,12 +1,6 @@
 pub mod Bounds
-pub mod Checks
 pub mod Fits
 pub mod Refinement
-pub mod Machine
-pub mod Output
-pub mod Requests
-pub mod Runs
-pub mod Table
 pub mod Terms
 pub mod Words
 pub mod laws

@@ -1,11 +1,8 @@
 -- What frames hold, and how words and registers stand for the machine's state.
-use Rattle.std.specs.Prelude.{◌≡◌, ℕ, ◌+◌, ◌-◌, ◌*◌, ◌<◌, ◌≤◌, ◌%◌, ◌==◌, nat_lt, Bool, true, false, ◌&&◌, ◌||◌, not, List, [], ◌∷◌, Option, Some, None, is_some, length}
+use Rattle.std.specs.Prelude.{◌≡◌, ℕ, ◌+◌, ◌*◌, ◌<◌, ◌≤◌, ◌%◌, ◌==◌, nat_lt, Bool, true, false, ◌&&◌, ◌||◌, not, List, [], ◌∷◌, Option, Some, None, is_some, length}
 use Rattle.chip_model.specs.Chip.{Chip, word_of}
 use Rattle.chip_pulses.specs.Pulses as pulses
-use Rattle.chip_pulses.specs.declared.pulse.Output as chips
-use Rattle.chip_pulses.specs.declared.pulse.Output.TheVariants as units
 use Rattle.chip_pulses.specs.declared.pulse.Pulse as unit
-use Rattle.chip_pulses.specs.declared.regime.Regime as regimes
 use Rattle.chip_pulses.specs.declared.regime.Wave.{Wave}
 use Rattle.mcal_base.specs.Bits.{has_bit}
 use Rattle.mcal_base.specs.declared.moves.Move.{Move}
@@ -16,17 +13,17 @@ use Rattle.run_model.specs.Frame.{Called}
 use Rattle.run_model.specs.Outside.{StandsIn}
 use Rattle.run_model.specs.World.{World}
 use Rattle.service_outline.specs.Services.{ReservedBy, SharedRefinement}
+use Rattle.pwm_machine.specs.Units.{IsBegun, output_in, chosen}
 use Rattle.pwm_driver.specs.Bounds.{is_pulse, is_own_word, pwm_setting}
-use Rattle.pwm_driver.specs.Machine.{Pulse, PwmState, pulse_at}
-use Rattle.pwm_driver.specs.Output.{Regime, Output, Idle, Runs, GivesWay, absolute}
-use Rattle.pwm_driver.specs.Table.{channel_of, polarity_of}
+use Rattle.pwm_machine.specs.Machine.{Pulse, PwmState, pulse_at}
+use Rattle.pwm_machine.specs.Output.{Idle, absolute}
+use Rattle.pwm_machine.specs.Table.{channel_of, polarity_of}
 use Rattle.pwm_driver.specs.Words.{period_word}
-use Rattle.pwm_driver.specs.declared.call.Call.{Call}
-use Rattle.pwm_driver.specs.declared.call.Call.TheVariants.{Init}
-use Rattle.pwm_driver.specs.declared.call.PwmEdge.{PwmEdge}
-use Rattle.pwm_driver.specs.declared.call.PwmEdge.TheVariants.{Rising, Falling, Both}
-use Rattle.pwm_driver.specs.declared.driver.Channel.{Channel}
-use Rattle.pwm_driver.specs.declared.driver.PwmDriver.{PwmDriver}
+use Rattle.pwm_machine.specs.declared.call.Call.{Call}
+use Rattle.pwm_machine.specs.declared.call.Call.TheVariants.{Init}
+use Rattle.pwm_machine.specs.declared.call.PwmEdge.{PwmEdge}
+use Rattle.pwm_machine.specs.declared.table.Channel.{Channel}
+use Rattle.pwm_machine.specs.declared.table.PwmTable.{PwmTable}
 use Rattle.pwm_driver.specs.declared.words.TheConstants.{STATE, KINDS}
 
 -- ---- what is the module's
@@ -99,36 +96,14 @@ pub record IsSetUp (k : Option Channel) (upto c : ℕ) (word : ℕ) (w : Wave) :
   pub duty : 4 * c + 2 < upto → w.duty ≡ absolute (period_in k) (duty_in k)
   pub high : 4 * c + 3 < upto → w.high ≡ polarity_of k
 
-abbrev pub AreSetUp : PwmDriver → (upto : ℕ) → Chip → Type 0
+abbrev pub AreSetUp : PwmTable → (upto : ℕ) → Chip → Type 0
 AreSetUp d upto chip = (c : ℕ) → c < 8 → IsSetUp (channel_of d c) upto c (word_of chip (period_word c)) (pulses.pulse_at chip.pulses c).wave
 
-abbrev pub AllSetUp : PwmDriver → Reservations → Chip → Type 0
+abbrev pub AllSetUp : PwmTable → Reservations → Chip → Type 0
 AllSetUp d [] chip = Unit {0}
 AllSetUp d (h ∷ hs) chip = AreSetUp d h.what.upto chip × AllSetUp d hs chip
 
 -- ---- a pulse unit
-
--- a regime with its polarity
-abbrev pub regime_in : (high : Bool) → Regime → regimes.Regime
-regime_in high r = record { start = r.start; wave = record { period = r.period; duty = r.duty; high = high } }
-
--- what the unit does where the machine's output does this; a regime that waits was committed in the period before its start
-abbrev pub output_in : (high : Bool) → Output → chips.Output
-output_in high (Idle level) = units.Idle level
-output_in high (Runs r) = units.Runs (regime_in high r)
-output_in high (GivesWay r n) = units.Turns (regime_in high r) (record { begun = n.start - r.period; wave = record { period = n.period; duty = n.duty; high = high } })
-
--- the regime began not after a time; one that gives way has a period, and does so at the end of one
-abbrev pub IsBegun : Output → ℕ → Type 0
-IsBegun (Idle level) time = Unit {0}
-IsBegun (Runs r) time = r.start ≤ time
-IsBegun (GivesWay r n) time = (r.start ≤ time) × (0 < r.period) × (r.period ≤ n.start)
-
--- what is so of one of the chosen changes
-abbrev pub chosen : PwmEdge → (rising falling : Bool) → Bool
-chosen Rising a b = a
-chosen Falling a b = b
-chosen Both a b = a || b
 
 -- the flags of chosen changes count since the same time as the machine's mark, and one stands from before exactly where the mark does
 pub record MarkAgrees (edge : PwmEdge) (p : unit.Pulse) (x : Pulse) : Type 0 where
@@ -148,7 +123,7 @@ pub record UnitAgrees (high : Bool) (now : ℕ) (p : unit.Pulse) (x : Pulse) : T
   pub past : x.since ≤ now
   pub marks : MarksAgree x.notified p x
 
-abbrev pub UnitsAgree : PwmDriver → (opened : ℕ → Bool) → pulses.Pulses → World → PwmState → Type 0
+abbrev pub UnitsAgree : PwmTable → (opened : ℕ → Bool) → pulses.Pulses → World → PwmState → Type 0
 UnitsAgree d opened b w s = (c : ℕ) → c < 8 → opened c ≡ false → UnitAgrees (polarity_of (channel_of d c)) w.now (pulses.pulse_at b c) (pulse_at s c)
 
 -- ---- the chosen changes
@@ -175,7 +150,7 @@ state_word false = 0
 state_word true = 1
 
 -- the word of periods is the machine's while the module is initialised
-pub record WordsAgree (d : PwmDriver) (behind : ℕ → Bool) (chip : Chip) (s : PwmState) : Type 0 where
+pub record WordsAgree (d : PwmTable) (behind : ℕ → Bool) (chip : Chip) (s : PwmState) : Type 0 where
   pub state : behind STATE ≡ false → word_of chip STATE ≡ state_word s.initialised
   pub kinds : behind KINDS ≡ false → word_of chip KINDS ≡ chip.pulses.edges
   pub periods : s.initialised ≡ true → (c : ℕ) → c < 8 → is_some (channel_of d c) ≡ true → behind (period_word c) ≡ false → word_of chip (period_word c) ≡ (pulse_at s c).period
@@ -197,7 +172,7 @@ pub record IsQuiet (x : Pulse) : Type 0 where
   pub off : x.notified ≡ None
 
 -- the words and registers agree with the state and with what is held, but for what is under work; the channels of an uninitialised module are quiet, and so is one that isn't configured
-pub record PwmRepresents (d : PwmDriver) (held : Reservations) (gap : Lag) (chip : Chip) (w : World) (s : PwmState) : Type 0 where
+pub record PwmRepresents (d : PwmTable) (held : Reservations) (gap : Lag) (chip : Chip) (w : World) (s : PwmState) : Type 0 where
   pub right : AllRight s.initialised held
   pub setup : AllSetUp d held chip
   pub outside : StandsIn chip w
@@ -210,7 +185,7 @@ pub record PwmRepresents (d : PwmDriver) (held : Reservations) (gap : Lag) (chip
   pub unused : (c : ℕ) → c < 8 → channel_of d c ≡ None → IsQuiet (pulse_at s c)
 
 -- what all services of the driver stand on
-abbrev pub pwm_basis : PwmDriver → SharedRefinement PwmState Call
+abbrev pub pwm_basis : PwmTable → SharedRefinement PwmState Call
 pwm_basis d = record {
   setting = pwm_setting d;
   wired = λ chip. Unit {0};

@@ -45,7 +45,8 @@ pub use Rattle.step_runner.proofs.Whose.{not-unless}
 pub use Rattle.step_runner.specs.{Driver.{IsLawful}, Whose.{EnablesOthers, EnablesWithin, is_of, KeepsTo}}
 pub use Rattle.step_runner.specs.{Whose.{module_of_line, module_of_register, module_of_word, NamesOthers, NamesWithin}}
 pub use Rattle.step_runner.specs.{Whose.{WritesOthers, WritesWithin}}
-pub use Rattle.service_outline.specs.{Done.{acts, answers, ends, goes, owed_error, tells_error}}
+pub use Rattle.run_model.specs.{Machine.{answers, tells_error}}
+pub use Rattle.service_outline.specs.{Done.{acts, ends, goes, owed_error}}
 pub use Rattle.service_outline.specs.{FrameHistory.{FrameHistory, fresh_history, Is_this_frame, IsThisFrame}}
 pub use Rattle.service_outline.specs.{Fuel.{Shortens}, Outline.{After, AreRight, Before, Bodies, Is_after, Is_before}}
 pub use Rattle.service_outline.specs.{Outline.{Is_serving, RightAt, Serving, StepsTo}, Services.{AllLet, AreLong}}
@@ -70,30 +71,37 @@ pub use Rattle.service_outline.specs.laws.{ShortServices.{plain_makes, plain_tur
 pub use Rattle.service_outline.specs.laws.{StepKinds.{or_true}, Sweep.{each_but}, Sweeping.{sweep_right}}
 pub use Rattle.service_outline.specs.laws.{There.{move_there}, Words.{fills_there, stored_other, stored_same}}
 pub use Rattle.service_outline.specs.laws.{Words.{stores_in, word_apart, word_later}}
-pub use Rattle.pwm_driver.specs.{Bounds.{class_of, commits_at, duty_of, idles_at, is_for_lines, is_own_word, is_pulse}}
+pub use Rattle.pwm_machine.specs.{Classes.{class_of}}
+pub use Rattle.pwm_driver.specs.{Bounds.{commits_at, duty_of, idles_at, is_for_lines, is_own_word, is_pulse}}
 pub use Rattle.pwm_driver.specs.{Bounds.{may_name, may_write, must_by, pwm_may, pwm_setting, steps_of}}
-pub use Rattle.pwm_driver.specs.{Checks.{answer_refused, error_by, facts_by, has_notification, level_answer, reporting}}
-pub use Rattle.pwm_driver.specs.{Checks.{service_of}, Machine.{acts_by, channel_work, ended, first_state, forgotten}}
-pub use Rattle.pwm_driver.specs.{Machine.{happens, is_marked_by, is_notified, level_at, notes, Pulse, pulse_at}}
-pub use Rattle.pwm_driver.specs.{Machine.{put_out, pwm_machine, PwmState, ready, ready_by, served, set_to, silent}}
-pub use Rattle.pwm_driver.specs.{Machine.{started, switched, table, with_pulse, work}, Output.{absolute, GivesWay}}
-pub use Rattle.pwm_driver.specs.{Output.{Idle, level_of, Output, period_end, Regime, regime_level, Runs, standing}}
-pub use Rattle.pwm_driver.specs.{Output.{succeeded, turns, turns_between, turns_within, with_new}}
-pub use Rattle.pwm_driver.specs.{Refinement.{AllRight, AllSetUp, behind, chosen, duty_in, falls, has_lines, IsBegun}}
+pub use Rattle.pwm_machine.specs.{Checks.{answer_refused, error_by, facts_by, has_notification, level_answer, reporting}}
+pub use Rattle.pwm_machine.specs.{Checks.{service_of}, Machine.{acts_by, channel_work, ended, first_state, forgotten}}
+pub use Rattle.pwm_machine.specs.{Machine.{happens, is_marked_by, is_notified, level_at, notes, Pulse, pulse_at}}
+pub use Rattle.pwm_machine.specs.{Machine.{put_out, pwm_machine, PwmState, ready, ready_by, served, set_to, silent}}
+pub use Rattle.pwm_machine.specs.{Machine.{started, switched, table, with_pulse, work}, Output.{absolute, GivesWay}}
+pub use Rattle.pwm_machine.specs.{Output.{Idle, level_of, Output, period_end, Regime, regime_level, Runs, standing}}
+pub use Rattle.pwm_machine.specs.{Output.{succeeded, turns, turns_between, turns_within, with_new}}
+pub use Rattle.pwm_machine.specs.{Units.{chosen, IsBegun}}
+pub use Rattle.pwm_driver.specs.{Refinement.{AllRight, AllSetUp, behind, duty_in, falls, has_lines}}
 pub use Rattle.pwm_driver.specs.{Refinement.{IsQuiet, IsSetUp, KindAgrees, Lag, LinesAgree, MarkAgrees, MarksAgree}}
-pub use Rattle.pwm_driver.specs.{Refinement.{none, only, output_in, owns_written, Part, period_in, pwm_basis, pwm_owns}}
-pub use Rattle.pwm_driver.specs.{Refinement.{PwmRepresents, regime_in, Reservations, rises, settled, state_word}}
-pub use Rattle.pwm_driver.specs.{Refinement.{UnitAgrees, UnitsAgree}, Runs.{TurnsBetween}, Table.{channel_number}}
-pub use Rattle.pwm_driver.specs.{Table.{channel_of, channel_of_line, FitsPwm, polarity_of}, Words.{both, kinds, level}}
+pub use Rattle.pwm_machine.specs.{Units.{output_in}}
+pub use Rattle.pwm_driver.specs.{Refinement.{none, only, owns_written, Part, period_in, pwm_basis, pwm_owns}}
+pub use Rattle.pwm_machine.specs.{Units.{regime_in}}
+pub use Rattle.pwm_driver.specs.{Refinement.{PwmRepresents, Reservations, rises, settled, state_word}}
+pub use Rattle.pwm_machine.specs.{Runs.{TurnsBetween}, Table.{channel_number}}
+pub use Rattle.pwm_driver.specs.{Refinement.{UnitAgrees, UnitsAgree}}
+pub use Rattle.pwm_machine.specs.{Table.{channel_of, channel_of_line, FitsPwm, polarity_of}}
+pub use Rattle.pwm_driver.specs.{Words.{both, kinds, level}}
 pub use Rattle.pwm_driver.specs.{Words.{period_word, stands, with_kinds}, declared.asked.Asked.{Asked}}
-pub use Rattle.pwm_driver.specs.{declared.call.Call.{Call}, declared.call.Call.TheVariants.{DeInit, GetOutputState}}
-pub use Rattle.pwm_driver.specs.{declared.call.Call.TheVariants.{Init}, declared.call.ChannelCall.{ChannelCall}}
-pub use Rattle.pwm_driver.specs.{declared.call.ChannelCall.TheVariants.{DisableNotification, EnableNotification}}
-pub use Rattle.pwm_driver.specs.{declared.call.ChannelCall.TheVariants.{SetDutyCycle, SetOutputToIdle}}
-pub use Rattle.pwm_driver.specs.{declared.call.ChannelCall.TheVariants.{SetPeriodAndDuty}}
-pub use Rattle.pwm_driver.specs.{declared.call.PwmEdge.{PwmEdge}, declared.call.PwmEdge.TheVariants.{Both, Falling}}
-pub use Rattle.pwm_driver.specs.{declared.call.PwmEdge.TheVariants.{Rising}, declared.driver.Channel.{Channel}}
-pub use Rattle.pwm_driver.specs.{declared.driver.PwmDriver.{PwmDriver}, declared.service.deinit.DeInitBody.{DeInitBody}}
+pub use Rattle.pwm_machine.specs.{declared.call.Call.{Call}, declared.call.Call.TheVariants.{DeInit, GetOutputState}}
+pub use Rattle.pwm_machine.specs.{declared.call.Call.TheVariants.{Init}, declared.call.ChannelCall.{ChannelCall}}
+pub use Rattle.pwm_machine.specs.{declared.call.ChannelCall.TheVariants.{DisableNotification, EnableNotification}}
+pub use Rattle.pwm_machine.specs.{declared.call.ChannelCall.TheVariants.{SetDutyCycle, SetOutputToIdle}}
+pub use Rattle.pwm_machine.specs.{declared.call.ChannelCall.TheVariants.{SetPeriodAndDuty}}
+pub use Rattle.pwm_machine.specs.{declared.call.PwmEdge.{PwmEdge}, declared.call.PwmEdge.TheVariants.{Both, Falling}}
+pub use Rattle.pwm_machine.specs.{declared.call.PwmEdge.TheVariants.{Rising}, declared.table.Channel.{Channel}}
+pub use Rattle.pwm_machine.specs.{declared.table.PwmTable.{PwmTable}}
+pub use Rattle.pwm_driver.specs.{declared.service.deinit.DeInitBody.{DeInitBody}}
 pub use Rattle.pwm_driver.specs.{declared.service.deinit.DeInitBody.TheVariants.{Disable}}
 pub use Rattle.pwm_driver.specs.{declared.service.init.InitBody.{InitBody}}
 pub use Rattle.pwm_driver.specs.{declared.service.init.InitBody.TheVariants.{Commit, Enable}}
@@ -107,6 +115,9 @@ pub use Rattle.pwm_driver.specs.{declared.service.serve.ServeBody.{ServeBody}}
 pub use Rattle.pwm_driver.specs.{declared.service.serve.ServeBody.TheVariants.{Kinds}}
 pub use Rattle.pwm_driver.specs.{declared.words.TheConstants.{KINDS, LINES, STATE}}
 unfoldable pub use Rattle.pwm_driver.specs.Bounds.{duties}
-pub use Rattle.pwm_driver.specs.laws.Parts.{below_test, both_falling, both_other, both_rising, by_eight, channel_other}
-pub use Rattle.pwm_driver.specs.laws.Parts.{channel_same, has_one, has_other, Is_own, known_within, not_it, not_low}
-pub use Rattle.pwm_driver.specs.laws.Parts.{Own, past_it, some_is, table_at, within as within_eight, within}
+pub use Rattle.pwm_machine.specs.laws.Channels.{by_eight, channel_other}
+pub use Rattle.pwm_driver.specs.laws.Parts.{below_test, both_falling, both_other, both_rising}
+pub use Rattle.pwm_machine.specs.laws.Channels.{channel_same, known_within}
+pub use Rattle.pwm_driver.specs.laws.Parts.{has_one, has_other, Is_own, not_it, not_low}
+pub use Rattle.pwm_machine.specs.laws.Channels.{some_is, table_at, within as within_eight, within}
+pub use Rattle.pwm_driver.specs.laws.Parts.{Own, past_it}

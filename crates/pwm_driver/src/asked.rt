@@ -1,9 +1,8 @@
 ghost use Rattle.std.specs.Prelude.{◌≡◌};
 ghost use Rattle.pwm_driver.specs.laws.Look as spec;
-ghost use Rattle.pwm_driver.specs.Checks as checks;
+ghost use Rattle.pwm_machine.specs.Checks as checks;
 
-use crate::call::{Call, ChannelCall};
-use crate::driver::{Channel, PwmDriver};
+use crate::driver::PwmDriver;
 use crate::service::deinit::DeInitBody;
 use crate::service::init::Setup;
 use crate::service::notify::NotifyBody;
@@ -13,6 +12,7 @@ use crate::service::{self, PwmBody};
 use crate::words::STATE;
 use det_errors::{Facts, first_error};
 use mcal_base::{Answer, AnswerName, ErrorName};
+use pwm_machine::{Call, Channel, ChannelCall};
 use service_outline::{Done, Epilogue, Looked, Reply, named, nothing};
 
 /// A call with the driver that it is made of.
@@ -83,7 +83,7 @@ impl Asked {
         let driver = self.driver;
         match self.call {
             Call::Init => Looked::Goes(service::init_body(Setup { driver })),
-            Call::DeInit => Looked::Goes(service::deinit_body(DeInitBody::Store(driver))),
+            Call::DeInit => Looked::Goes(service::deinit_body(DeInitBody::Store(*driver))),
             Call::GetOutputState(number) => match driver.channel(number) {
                 Some(channel) => { Looked::Goes(service::rest_body(RestBody::Ask(channel.number))) }
                 None => let_be(),

@@ -1,17 +1,16 @@
 ghost use Rattle.std.specs.Prelude.{◌≡◌, ◌≤◌};
 ghost use Rattle.pwm_driver.specs.Bounds as bounds;
 
-use crate::call::Call;
 use crate::driver::PwmDriver;
-use crate::request;
 use mcal_base::{ModuleName, Request, Service};
+use pwm_machine::{Call, call_of};
 use script_runner::Caller;
 
 /// The most steps of a call about a channel, and of a handler.
 const MOST_STEPS: u32 = 64;
 
 impl Caller for PwmDriver {
-    ghost use Rattle.pwm_driver.specs.Requests.{asked_call, has_service};
+    ghost use Rattle.pwm_machine.specs.Requests.{asked_call, has_service};
     ghost use Rattle.pwm_driver.specs.laws.Lawful.{slow_pulses};
 
     ghost has_service = { λ _. has_service };
@@ -23,7 +22,7 @@ impl Caller for PwmDriver {
     }
 
     fn call(&self, request: &Request) -> Call {
-        request::call_of(request)
+        call_of(request)
     }
 
     fn call_steps(&self, call: &Call) -> u32 {

@@ -1,10 +1,10 @@
 use crate::asked::Asked;
-use crate::call::Call;
 use crate::driver::PwmDriver;
 use crate::service::serve::ServeBody;
 use crate::service::{self, PwmBody};
 use chip_model::Bus;
 use mcal_base::ModuleName;
+use pwm_machine::Call;
 use run_model::Class;
 use service_outline::Short;
 use std::marker::Model;
@@ -17,7 +17,7 @@ pub type PwmFrame = Short<Asked, PwmBody>;
 pub struct PwmMachine;
 
 impl Model for PwmMachine {
-    ghost use Rattle.pwm_driver.specs.Machine.{PwmState, first_state};
+    ghost use Rattle.pwm_machine.specs.Machine.{PwmState, first_state};
 
     ghost Value = { PwmState };
 

@@ -1,25 +1,19 @@
-//! The pulse driver: its calls and handlers as frames of single steps, what it keeps of a configuration, and the machine
-//! of the pulse outputs.
+//! The pulse driver: its calls and handlers as frames of single steps.
 //!
 //! The pulse registers hold what the outputs do, and driver words the rest: whether the module is initialised, which
 //! changes are notified, and the period of each channel that was set last.
 #![tactic(auto)]
 
 mod asked;
-mod call;
 mod caller;
 mod driver;
 mod frames;
-pub mod laws;
-mod request;
 mod service;
 mod words;
 
 pub use asked::Asked;
-pub use call::{Call, ChannelCall, PwmEdge};
-pub use driver::{Channel, PwmDriver};
+pub use driver::PwmDriver;
 pub use frames::{PwmFrame, PwmMachine};
-pub use request::call_of;
 pub use service::PwmBody;
 pub use service::deinit::DeInitBody;
 pub use service::init::{InitBody, Setup};

@@ -1,12 +1,13 @@
 ghost use Rattle.std.specs.Prelude.{ℕ, List, ◌≡◌, ◌<◌, ◌≤◌, ◌+◌, ◌*◌, OnOk, IfOk, Some, length, drop};
 ghost use Rattle.mcal_base.specs.declared.answer.Answer.{Answer};
-ghost use Rattle.run_model.specs.Entry.{Begins, entries, said_at, step_at};
+ghost use Rattle.run_model.specs.Entry.{Begins, said_at, step_at};
+ghost use Rattle.run_model.specs.Packing.{entries_in};
 ghost use Rattle.bench_report.specs.Report.{frames_after, move_lines, later_entries};
 ghost use Rattle.report_end.specs.Counts as spec;
 
 use bench_report::{Purpose, Tally, purpose_of};
 use mcal_base::{Directive, Move, Order};
-use run_model::{Item, Logged, What};
+use run_model::{JournalLists, Kept, Logged, What};
 use std::alloc::{AllocError, Global};
 use std::marker::Model;
 
@@ -89,12 +90,12 @@ impl Counting {
         Ok(())
     }
 
-    /// Counts the lines of an item of a directive.
-    fn item(&mut self, order: &Order, item: &Item) -> Result<(), AllocError>
+    /// Counts the lines of what an item of a directive says.
+    fn item(&mut self, order: &Order, what: &What) -> Result<(), AllocError>
         requires { spec.total self.old.tally + 2 ≤ 18446744073709551615 }
-        ensures { OnOk result ((words : List ℕ) → self.new ≡ spec.said_counted order.now self.old (said_at words item.now.what)) }
+        ensures { OnOk result ((words : List ℕ) → self.new ≡ spec.said_counted order.now self.old (said_at words what.now)) }
     {
-        match &item.what {
+        match what {
             What::Happened(_) => {}
             What::Begun => self.begun(order)?,
             What::Held(_) => self.tally.held += 1,
@@ -108,11 +109,12 @@ impl Counting {
     pub(crate) fn items<'b>(
         &mut self,
         directive: &Directive,
-        items: &'b [Item],
-    ) -> Result<&'b [Item], AllocError>
+        lists: &JournalLists<'_>,
+        items: &'b [Kept],
+    ) -> Result<&'b [Kept], AllocError>
         requires { spec.total self.old.tally + 2 * length items.now ≤ 18446744073709551615 }
-        ensures counted { OnOk result ((words : List ℕ) → self.new ≡ spec.directive_counted directive.now self.old (entries words items.now)) }
-        ensures rest { IfOk result (λ later. (words : List ℕ) → entries words later.now ≡ later_entries directive.now.line (entries words items.now)) }
+        ensures counted { OnOk result (self.new ≡ spec.directive_counted directive.now self.old (entries_in lists.now items.now)) }
+        ensures rest { IfOk result (λ later. entries_in lists.now later.now ≡ later_entries directive.now.line (entries_in lists.now items.now)) }
         ensures room { IfOk result (λ later. spec.total self.new.tally + 2 * length later.now ≤ spec.total self.old.tally + 2 * length items.now) }
     {
         let mut rest = items;
@@ -120,7 +122,7 @@ impl Counting {
             if item.line != directive.line {
                 break;
             }
-            self.item(&directive.order, item)?;
+            self.item(&directive.order, &item.says(lists.rests))?;
             rest = after;
         }
         Ok(rest)

@@ -1,5 +1,5 @@
-ghost use Rattle.std.specs.Prelude.{ℕ, List, ◌≡◌, IfOk, [], false, string_bytes};
-ghost use Rattle.run_model.specs.Entry.{entries};
+ghost use Rattle.std.specs.Prelude.{List, ◌≡◌, IfOk, [], false, string_bytes};
+ghost use Rattle.run_model.specs.Packing.{entries_in};
 ghost use Rattle.bench_report.specs.Report.{end_of, report_lines};
 ghost use Rattle.bench_report.specs.Rows.{Row};
 ghost use Rattle.report_end.specs.Counts as spec;
@@ -7,17 +7,21 @@ ghost use Rattle.report_end.specs.Counts as spec;
 use crate::counting::Counting;
 use bench_report::Tally;
 use mcal_base::Directive;
-use run_model::{Item, Journal};
+use run_model::{Journal, JournalLists};
 use std::alloc::{AllocError, Global};
 
 /// Counts the lines of a script, directive by directive.
-fn counted(alloc: Global, script: &[Directive], items: &[Item]) -> Result<Tally, AllocError>
-    ensures { IfOk result (λ tally. (words : List ℕ) → tally ≡ (spec.script_counted spec.beginning script.now (entries words items.now)).tally) }
+fn counted(
+    alloc: Global,
+    script: &[Directive],
+    lists: &JournalLists<'_>,
+) -> Result<Tally, AllocError>
+    ensures { IfOk result (λ tally. tally ≡ (spec.script_counted spec.beginning script.now (entries_in lists.now lists.now.items.now)).tally) }
 {
     let mut counting = Counting::new(alloc);
-    let mut rest = items;
+    let mut rest = lists.items;
     for directive in script {
-        rest = counting.items(directive, rest)?;
+        rest = counting.items(directive, lists, rest)?;
     }
     Ok(counting.tally())
 }
@@ -30,6 +34,6 @@ pub fn end_line(
 ) -> Result<String, AllocError>
     ensures { (shows : List (List Row)) → IfOk result (λ text. string_bytes text ≡ end_of (report_lines false [] shows script.now journal.now.entries)) }
 {
-    let tally = counted(alloc, script, journal.items())?;
+    let tally = counted(alloc, script, &journal.lists())?;
     format!(in alloc; "{tally}")
 }

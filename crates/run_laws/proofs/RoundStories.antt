@@ -28,7 +28,7 @@ use Rattle.whole_runs.proofs.GroupSteps.{seen, WaitGoes, UnitGoes, Goes}
 use Rattle.whole_runs.proofs.OneTurn.{first_single}
 use Rattle.whole_runs.proofs.RoundStates.{Tells, IsRunning, tells_after}
 use Rattle.whole_runs.proofs.TurnSteps.{Single}
-use Rattle.run_laws.specs.Rounds.{state_of, seen_at, HasNewRequest, WasFinished, ServesRight, AreServedRight}
+use Rattle.run_laws.specs.Rounds.{state_of, seen_at, HasNewRequest, WasFinished, AreServedRight}
 
 serve_by : {A : Type 0} (b : Bool) (x out : A) → cond b (Some x) None ≡ Some out → (b ≡ true) × (x ≡ out)
 serve_by true x out e = (refl, some_is x out e)

@@ -1,5 +1,5 @@
--- A call of Spi_SyncTransmit that ends with E_OK has sent all words of its sequence, and what came in is stored.
-use Rattle.std.proofs.Common.{◌≡◌, ◌≢◌, ℕ, ◌+◌, ◌<◌, ◌≤◌, ◌==◌, nat_lt, Bool, true, false, not, ◌&&◌, ◌||◌, List, [], ◌∷◌, ◌++◌, length, length-append, drop, slice_get, slice_index_or, Option, Some, None, is_some, refl, sym, ◌∙◌, ap, subst, arith, ◌⊎◌, inl, inr}
+-- A call of Spi_SyncTransmit that ends with E_OK has sent all words of its sequence, none of which failed, and what came in is stored.
+use Rattle.std.proofs.Common.{◌≡◌, ◌≢◌, ℕ, ◌+◌, ◌<◌, ◌≤◌, ◌==◌, nat_le, nat_lt, Bool, true, false, not, ◌&&◌, ◌||◌, List, [], ◌∷◌, ◌++◌, length, length-append, drop, slice_get, slice_index_or, Option, Some, None, is_some, refl, sym, ◌∙◌, ap, subst, arith, ◌⊎◌, inl, inr}
 use Rattle.std.specs.Prelude.{IsSome, if◌then◌else◌}
 use Rattle.std.proofs.lemmas.Bool.Decides.{nat_tests}
 use Rattle.plain_facts.specs.Options.{some_is}
@@ -13,8 +13,7 @@ use Rattle.mcal_base.specs.declared.directive.Order.TheVariants.{Fill, SpiFault}
 use Rattle.mcal_base.specs.declared.error_name.ErrorName.{ErrorName}
 use Rattle.mcal_base.specs.declared.moves.Unit as units
 use Rattle.run_model.specs.Frame.{begun_by, state_by}
-use Rattle.run_model.specs.Machine.{Happening, Acts, Serves, Starts, Aborts, Moves, Restarts, Begun, Outcome, outcome, no_answer}
-use Rattle.service_outline.specs.Done.{named, tells_error}
+use Rattle.run_model.specs.Machine.{Happening, Acts, Serves, Starts, Aborts, Moves, Restarts, Begun, Outcome, outcome, no_answer, named, tells_error}
 use Rattle.spi_machine.proofs.Begins.{happens-begins}
 use Rattle.spi_machine.proofs.Numbers.{item-same, item-other}
 use Rattle.spi_machine.proofs.Runs.{serve_by}
@@ -28,7 +27,7 @@ use Rattle.spi_machine.specs.Promised.{destination_word, go_there, goes_to_array
 use Rattle.spi_machine.specs.State.{SpiState, Carrying, carried_at, first_state, internal_word, is_off}
 use Rattle.spi_machine.specs.Table.{is_sync_unit, job_of, jobs_of, select_by}
 use Rattle.spi_machine.specs.Transfers.{Goes, ToDestination, JobWord, Run, begun, goes_on, is_done, masked, no_word, received_with, word_of}
-use Rattle.spi_machine.specs.Wiring.{unit_of_sequence}
+use Rattle.spi_machine.specs.Wiring.{is_sync_sequence, unit_of_sequence}
 use Rattle.spi_machine.specs.declared.call.Call.{Call}
 use Rattle.spi_machine.specs.declared.call.Call.TheVariants.{Sequence}
 use Rattle.spi_machine.specs.declared.call.SequenceCall.TheVariants.{SyncTransmit}
@@ -41,10 +40,10 @@ use Rattle.whole_runs.specs.Runs.{Event, AreAllowed, told_by}
 use Rattle.whole_runs.specs.SequenceRuns.{Seen}
 use Rattle.whole_runs.proofs.SequenceSteps.{seen}
 use Rattle.run_laws.specs.Results.{begun_at, seen_at, state_of}
-use Rattle.run_laws.specs.Sent.{SentJob, word_in, all_in, begins_for, WordBegins, IsStored, IsOver, Sends, Begins, Waits, NextWord, NextJob, SendsAll, WordFailed, EndsSent, AreSent, ends_call}
+use Rattle.run_laws.specs.Sent.{SentJob, word_in, all_in, begins_for, WordBegins, WordGood, IsStored, IsOver, Sends, Begins, Waits, NextWord, NextJob, SendsAll, WordFailed, EndsSent, AreSent, ends_call}
 use Rattle.run_laws.proofs.Cancels.{seen_is}
 use Rattle.run_laws.proofs.SentStories.{carried_is, init_carried, never_sends, sent_story}
-use Rattle.run_laws.proofs.WordStories.{has_failed, never_runs}
+use Rattle.run_laws.proofs.WordStories.{WordOf, failed_if, has_failed, never_runs}
 
 -- ---- what a unit carries out is what a call has sent
 
@@ -107,6 +106,39 @@ over_so d s t now r channels e f g done =
           ∙ ap (λ ns. word_at ns n) (sym (all_is now r f g)));
     }
 
+-- ---- a good word, and a free unit
+
+ticks_over : (began now : ℕ) → nat_le (began + 8) now ≡ true → began + 8 ≤ now
+ticks_over began now e = grind (arith, nat_tests, e)
+
+first_true : (a b : Bool) → a && b ≡ true → a ≡ true
+first_true true b e = refl
+first_true false b e = absurd (cc e)
+
+module _ (d : SpiTable) (e : Event Call) (past : List (Event Call)) (allowed : AreAllowed (spi_machine d) first_state past) (u : ℕ) (x : Carrying) (is : carried_at (state_of d past) u ≡ Some x) (done : is_done e.world.now x.run.transfer ≡ true) where
+  its_word : WordOf d u past x.run
+  its_word = sent_story d u past allowed x.run (ap (λ o. run_carried o) is)
+
+  its_end : its_word.word.start.world.now + 8 ≤ e.world.now
+  its_end = subst (λ n. n + 8 ≤ e.world.now) its_word.began (ticks_over x.run.transfer.began e.world.now done)
+
+  -- the word in transfer of what a unit carries out is good, or has failed, where it says so
+  good_word : x.run.transfer.failed ≡ false → WordGood d u e past
+  good_word clear = record { word = its_word.word; done = its_end; good = λ failed. absurd (cc (sym (failed_if d u past x.run its_word failed) ∙ clear)) }
+
+  failed_word : x.run.transfer.failed ≡ true → WordFailed d u e past
+  failed_word was = record { word = its_word.word; done = its_end; failed = has_failed d u past x.run its_word was }
+
+on_if_clear : (d : SpiTable) (q : ℕ) (off held : Bool) → error_by d (Sequence q SyncTransmit) off held ≡ None → off ≡ false
+on_if_clear d q false held e = refl
+on_if_clear d q true held e = absurd (cc e)
+
+-- where a call may begin its sequence the unit carries out nothing
+unit_free : (off sync : Bool) (o : Option Carrying) → off ≡ false → sync ≡ true → (if off || not sync then None else o) ≡ None → o ≡ None
+unit_free true sync o on own free = absurd (cc on)
+unit_free false false o on own free = absurd (cc own)
+unit_free false true o on own free = free
+
 -- ---- an event that leaves it
 
 -- the same but for a fault
@@ -153,7 +185,7 @@ ends_calm q k call times c e = absurd (cc c)
 sent_own : (d : SpiTable) (s : SpiState) (v : ℕ) (y : Carrying) (failed : Bool) (u : ℕ) → u ≡ v → carried_at (sent d s v y failed).state u ≡ None
 sent_own d s v y failed u own = ap (λ i. carried_at (sent d s v y failed).state i) own ∙ item-same None (job_done d s y failed).carried v None
 
-module _ (d : SpiTable) (e : Event Call) (past : List (Event Call)) (out : Outcome SpiState) (made : (spi_machine d).happens e.world (state_of d past) e.what ≡ Some out) (before : AllCarry d past) where
+module _ (d : SpiTable) (e : Event Call) (past : List (Event Call)) (out : Outcome SpiState) (made : (spi_machine d).happens e.world (state_of d past) e.what ≡ Some out) (allowed : AreAllowed (spi_machine d) first_state past) (before : AllCarry d past) where
   abbrev here : SpiState
   here = state_of d past
 
@@ -231,12 +263,13 @@ module _ (d : SpiTable) (e : Event Call) (past : List (Event Call)) (out : Outco
           unit = on.own;
           over = [];
           now = y;
-          sends = Begins e past y (record {
-            job = refl;
-            words = ap (λ (t : SpiState). job_words d t (next_job d p)) (sym (after_is ∙ ap (λ (t : Outcome SpiState). t.state) (sym same)));
-            none = refl;
-            begins = word_begins v q p y (word_of run) on.number on.own new.sends begins refl refl refl;
-          });
+          sends = Begins e past y
+              (unit_free (is_off here.mode) (is_sync_sequence d q) (carried_at here (unit_of_sequence d q)) (on_if_clear d q (is_off here.mode) (finds_held d here (Sequence q SyncTransmit)) new.clear) on.sync new.free) (record {
+                job = refl;
+                words = ap (λ (t : SpiState). job_words d t (next_job d p)) (sym (after_is ∙ ap (λ (t : Outcome SpiState). t.state) (sym same)));
+                none = refl;
+                begins = word_begins v q p y (word_of run) on.number on.own new.sends begins refl refl refl;
+              });
           words = refl;
           taken = refl;
           last = refl;
@@ -248,8 +281,10 @@ module _ (d : SpiTable) (e : Event Call) (past : List (Event Call)) (out : Outco
     begins_word : (v q : ℕ) (x0 : Carrying) → IsSentOn d (number_of unit) v q → GoesOnSending d e.world here made_by q x0 → goes_on x0.run ≡ true → sent_on d e.world here v received x0 true ≡ out
         → (x : Carrying) → carried_at out.state v ≡ Some x → Carries d v (e ∷ past) x
     begins_word v q x0 on more goes same x is =
-        let c : Carries d v past x0 = before v x0 (ap (λ i. carried_at here i) (sym on.own) ∙ carried_is d here q x0 more.carried) in
-        let own : x0.entry.sequence ≡ q = eq_is x0.entry.sequence q (own_of (is_of q x0.entry) (is_done e.world.now x0.run.transfer) (sends_on d x0) more.may) in
+        let there : carried_at here v ≡ Some x0 = ap (λ i. carried_at here i) (sym on.own) ∙ carried_is d here q x0 more.carried in
+        let c : Carries d v past x0 = before v x0 there in
+        let may = may_of (is_of q x0.entry) (is_done e.world.now x0.run.transfer) (sends_on d x0) more.may in
+        let own : x0.entry.sequence ≡ q = eq_is x0.entry.sequence q may.0 in
         let run : Run = begun e.world.now received x0.entry.sequence x0.run.words (received_with x0.run) in
         let t : SpiState = stored here (word_of x0.run) (word_of x0.run).goes x0.run.transfer.incoming in
         let y : SentJob = record { job = c.now.job; words = c.now.words; taken = all_in c.now; last = run.transfer.incoming } in
@@ -265,6 +300,7 @@ module _ (d : SpiTable) (e : Event Call) (past : List (Event Call)) (out : Outco
               (subst (λ (z : SpiState). IsStored z c.now) (sym (after_is ∙ ap (λ (z : Outcome SpiState). z.state) (sym same)))
               (stored_so (sent_on d e.world here v received x0 true).state c.now x0.run c.words c.taken c.last (λ to. stored-word here (word_of x0.run) (word_of x0.run).goes x0.run.transfer.incoming (word_of x0.run).channel (word_of x0.run).place
               ∙ if_there (goes_to_array (word_of x0.run).channel (word_of x0.run).place (word_of x0.run) (word_of x0.run).goes) x0.run.transfer.incoming (destination_word here (word_of x0.run).channel (word_of x0.run).place) (there_own (word_of x0.run) to))))
+              (subst (λ i. WordGood d i e past) (sym c.unit) (good_word d e past allowed v x0 there may.1 (not_failed x0.run.transfer.failed (nat_lt (length x0.run.received + 1) (length x0.run.words)) goes)))
               refl refl refl
               (word_begins v x0.entry.sequence x0.entry y (word_of run) on.number (ap (λ i. unit_of_sequence d i) own ∙ on.own) (more.sends ∙ ap (λ i. Some i) (sym own)) (ap (λ (z : Outcome SpiState). z.begins) (sym same))
               (ap (λ ws. slice_index_or ws (length (all_in c.now)) no_word) c.words ∙ ap (λ ns. slice_index_or x0.run.words (length ns) no_word) all) c.job refl);
@@ -275,9 +311,14 @@ module _ (d : SpiTable) (e : Event Call) (past : List (Event Call)) (out : Outco
           place = c.place;
         })
       where
-        own_of : (a b c : Bool) → a && b && c ≡ true → a ≡ true
-        own_of true b c h = refl
-        own_of false b c h = absurd (cc h)
+        may_of : (a b c : Bool) → a && b && c ≡ true → (a ≡ true) × (b ≡ true)
+        may_of true true c h = (refl, refl)
+        may_of true false c h = absurd (cc h)
+        may_of false b c h = absurd (cc h)
+
+        not_failed : (f b : Bool) → not f && b ≡ true → f ≡ false
+        not_failed true b h = absurd (cc h)
+        not_failed false b h = refl
 
         more_left : (f : Bool) (n m : ℕ) → not f && nat_lt (n + 1) m ≡ true → n + 1 < m
         more_left true n m h = absurd (cc h)
@@ -287,7 +328,8 @@ module _ (d : SpiTable) (e : Event Call) (past : List (Event Call)) (out : Outco
     begins_job : (v q : ℕ) (x0 : Carrying) → IsSentOn d (number_of unit) v q → GoesOnSending d e.world here made_by q x0 → goes_on x0.run ≡ false → sent_on d e.world here v received x0 false ≡ out
         → (x : Carrying) → carried_at out.state v ≡ Some x → Carries d v (e ∷ past) x
     begins_job v q x0 on more goes same x is =
-        let c : Carries d v past x0 = before v x0 (ap (λ i. carried_at here i) (sym on.own) ∙ carried_is d here q x0 more.carried) in
+        let there : carried_at here v ≡ Some x0 = ap (λ i. carried_at here i) (sym on.own) ∙ carried_is d here q x0 more.carried in
+        let c : Carries d v past x0 = before v x0 there in
         let parts = may_parts (is_of q x0.entry) (is_done e.world.now x0.run.transfer) x0.run.transfer.failed (nat_lt (length x0.run.received + 1) (length x0.run.words)) (has_further d x0.entry) more.may goes in
         let own : x0.entry.sequence ≡ q = eq_is x0.entry.sequence q parts.0 in
         let p : Pending = goes_to_next x0.entry in
@@ -304,6 +346,7 @@ module _ (d : SpiTable) (e : Event Call) (past : List (Event Call)) (out : Outco
           now = y;
           sends = NextJob e past c.over c.now y c.sends
               (over_so d here (state_of d (e ∷ past)) c.now x0.run (ap (λ (z : SpiState). z.channels) (after_is ∙ after)) c.words c.taken c.last parts.1)
+              (subst (λ i. WordGood d i e past) (sym c.unit) (good_word d e past allowed v x0 there parts.4 parts.3))
               (further_job (length c.over) x0.entry.next (length (jobs_of d x0.entry.sequence)) c.place parts.2)
               (record {
                 job = ap (λ n. slice_index_or (jobs_of d x0.entry.sequence) (n + 1) 0) (sym c.place);
@@ -318,12 +361,12 @@ module _ (d : SpiTable) (e : Event Call) (past : List (Event Call)) (out : Outco
           place = one_more c.over c.now x0.entry.next c.place;
         })
       where
-        may_parts : (a b f m g : Bool) → a && b && ((not f && m) || (not f && g)) ≡ true → (not f && m) ≡ false → (a ≡ true) × (m ≡ false) × (g ≡ true)
+        may_parts : (a b f m g : Bool) → a && b && ((not f && m) || (not f && g)) ≡ true → (not f && m) ≡ false → (a ≡ true) × (m ≡ false) × (g ≡ true) × (f ≡ false) × (b ≡ true)
         may_parts false b f m g h k = absurd (cc h)
         may_parts true false f m g h k = absurd (cc h)
         may_parts true true true m g h k = absurd (cc h)
         may_parts true true false true g h k = absurd (cc k)
-        may_parts true true false false true h k = (refl, refl, refl)
+        may_parts true true false false true h k = (refl, refl, refl, refl, refl)
         may_parts true true false false false h k = absurd (cc h)
 
         further_job : (k n m : ℕ) → k ≡ n → nat_lt (n + 1) m ≡ true → k + 1 < m
@@ -486,7 +529,7 @@ all_carry : (d : SpiTable) (past : List (Event Call)) → AreAllowed (spi_machin
 all_carry d [] allowed u x is = absurd (cc is)
 all_carry d (e ∷ past) allowed u x is =
     let out = some_out ((spi_machine d).happens e.world (state_of d past) e.what) allowed.0 in
-    carries_after d e past out.0 out.1 (all_carry d past allowed.1) u x (ap (λ o. carried_at (state_by (state_of d past) o) u) (sym out.1) ∙ is)
+    carries_after d e past out.0 out.1 allowed.1 (all_carry d past allowed.1) u x (ap (λ o. carried_at (state_by (state_of d past) o) u) (sym out.1) ∙ is)
 
 -- ---- an act
 
@@ -505,7 +548,7 @@ module _ (d : SpiTable) (e : Event Call) (past : List (Event Call)) (out : Outco
   abbrev Says : Outcome SpiState → Type 0
   Says t =
       (t.told.answer ≡ named EOk → SendsAll d q e past × ((seen d e.what prior t).has q ≡ SpiSeqOk))
-      × (t.told.error ≡ None → t.told.answer ≡ named ENotOk → WordFailed d (unit_of_sequence d q) past × ((seen d e.what prior t).has q ≡ SpiSeqFailed))
+      × (t.told.error ≡ None → t.told.answer ≡ named ENotOk → WordFailed d (unit_of_sequence d q) e past × ((seen d e.what prior t).has q ≡ SpiSeqFailed))
 
   refused : (q1 : ℕ) (er : ErrorName) → Says (outcome prior (tells_error (answer_refused (Sequence q1 SyncTransmit)) er))
   refused q1 er = (λ good. absurd (not_both (named ENotOk) good refl), λ clear. absurd (cc clear))
@@ -528,6 +571,9 @@ module _ (d : SpiTable) (e : Event Call) (past : List (Event Call)) (out : Outco
       let c : Carries d (unit_of_sequence d q) past x = all_carry d past allowed (unit_of_sequence d q) x carried in
       by failed was same carried own c
     where
+      done : is_done e.world.now x.run.transfer ≡ true
+      done = first_true (is_done e.world.now x.run.transfer) (not (sends_on d x)) ends.may
+
       result_is : (f : Bool) → x.entry.sequence ≡ q → (seen d e.what prior (sent d prior (unit_of_sequence d q) x f)).has q ≡ (if f then SpiSeqFailed else SpiSeqOk)
       result_is true own = ap (λ i. slice_index_or (sent d prior (unit_of_sequence d q) x true).state.sequence_results i SpiSeqOk) (sym own) ∙ item-same SpiSeqOk prior.sequence_results x.entry.sequence SpiSeqFailed
       result_is false own = ap (λ i. slice_index_or (sent d prior (unit_of_sequence d q) x false).state.sequence_results i SpiSeqOk) (sym own) ∙ item-same SpiSeqOk prior.sequence_results x.entry.sequence SpiSeqOk
@@ -545,8 +591,7 @@ module _ (d : SpiTable) (e : Event Call) (past : List (Event Call)) (out : Outco
       by : (f : Bool) → x.run.transfer.failed ≡ f → sent d prior (unit_of_sequence d q) x f ≡ out → carried_at prior (unit_of_sequence d q) ≡ Some x → x.entry.sequence ≡ q → Carries d (unit_of_sequence d q) past x
           → Says (sent d prior (unit_of_sequence d q) x f)
       by true was same carried own c =
-          let word = sent_story d (unit_of_sequence d q) past allowed x.run (ap (λ o. run_carried o) carried) in
-          (λ good. absurd (not_both (named ENotOk) good refl), λ clear bad. (record { word = word.word; failed = has_failed d (unit_of_sequence d q) past x.run word was }, result_is true own))
+          (λ good. absurd (not_both (named ENotOk) good refl), λ clear bad. (failed_word d e past allowed (unit_of_sequence d q) x carried done was, result_is true own))
       by false was same carried own c =
           let parts = end_parts (is_done e.world.now x.run.transfer) x.run.transfer.failed (nat_lt (length x.run.received + 1) (length x.run.words)) (has_further d x.entry) was ends.may in
           let after : state_of d (e ∷ past) ≡ (sent d prior (unit_of_sequence d q) x false).state = ap (λ o. state_by prior o) made ∙ ap (λ (t : Outcome SpiState). t.state) (sym same) in (
@@ -556,6 +601,7 @@ module _ (d : SpiTable) (e : Event Call) (past : List (Event Call)) (out : Outco
                 last = c.now;
                 sends = subst (λ i. Sends d i past c.over c.now) own c.sends;
                 ends = over_so d prior (state_of d (e ∷ past)) c.now x.run (ap (λ (t : SpiState). t.channels) after) c.words c.taken c.last parts.0;
+                good = good_word d e past allowed (unit_of_sequence d q) x carried done was;
                 all = subst (λ i. length (jobs_of d i) ≤ length c.over + 1) own (last_job (length c.over) x.entry.next (length (jobs_of d x.entry.sequence)) c.place parts.1);
               },
               result_is false own,
@@ -577,7 +623,7 @@ module _ (d : SpiTable) (e : Event Call) (past : List (Event Call)) (out : Outco
   pub ends_sent : EndsSent d q e past
   ends_sent = record {
     good = λ answer. subst (λ (v : Seen). SendsAll d q e past × (v.has q ≡ SpiSeqOk)) (sym view_is) (says.0 (sym (ap (λ (v : Seen). v.told.answer) view_is) ∙ answer));
-    failed = λ clear answer. subst (λ (v : Seen). WordFailed d (unit_of_sequence d q) past × (v.has q ≡ SpiSeqFailed)) (sym view_is)
+    failed = λ clear answer. subst (λ (v : Seen). WordFailed d (unit_of_sequence d q) e past × (v.has q ≡ SpiSeqFailed)) (sym view_is)
         (says.1 (sym (ap (λ (v : Seen). v.told.error) view_is) ∙ clear) (sym (ap (λ (v : Seen). v.told.answer) view_is) ∙ answer));
   }
 

@@ -2,12 +2,11 @@
 use Rattle.std.specs.Prelude.{◌≡◌, ℕ, ◌+◌, ◌<◌, ◌≤◌, ◌==◌, Bool, true, false, ◌&&◌, List, [], ◌∷◌, ◌++◌, length, drop, Option, Some, None, slice_get, slice_index_or}
 use Rattle.mcal_base.specs.declared.answer_name.AnswerName.TheVariants.{EOk, ENotOk, SpiSeqOk, SpiSeqFailed}
 use Rattle.mcal_base.specs.declared.error_name.ErrorName.{ErrorName}
-use Rattle.run_model.specs.Machine.{Happening, Acts, Starts, Restarts}
-use Rattle.service_outline.specs.Done.{named}
+use Rattle.run_model.specs.Machine.{Happening, Acts, Starts, Restarts, named}
 use Rattle.spi_machine.specs.Machine.{job_words, number_of, sent_by}
 use Rattle.spi_machine.specs.Numbered.{word_at}
 use Rattle.spi_machine.specs.Promised.{destination_word, go_there, received_at}
-use Rattle.spi_machine.specs.State.{SpiState, internal_word}
+use Rattle.spi_machine.specs.State.{SpiState, carried_at, internal_word}
 use Rattle.spi_machine.specs.Table.{job_of, jobs_of, select_by}
 use Rattle.spi_machine.specs.Transfers.{ToDestination, ToChannel, JobWord, masked, no_word}
 use Rattle.spi_machine.specs.Wiring.{unit_of_sequence}
@@ -67,6 +66,18 @@ pub record IsOver (s : SpiState) (x : SentJob) : Type 0 where
 
 -- ---- a call
 
+-- The word in transfer of a unit is done at an event, and it has failed.
+pub record WordFailed (d : SpiTable) (u : ℕ) (e : Event Call) (past : List (Event Call)) : Type 0 where
+  pub word : WordSince d u past
+  pub done : word.start.world.now + 8 ≤ e.world.now
+  pub failed : HasFailed word
+
+-- It is done at the event, and it hasn't failed.
+pub record WordGood (d : SpiTable) (u : ℕ) (e : Event Call) (past : List (Event Call)) : Type 0 where
+  pub word : WordSince d u past
+  pub done : word.start.world.now + 8 ≤ e.world.now
+  pub good : HasFailed word → ⊥
+
 -- a call of the sequence ends, or the chip is reset
 abbrev pub ends_call : (sequence : ℕ) → Happening Call → Option ErrorName → Bool
 ends_call q (Acts (Sequence k SyncTransmit) times) None = k == q
@@ -75,34 +86,31 @@ ends_call q h error = false
 
 -- What a call has sent since it began its sequence: these jobs, which are over, and the one whose word is in transfer.
 pub data Sends (d : SpiTable) (q : ℕ) : List (Event Call) → (over : List SentJob) → SentJob → Type 0 where
-  -- its first job begins
-  Begins : (e : Event Call) (past : List (Event Call)) (x : SentJob) → JobBegins d q e past 0 x → Sends d q (e ∷ past) [] x
+  -- its unit is free, and its first job begins
+  Begins : (e : Event Call) (past : List (Event Call)) (x : SentJob) → carried_at (state_of d past) (unit_of_sequence d q) ≡ None → JobBegins d q e past 0 x → Sends d q (e ∷ past) [] x
   -- no word begins on its unit, and it doesn't end
   Waits : (e : Event Call) (past : List (Event Call)) (over : List SentJob) (x : SentJob) → Sends d q past over x → begins_on (unit_of_sequence d q) (begun_at d e past) ≡ false → ends_call q e.what (seen_at d e past).told.error ≡ false → Sends d q (e ∷ past) over x
-  -- the word is stored, and the next one of the job begins
+  -- the word is done, good and stored, and the next one of the job begins
   NextWord : (e : Event Call) (past : List (Event Call)) (over : List SentJob) (x y : SentJob) → Sends d q past over x → length (all_in x) < length x.words → IsStored (state_of d (e ∷ past)) x
-      → y.job ≡ x.job → y.words ≡ x.words → y.taken ≡ all_in x → WordBegins d q e past y → Sends d q (e ∷ past) over y
-  -- the job is over, and the next one begins
+      → WordGood d (unit_of_sequence d q) e past → y.job ≡ x.job → y.words ≡ x.words → y.taken ≡ all_in x → WordBegins d q e past y → Sends d q (e ∷ past) over y
+  -- the job is over with a good word, and the next one begins
   NextJob : (e : Event Call) (past : List (Event Call)) (over : List SentJob) (x y : SentJob) → Sends d q past over x → IsOver (state_of d (e ∷ past)) x
-      → length over + 1 < length (jobs_of d q) → JobBegins d q e past (length over + 1) y → Sends d q (e ∷ past) (over ++ x ∷ []) y
+      → WordGood d (unit_of_sequence d q) e past → length over + 1 < length (jobs_of d q) → JobBegins d q e past (length over + 1) y → Sends d q (e ∷ past) (over ++ x ∷ []) y
 
--- The call has sent all jobs of its sequence, each whole and in its order, and what came in is stored.
+-- The call has sent all jobs of its sequence, each whole and in its order, no word failed, and what came in is stored.
 pub record SendsAll (d : SpiTable) (q : ℕ) (e : Event Call) (past : List (Event Call)) : Type 0 where
   pub over : List SentJob
   pub last : SentJob
   pub sends : Sends d q past over last
   pub ends : IsOver (state_of d (e ∷ past)) last
+  pub good : WordGood d (unit_of_sequence d q) e past
   pub all : length (jobs_of d q) ≤ length over + 1
 
--- The word in transfer of a unit has failed.
-pub record WordFailed (d : SpiTable) (u : ℕ) (past : List (Event Call)) : Type 0 where
-  pub word : WordSince d u past
-  pub failed : HasFailed word
-
--- What an act of a call says: with E_OK it has sent all, and with E_NOT_OK and no error its last word has failed.
+-- What an act of a call says: with E_OK it has sent all and no word failed, and with E_NOT_OK and no error the word in
+-- transfer on its unit has failed.
 pub record EndsSent (d : SpiTable) (q : ℕ) (e : Event Call) (past : List (Event Call)) : Type 0 where
   pub good : (seen_at d e past).told.answer ≡ named EOk → SendsAll d q e past × ((seen_at d e past).has q ≡ SpiSeqOk)
-  pub failed : (seen_at d e past).told.error ≡ None → (seen_at d e past).told.answer ≡ named ENotOk → WordFailed d (unit_of_sequence d q) past × ((seen_at d e past).has q ≡ SpiSeqFailed)
+  pub failed : (seen_at d e past).told.error ≡ None → (seen_at d e past).told.answer ≡ named ENotOk → WordFailed d (unit_of_sequence d q) e past × ((seen_at d e past).has q ≡ SpiSeqFailed)
 
 -- each act of Spi_SyncTransmit says so
 abbrev pub AreSent : SpiTable → List (Event Call) → Type 0

@@ -1,6 +1,6 @@
 -- A journal that follows a script, as items are added at its end.
 use Rattle.std.proofs.Common.{◌≡◌, ℕ, ◌+◌, ◌<◌, true, false, ◌||◌, List, [], ◌∷◌, ◌++◌, length, Some, is_some, refl, sym, ◌∙◌, ap, subst, append_assoc, append-nil}
-use Rattle.chip_model.specs.Chip.{wait_on}
+use Rattle.chip_model.specs.Chip.{wait_on, is_masked}
 use Rattle.mcal_base.specs.declared.directive.Directive.{Directive}
 use Rattle.mcal_base.specs.declared.directive.Order.{Order}
 use Rattle.mcal_base.specs.declared.directive.Order.TheVariants as orders
@@ -49,7 +49,7 @@ follows_more g call_of d now (Then_followed m e ds first later last held rest) g
 -- what stands before a step of the top frame, and the moment in which the step is made: nothing, or its wait
 pub data Readies {State Call : Type 0} (g : Setting State Call) (line : ℕ) (m : Moment State Call) (s : Stepped) : List entry.Entry → Moment State Call → Type 0 where
   At_once : Readies g line m s [] m
-  After_wait : (u : ℕ) → 0 < wait_on m.chip u → MayWait g m.opens u → ends_within (wait_on m.chip u) (g.machine.expires m.world m.state) ≡ false → awaits u s.made ≡ true → Readies g line m s ((record { line = line; depth = length m.opens; said = entry.Happens (orders.Tick (wait_on m.chip u)) }) ∷ []) (after g m (Happens (orders.Tick (wait_on m.chip u))))
+  After_wait : (u : ℕ) → 0 < wait_on m.chip u → is_masked m.chip ≡ false → MayWait g m.opens u → ends_within (wait_on m.chip u) (g.machine.expires m.world m.state) ≡ false → awaits u s.made ≡ true → Readies g line m s ((record { line = line; depth = length m.opens; said = entry.Happens (orders.Tick (wait_on m.chip u)) }) ∷ []) (after g m (Happens (orders.Tick (wait_on m.chip u))))
 
 -- the items are steps of the top frame at none of which the directive stops, and lead from a moment to a moment, after so many steps
 pub data Went {State Call : Type 0} (g : Setting State Call) (line : ℕ) (reach : StopCondition) : ℕ → Moment State Call → List entry.Entry → ℕ → Moment State Call → Type 0 where
@@ -65,18 +65,18 @@ module _ {State Call : Type 0} (g : Setting State Call) (line : ℕ) (reach : St
   pub went_more : {made made1 : ℕ} {m last : Moment State Call} {es : List entry.Entry} (s : Stepped) (ws : List entry.Entry) (m1 : Moment State Call) → Went g line reach made m es made1 last → Readies g line last s ws m1 → resets_chip s.made ≡ false → is_some s.ended || is_reached reach (made1 + 1) s ≡ false → Went g line reach made m (es ++ (ws ++ step_at m1 s ∷ [])) (made1 + 1) (after g m1 (Steps s))
   went_more s ws m1 (Not_yet made m) w r h = Step_on made m s ws m1 [] (made + 1) (after g m1 (Steps s)) w r h (Not_yet (made + 1) (after g m1 (Steps s)))
   went_more s ws m1 (Step_on made m t vs m2 es made1 last At_once q k rest) w r h = Step_on made m t [] m (es ++ (ws ++ step_at m1 s ∷ [])) (made1 + 1) (after g m1 (Steps s)) At_once q k (went_more s ws m1 rest w r h)
-  went_more s ws m1 (Step_on made m t vs m2 es made1 last (After_wait u busy may early awaited) q k rest) w r h = Step_on made m t vs m2 (es ++ (ws ++ step_at m1 s ∷ [])) (made1 + 1) (after g m1 (Steps s)) (After_wait u busy may early awaited) q k (went_more s ws m1 rest w r h)
+  went_more s ws m1 (Step_on made m t vs m2 es made1 last (After_wait u busy shown may early awaited) q k rest) w r h = Step_on made m t vs m2 (es ++ (ws ++ step_at m1 s ∷ [])) (made1 + 1) (after g m1 (Steps s)) (After_wait u busy shown may early awaited) q k (went_more s ws m1 rest w r h)
 
   -- the items go on with others where these come from the moment to which they lead
   pub goes_through : {made made1 : ℕ} {m last : Moment State Call} {es : List entry.Entry} (fs : List entry.Entry) → Went g line reach made m es made1 last → GoesOn g line reach made1 last fs → GoesOn g line reach made m (es ++ fs)
   goes_through fs (Not_yet made m) h = h
   goes_through fs (Step_on made m t vs m2 es made1 last At_once q k rest) h = (refl, refl, rw q (rw k (goes_through fs rest h)))
-  goes_through fs (Step_on made m t vs m2 es made1 last (After_wait u busy may early awaited) q k rest) h = (refl, refl, record { unit = u; busy = busy; may = may; goes = rw early (refl, awaited, (refl, refl, rw q (rw k (goes_through fs rest h)))) })
+  goes_through fs (Step_on made m t vs m2 es made1 last (After_wait u busy shown may early awaited) q k rest) h = (refl, refl, record { unit = u; busy = busy; unmasked = shown; may = may; goes = rw early (refl, awaited, (refl, refl, rw q (rw k (goes_through fs rest h)))) })
 
   -- after its wait a step comes, and what comes after it
   pub goes_ready : (made : ℕ) (m : Moment State Call) (s : Stepped) (ws : List entry.Entry) (m1 : Moment State Call) (fs : List entry.Entry) → Readies g line m s ws m1 → GoesOn g line reach made m1 (step_at m1 s ∷ fs) → GoesOn g line reach made m (ws ++ step_at m1 s ∷ fs)
   goes_ready made m s ws m1 fs At_once h = h
-  goes_ready made m s ws m1 fs (After_wait u busy may early awaited) h = (refl, refl, record { unit = u; busy = busy; may = may; goes = rw early (refl, awaited, h) })
+  goes_ready made m s ws m1 fs (After_wait u busy shown may early awaited) h = (refl, refl, record { unit = u; busy = busy; unmasked = shown; may = may; goes = rw early (refl, awaited, h) })
 
   -- a last step, at which the directive stops
   pub goes_on_to : {made made1 : ℕ} {m last : Moment State Call} {es : List entry.Entry} (s : Stepped) (ws : List entry.Entry) (m1 : Moment State Call) → Went g line reach made m es made1 last → Readies g line last s ws m1 → resets_chip s.made ≡ false → is_some s.ended || is_reached reach (made1 + 1) s ≡ true → GoesOn g line reach made m (es ++ (ws ++ step_at m1 s ∷ []))
@@ -87,11 +87,11 @@ module _ {State Call : Type 0} (g : Setting State Call) (line : ℕ) (reach : St
   goes_on_to_reset {made1 = made1} {last = last} s ws m1 w ready r = goes_through (ws ++ step_at m1 s ∷ (record { line = line; depth = length (after g m1 (Steps s)).opens; said = entry.Resets Software (length (after g m1 (Steps s)).opens) }) ∷ []) w (goes_ready made1 last s ws m1 ((record { line = line; depth = length (after g m1 (Steps s)).opens; said = entry.Resets Software (length (after g m1 (Steps s)).opens) }) ∷ []) ready (refl, refl, rw r refl))
 
   -- a wait in which the watchdog's time ends: its reset comes in place of the step
-  pub goes_on_to_end : {made made1 : ℕ} {m last : Moment State Call} {es : List entry.Entry} (u left : ℕ) → Went g line reach made m es made1 last → 0 < wait_on last.chip u → MayWait g last.opens u → g.machine.expires last.world last.state ≡ Some left → ends_within (wait_on last.chip u) (Some left) ≡ true → GoesOn g line reach made m (es ++ (record { line = line; depth = length last.opens; said = entry.Happens (orders.Tick left) }) ∷ (record { line = line; depth = length last.opens; said = entry.Resets Watchdog (length last.opens) }) ∷ [])
-  goes_on_to_end {last = last} u left w busy may is late = goes_through ((record { line = line; depth = length last.opens; said = entry.Happens (orders.Tick left) }) ∷ (record { line = line; depth = length last.opens; said = entry.Resets Watchdog (length last.opens) }) ∷ []) w (refl, refl, record { unit = u; busy = busy; may = may; goes = rw (is, late) (refl, refl) })
+  pub goes_on_to_end : {made made1 : ℕ} {m last : Moment State Call} {es : List entry.Entry} (u left : ℕ) → Went g line reach made m es made1 last → 0 < wait_on last.chip u → is_masked last.chip ≡ false → MayWait g last.opens u → g.machine.expires last.world last.state ≡ Some left → ends_within (wait_on last.chip u) (Some left) ≡ true → GoesOn g line reach made m (es ++ (record { line = line; depth = length last.opens; said = entry.Happens (orders.Tick left) }) ∷ (record { line = line; depth = length last.opens; said = entry.Resets Watchdog (length last.opens) }) ∷ [])
+  goes_on_to_end {last = last} u left w busy shown may is late = goes_through ((record { line = line; depth = length last.opens; said = entry.Happens (orders.Tick left) }) ∷ (record { line = line; depth = length last.opens; said = entry.Resets Watchdog (length last.opens) }) ∷ []) w (refl, refl, record { unit = u; busy = busy; unmasked = shown; may = may; goes = rw (is, late) (refl, refl) })
 
   -- what the items are to the machine
   pub went_deeds : (call_of : Request → Call) (order : Order) {made made1 : ℕ} {m last : Moment State Call} {es : List entry.Entry} → Went g line reach made m es made1 last → after_all g m (deeds_in call_of order es) ≡ last
   went_deeds call_of order (Not_yet made m) = refl
   went_deeds call_of order (Step_on made m t vs m2 es made1 last At_once q k rest) = went_deeds call_of order rest
-  went_deeds call_of order (Step_on made m t vs m2 es made1 last (After_wait u busy may early awaited) q k rest) = went_deeds call_of order rest
+  went_deeds call_of order (Step_on made m t vs m2 es made1 last (After_wait u busy shown may early awaited) q k rest) = went_deeds call_of order rest

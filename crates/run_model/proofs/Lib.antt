@@ -3,6 +3,7 @@ pub mod Counts
 pub mod Following
 pub mod LegalLaws
 pub mod Lists
+pub mod Numbers
 pub mod OutsideLaws
 pub mod TellingLaws
 pub mod ToldLaws

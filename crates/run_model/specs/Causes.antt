@@ -12,6 +12,7 @@ use Rattle.run_model.specs.declared.class.Key.{Key}
 use Rattle.run_model.specs.declared.class.Class.{Class}
 use Rattle.run_model.specs.declared.class.Tag.{Tag}
 use Rattle.run_model.specs.Frame.{Origin, Open}
+use Rattle.mcal_base.specs.declared.module_name.ModuleName.{ModuleName}
 
 -- what kind of object it is; a channel is the same one whether or not its source array is read
 abbrev pub kind_number : KeyKind → ℕ
@@ -126,3 +127,7 @@ origins_of (o ∷ os) = o.origin ∷ origins_of os
 abbrev pub top_noted : {Call : Type 0} → List (Open Call) → Bool
 top_noted [] = false
 top_noted (o ∷ os) = o.noted
+
+-- the class of a guest's calls in the block of this module
+abbrev pub guarded : ModuleName → Class
+guarded block = record { kind = Guarded; «module» = block; key = None }

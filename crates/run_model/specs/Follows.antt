@@ -75,11 +75,12 @@ abbrev pub ends_within : ℕ → (left : Option ℕ) → Bool
 ends_within n None = false
 ends_within n (Some left) = nat_le left n
 
--- The top frame waits so many ticks for the word in transfer on a unit, and then its step comes, and more; or the watchdog's
--- time ends in them, and its reset comes in place of the step.
+-- The top frame waits so many ticks for the word in transfer on a unit, with the mask open, and then its step comes, and more;
+-- or the watchdog's time ends in them, and its reset comes in place of the step.
 pub record Waits {State Call : Type 0} (g : Setting State Call) (line : ℕ) (m : Moment State Call) (n : ℕ) (items : List entry.Entry) (More : Type 0) : Type 0 where
   pub unit : ℕ
   pub busy : 0 < wait_on m.chip unit
+  pub unmasked : is_masked m.chip ≡ false
   pub may : MayWait g m.opens unit
   pub goes : MatchBool (ends_within (wait_on m.chip unit) (g.machine.expires m.world m.state))
       ((g.machine.expires m.world m.state ≡ Some n) × IsOne m line (entry.Resets Watchdog (length m.opens)) items)

@@ -10,7 +10,7 @@ use Rattle.mcal_base.specs.declared.moves.Event.{Event}
 use Rattle.mcal_base.specs.declared.moves.Event.TheVariants.{Act, Serve, Abort, Start}
 use Rattle.mcal_base.specs.declared.notice.Notice.{Notice}
 use Rattle.mcal_base.specs.declared.register.Reg.{Reg}
-use Rattle.mcal_base.specs.declared.register.Reg.TheVariants.{ResetRequest, PulseCommit, SerialData}
+use Rattle.mcal_base.specs.declared.register.Reg.TheVariants.{ResetRequest, PulseCommit, SerialData, SerialWait}
 use Rattle.mcal_base.specs.declared.service.Service.{Service}
 use Rattle.mcal_base.specs.declared.service.Service.TheVariants.{McuPerformReset}
 use Rattle.run_model.specs.declared.class.Tag.{Tag}
@@ -363,6 +363,11 @@ resets_chip _ = false
 abbrev pub begins_word : Move → Bool
 begins_word (Write (SerialData u) v) = true
 begins_word _ = false
+
+-- the move waits for the word in transfer on a unit
+abbrev pub is_wait : Move → Bool
+is_wait (Read (SerialWait u)) = true
+is_wait _ = false
 
 -- the service asks for a reset
 abbrev pub is_reset_service : Service → Bool

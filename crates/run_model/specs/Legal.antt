@@ -26,8 +26,8 @@ use Rattle.mcal_base.specs.declared.directive.Order.{Order}
 use Rattle.mcal_base.specs.declared.directive.Order.TheVariants as orders
 use Rattle.mcal_base.specs.declared.directive.Reason.TheVariants.{Watchdog}
 use Rattle.run_model.specs.World.{World}
-use Rattle.run_model.specs.Machine.{Moves, Restarts, Begun, Machine, no_answer, select_of}
-use Rattle.run_model.specs.Frame.{Origin, Called, Entered, Owing, ActedAt, Open, outcome_at, begun_by, report_by, is_act, state_after, open_after, is_shared, resets_chip, asks_reset}
+use Rattle.run_model.specs.Machine.{Starts, Moves, Restarts, Begun, Machine, no_answer, select_of}
+use Rattle.run_model.specs.Frame.{Origin, Called, Entered, Owing, ActedAt, Open, outcome_at, begun_by, report_by, is_act, state_after, open_after, is_shared, is_wait, resets_chip, asks_reset}
 use Rattle.run_model.specs.Causes.{call_cause, line_cause, fill_cause, tags_of, origins_of, top_noted}
 use Rattle.run_model.specs.Moment.{Halves, Setting, is_busy, Moment, Transition, Begins, Enters, Steps, Happens, Resets, after}
 
@@ -46,15 +46,21 @@ lines_from k (l ∷ ls) = cond (l == k) (l ∷ ls) (lines_from k ls)
 abbrev pub IsNext : (polls served : List ℕ) → ℕ → Type 0
 IsNext polls served k = (has_line polls k ≡ true) × (list_any (has_line served) (lines_from k polls) ≡ false)
 
+-- a frame that has acted starts a unit for no call: the machine allows the start without one
+abbrev pub StartsUncalled : {State Call : Type 0} → Machine State Call → World → State → units.Unit → (acted : Option Answer) → Type 0
+StartsUncalled mac w s u None = Unit {0}
+StartsUncalled mac w s u (Some answer) = (received : ℕ) → IsSome (mac.happens w s (Starts u None received))
+
 -- a frame acts once; a handler doesn't act, and serves its own line, once; a call serves lines that it polls, in their order, each
--- once and with no notice owed, so that it gives those of one before it serves the next
+-- once and with no notice owed, so that it gives those of one before it serves the next; what a call starts for itself it starts
+-- before it acts
 abbrev pub IsOwnEvent : {State Call : Type 0} → Machine State Call → World → State → Open Call → Event → Origin Call → Type 0
 IsOwnEvent mac w s o Act (Called c) = o.acted ≡ None
 IsOwnEvent mac w s o Act (Entered l) = ⊥
 IsOwnEvent mac w s o (Serve k) (Called c) = IsNext (mac.polls w s c) o.served k × (o.owed ≡ []) × (o.inside ≡ true)
 IsOwnEvent mac w s o (Serve k) (Entered l) = (k ≡ l) × (o.served ≡ []) × (o.inside ≡ true)
 IsOwnEvent mac w s o (Abort u) origin = o.owed ≡ []
-IsOwnEvent mac w s o (Start u) origin = o.owed ≡ []
+IsOwnEvent mac w s o (Start u) origin = (o.owed ≡ []) × StartsUncalled mac w s u o.acted
 
 -- the number of a unit among those of its kind
 abbrev pub unit_number : units.Unit → ℕ
@@ -273,6 +279,8 @@ pub record IsLegalStep {State Call : Type 0} (g : Setting State Call) (m : Momen
   -- it waits for no word in transfer, and the value read is the chip's
   pub waits : stall_of m.chip s.made ≡ 0
   pub value : s.value ≡ value_of m.chip s.made
+  -- a frame waits for a word with the mask open, so no time passes in a window
+  pub waits_open : is_wait s.made ≡ true → o.inside ≡ false
   -- the word that comes in is the one of that moment
   pub received : ReceivedRight m.chip m.world s.made s.received
   -- the machine allows the event, and it is one that the frame may have
@@ -353,7 +361,7 @@ abbrev pub QuietAtRest : {State Call : Type 0} → Setting State Call → Moment
 QuietAtRest g m [] = IsQuiet g m
 QuietAtRest g m (o ∷ os) = Unit {0}
 
--- wherever the mask is open, the outputs are the machine's that are so at every time
+-- wherever the mask is open, the outputs and user arrays are the machine's that are so at every time
 abbrev pub OutputsRight : {State Call : Type 0} → Setting State Call → Moment State Call → Type 0
 OutputsRight g m = is_masked m.chip ≡ false → g.unmasked m.chip m.world m.state (origins_of m.opens)
 

@@ -8,6 +8,7 @@ pub mod Legal
 pub mod Machine
 pub mod Moment
 pub mod Outside
+pub mod Packing
 pub mod Rooms
 pub mod Script
 pub mod Stops

@@ -1,8 +1,8 @@
 -- A machine of the specifications: what happens to a module, and what comes of it. It knows no register, no mask and no place in a program.
-use Rattle.std.specs.Prelude.{◌≡◌, ℕ, ◌+◌, List, [], Bool, Option, Some, None, IsSome}
+use Rattle.std.specs.Prelude.{◌≡◌, ℕ, ◌+◌, List, [], Bool, Option, Some, None, IsSome, ◌∷◌}
 use Rattle.det_errors.specs.Reports.{Reporting}
 use Rattle.mcal_base.specs.declared.answer.Answer.{Answer}
-use Rattle.mcal_base.specs.declared.answer.Head.TheVariants.{Nothing}
+use Rattle.mcal_base.specs.declared.answer.Head.TheVariants.{Nothing, Name, Numbers, ZeroNull}
 use Rattle.mcal_base.specs.declared.directive.Order.{Order}
 use Rattle.mcal_base.specs.declared.directive.Reason.{Reason}
 use Rattle.mcal_base.specs.declared.error_name.ErrorName.{ErrorName}
@@ -10,6 +10,7 @@ use Rattle.mcal_base.specs.declared.moves.Unit as units
 use Rattle.mcal_base.specs.declared.notice.Notice.{Notice}
 use Rattle.mcal_base.specs.declared.service.Service.{Service}
 use Rattle.run_model.specs.World.{World}
+use Rattle.mcal_base.specs.declared.answer_name.AnswerName.{AnswerName}
 
 -- what happens to a machine
 pub data Happening (Call : Type 0) : Type 0 where
@@ -57,6 +58,31 @@ no_answer = record { head = Nothing; words = [] }
 
 abbrev pub tells_nothing : Told
 tells_nothing = record { answer = no_answer; error = None; notices = [] }
+
+-- the answer that is a name, alone or with words, and the one that is numbers
+abbrev pub named_with : AnswerName → List ℕ → Answer
+named_with n ws = record { head = Name n; words = ws }
+
+abbrev pub named : AnswerName → Answer
+named n = named_with n []
+
+abbrev pub numbers : List ℕ → Answer
+numbers ns = record { head = Numbers; words = ns }
+
+-- the answer that is a number
+abbrev pub number : ℕ → Answer
+number n = numbers (n ∷ [])
+
+-- the answer that is a count of 0 and no pointer
+abbrev pub zero_null : Answer
+zero_null = record { head = ZeroNull; words = [] }
+
+-- an act that answers this, and one that finds an error
+abbrev pub answers : Answer → Told
+answers a = record { answer = a; error = None; notices = [] }
+
+abbrev pub tells_error : Answer → ErrorName → Told
+tells_error a e = record { answer = a; error = Some e; notices = [] }
 
 -- what comes of what begins no word, and of what does
 abbrev pub outcome : {State : Type 0} → State → Told → Outcome State

@@ -45,7 +45,7 @@ pub record Setting (State Call : Type 0) : Type 1 where
   pub in_use : World → State → (channel : ℕ) → Bool
   -- with no frame: pins, RAM and user arrays are the machine's
   pub rest : Chip → World → State → Type 0
-  -- wherever the mask is open, with these frames under way: outputs that are the machine's at every time
+  -- wherever the mask is open, with these frames under way: outputs and user arrays that are the machine's at every time
   pub unmasked : Chip → World → State → List (Origin Call) → Type 0
   -- at a notice of a frame of this origin: the user arrays of the object that it names are the machine's
   pub shows : Origin Call → Notice → Chip → State → Type 0

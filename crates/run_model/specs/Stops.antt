@@ -1,6 +1,6 @@
 -- When a journal follows a script up to a stop: the items of the first directives are whole, and those of the next one end where the top frame would make one more step.
 use Rattle.std.specs.Prelude.{◌≡◌, ◌⊎◌, ℕ, zero, ◌+◌, ◌<◌, Bool, true, false, ◌||◌, List, [], ◌∷◌, length, count_by, Option, None, is_some}
-use Rattle.chip_model.specs.Chip.{wait_on}
+use Rattle.chip_model.specs.Chip.{wait_on, is_masked}
 use Rattle.irq_control.specs.declared.held.Held.{Held}
 use Rattle.mcal_base.specs.declared.directive.Directive.{Directive}
 use Rattle.mcal_base.specs.declared.directive.Order.{Order}
@@ -18,11 +18,12 @@ abbrev pub MayComeAwaited : (u : ℕ) → List entry.Entry → Type 0
 MayComeAwaited u [] = Unit {0}
 MayComeAwaited u (e ∷ es) = is_awaiting u e.said ≡ true
 
--- the top frame waits so many ticks for the word in transfer on a unit, within the watchdog's time
+-- the top frame waits so many ticks for the word in transfer on a unit, with the mask open, within the watchdog's time
 pub record WaitsBefore {State Call : Type 0} (g : Setting State Call) (m : Moment State Call) (n : ℕ) (items : List entry.Entry) : Type 0 where
   pub unit : ℕ
   pub busy : 0 < n
   pub ticks : n ≡ wait_on m.chip unit
+  pub unmasked : is_masked m.chip ≡ false
   pub may : MayWait g m.opens unit
   pub in_time : ends_within n (g.machine.expires m.world m.state) ≡ false
   pub step : MayComeAwaited unit items

@@ -1,57 +1,14 @@
 ghost use Rattle.std.specs.Prelude.{ℕ, List, ◌≡◌, ◌<◌, ◌≤◌, ◌+◌, ◌^◌, ◌++◌, [], ◌∷◌, length, IfOk, map, true};
-ghost use Rattle.run_model.specs.Entry.{Begins, Happens, Stays, Steps, Resets, written, said_at, answer_at, order_at, entries, words_of_answer, words_of_order, is_happening, WhatFits, AnswerFits, HardwareFits};
+ghost use Rattle.run_model.specs.Packing.{IsNumbered, entries_in, step_with, what_of};
+ghost use Rattle.run_model.specs.Entry.{Begins, Happens, Stays, Steps, Resets, written, said_at, step_at, answer_at, order_at, words_of_answer, words_of_order, is_happening, WhatFits, AnswerFits, HardwareFits};
 
-use crate::item::{Hardware, Item, Logged, LoggedAnswer, Span, Stepped, What};
+use crate::item::{Hardware, LoggedAnswer, Span, Stepped};
+use crate::items::Items;
+use crate::kept::{JournalLists, KeptWhat, Rest, is_plain};
 use irq_control::Held;
-use mcal_base::{Answer, Order, Reason};
+use mcal_base::{Answer, Move, Order, Reason};
 use std::alloc::{AllocError, Global};
 use std::marker::Model;
-use std::mem::size_of;
-
-/// The items of a journal, with room that was taken before the run.
-#[derive(Drop)]
-pub struct Items {
-    items: Vec<Item>,
-    room: usize,
-}
-
-impl Model for Items {
-    ghost use Rattle.std.specs.Prelude.{vec_len, vec_capacity, ◌≤◌};
-    ghost use Rattle.run_model.specs.Rooms.{ItemsKept};
-
-    ghost Value = { ItemsKept };
-
-    ghost view = { λ j. record { items = j.items.items; room = j.room } };
-
-    ghost invariant = { λ j. (vec_len j.items ≤ j.room) × (j.room ≤ vec_capacity j.items) };
-}
-
-impl Items {
-    /// No items, and room for so many.
-    pub fn with_room(alloc: Global, room: usize) -> Result<Items, AllocError>
-        ensures { IfOk result (λ j. j ≡ record { items = []; room = room }) }
-    {
-        Ok(Items {
-            items: Vec::with_capacity(alloc, room)?,
-            room,
-        })
-    }
-
-    /// The items.
-    pub fn as_slice(&self) -> &[Item]
-        ensures { result.now ≡ self.now.items }
-    {
-        self.items.as_slice()
-    }
-
-    /// One more item. It takes no memory.
-    pub fn push(&mut self, item: Item)
-        requires { length self.old.items < self.old.room }
-        ensures { self.new ≡ record self.old { items = self.old.items ++ item ∷ [] } }
-    {
-        self.items.push_reserved(item);
-    }
-}
 
 /// The words of a journal's lists, with room that was taken before the run.
 #[derive(Drop)]
@@ -129,10 +86,7 @@ impl Journal {
         ensures { result ≡ record { entries = []; room = 0; words = []; words_room = 0 } }
     {
         Journal {
-            items: Items {
-                items: Vec::new(alloc),
-                room: 0,
-            },
+            items: Items::empty(alloc),
             words: Pool {
                 words: Vec::new(alloc),
                 room: 0,
@@ -151,27 +105,31 @@ impl Journal {
         })
     }
 
-    /// The items, with the stretches of their lists.
-    pub fn items(&self) -> &[Item]
-        ensures { entries self.now.words result.now ≡ self.now.entries }
+    /// The lists in which it stands.
+    pub fn lists(&self) -> JournalLists<'_>
+        ensures entries { entries_in result result.items.now ≡ self.now.entries }
+        ensures words { result.words.now ≡ self.now.words }
     {
-        self.items.as_slice()
+        self.items.lists(self.words.as_slice())
     }
 
-    /// The words of the lists.
-    pub fn words(&self) -> &[u32]
-        ensures { result.now ≡ self.now.words }
-    {
-        self.words.as_slice()
-    }
-
-    /// One more item, whose lists stand among the words.
-    fn push(&mut self, line: u32, depth: u32, what: What)
+    /// One more item that is no step with a rest, and whose lists stand among the words.
+    fn push(&mut self, line: u32, depth: u32, what: KeptWhat)
         requires room { length self.old.entries < self.old.room }
-        requires fits { WhatFits (length self.old.words) what }
-        ensures { self.new ≡ written self.old line depth (said_at self.old.words what) [] }
+        requires plain { IsNumbered 0 what }
+        requires fits { WhatFits (length self.old.words) (what_of [] what) }
+        ensures { self.new ≡ written self.old line depth (said_at self.old.words (what_of [] what)) [] }
     {
-        self.items.push(Item { line, depth, what });
+        self.items.push(line, depth, what);
+    }
+
+    /// One more step that has a rest, whose answer's words stand among the words.
+    fn push_step(&mut self, line: u32, depth: u32, made: Move, rest: Rest)
+        requires room { length self.old.entries < self.old.room }
+        requires fits { AnswerFits (length self.old.words) rest.ended }
+        ensures { self.new ≡ written self.old line depth (Steps (step_at self.old.words (step_with made rest.value rest))) [] }
+    {
+        self.items.push_step(line, depth, made, rest);
     }
 
     /// Keeps a list of words.
@@ -226,7 +184,7 @@ impl Journal {
         requires { length self.old.entries < self.old.room }
         ensures { self.new ≡ written self.old line depth Begins [] }
     {
-        self.push(line, depth, What::Begun);
+        self.push(line, depth, KeptWhat::Begun);
     }
 
     /// Notes that a directive was held.
@@ -234,7 +192,7 @@ impl Journal {
         requires { length self.old.entries < self.old.room }
         ensures { self.new ≡ written self.old line depth (Stays cause) [] }
     {
-        self.push(line, depth, What::Held(cause));
+        self.push(line, depth, KeptWhat::Held(cause));
     }
 
     /// Notes a reset that dropped so many frames.
@@ -242,7 +200,7 @@ impl Journal {
         requires { length self.old.entries < self.old.room }
         ensures { self.new ≡ written self.old line depth (Resets reason dropped) [] }
     {
-        self.push(line, depth, What::Reset(reason, dropped));
+        self.push(line, depth, KeptWhat::Reset(reason, dropped));
     }
 
     /// Notes that the hardware moved, or that something was shown.
@@ -253,7 +211,23 @@ impl Journal {
         ensures { self.new ≡ written self.old line depth (Happens order.now) (words_of_order order.now) }
     {
         let hardware = self.keep_order(order);
-        self.push(line, depth, What::Happened(hardware));
+        self.push(line, depth, KeptWhat::Happened(hardware));
+    }
+
+    /// Notes a step with what it has beside its move.
+    fn stepped_whole(&mut self, line: u32, depth: u32, stepped: &Stepped)
+        requires room { length self.old.entries < self.old.room }
+        requires words { length self.old.words + length (words_of_answer stepped.now.ended) ≤ self.old.words_room }
+        ensures { self.new ≡ written self.old line depth (Steps stepped.now) (words_of_answer stepped.now.ended) }
+    {
+        let ended = self.keep_answer(&stepped.ended);
+        let rest = Rest {
+            value: stepped.value,
+            received: stepped.received,
+            event: stepped.event,
+            ended,
+        };
+        self.push_step(line, depth, stepped.made, rest);
     }
 
     /// Notes a step.
@@ -262,16 +236,10 @@ impl Journal {
         requires words { length self.old.words + length (words_of_answer stepped.now.ended) ≤ self.old.words_room }
         ensures { self.new ≡ written self.old line depth (Steps stepped.now) (words_of_answer stepped.now.ended) }
     {
-        let ended = self.keep_answer(&stepped.ended);
-        let logged = Logged {
-            made: stepped.made,
-            value: stepped.value,
-            received: stepped.received,
-            event: stepped.event,
-            ended,
-        };
-        self.push(line, depth, What::Stepped(logged));
+        if is_plain(stepped) {
+            self.push(line, depth, KeptWhat::Stepped(stepped.made, stepped.value));
+        } else {
+            self.stepped_whole(line, depth, stepped);
+        }
     }
 }
-
-const _: () = prove!(size_of::<Item>() <= 64);

@@ -4,11 +4,15 @@
 mod causes;
 mod class;
 mod item;
+mod items;
 mod journal;
+mod kept;
 mod stop_condition;
 
 pub use causes::{MOST_FRAMES, call_cause, is_blocked, line_cause};
 pub use class::{Class, Key, KeyKind, Kind, Tag};
 pub use item::{Hardware, Item, Logged, LoggedAnswer, Span, Stepped, What};
-pub use journal::{Items, Journal, Pool};
+pub use items::Items;
+pub use journal::{Journal, Pool};
+pub use kept::{JournalLists, Kept, KeptWhat, Rest};
 pub use stop_condition::StopCondition;

@@ -1,5 +1,5 @@
 ghost use Rattle.std.specs.Prelude.{◌≡◌, true};
-ghost use Rattle.gpt_driver.specs.Requests.{has_service};
+ghost use Rattle.gpt_machine.specs.Requests.{has_service};
 ghost use Rattle.script_runner.specs.Scripts.{is_offered};
 ghost use Rattle.script_runner.specs.Standing.{is_built};
 
@@ -41,7 +41,7 @@ fn stops_at_the_limit_of_steps(rt: HostRuntime) -> Result<(), Fail> {
             return Err(Fail::from(AllocError));
         };
         assert_eq!(rt; ran.too_long, too_long, "at {limit}");
-        assert_eq!(rt; ran.journal.items().len(), items, "at {limit}");
+        assert_eq!(rt; ran.journal.lists().items.len(), items, "at {limit}");
     }
     Ok(())
 }

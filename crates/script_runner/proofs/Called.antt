@@ -182,7 +182,7 @@ module _ {State Call Frame : Type 0} (d : Driver State Call Frame) (first : Chip
   -- a frame waited
   ready_still : {m m1 : Moment State Call} {s : Stepped} {ws : List Entry} (line : ℕ) → Readies d.setting line m s ws m1 → ItemsLeave ws
   ready_still line At_once = tt
-  ready_still line (After_wait u busy may early awaited) = (tt, tt)
+  ready_still line (After_wait u busy shown may early awaited) = (tt, tt)
 
   pub called_waited : (move_of : Frame → Move) (line : ℕ) (chip : Chip) (us : List (Under Frame)) (before : Written) (chip1 : Chip) (after : Written) (lines : List Line) → 0 < length us → Waited d first call_of script move_of line chip us before chip1 after → Called d first call_of script before.entries after.entries lines lines
   called_waited move_of line chip [] before chip1 after lines some w = absurd (omega (arith, some))

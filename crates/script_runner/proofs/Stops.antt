@@ -19,18 +19,18 @@ use Rattle.script_runner.specs.Standing.{IsCounted}
 pub stops_through : {State Call : Type 0} (g : Setting State Call) (line : ℕ) (reach : StopCondition) {made made1 : ℕ} {m last : Moment State Call} {es : List Entry} (fs : List Entry) → Went g line reach made m es made1 last → GoesToStop g line reach made1 last fs → GoesToStop g line reach made m (es ++ fs)
 stops_through g line reach fs (Not_yet made m) h = h
 stops_through g line reach fs (Step_on made m t ws m1 es made1 last At_once q k rest) h = (refl, refl, rw (q, k) refl, stops_through g line reach fs rest h)
-stops_through g line reach fs (Step_on made m t ws m1 es made1 last (After_wait u busy may early awaited) q k rest) h =
-    (refl, refl, record { unit = u; busy = busy; ticks = refl; may = may; in_time = early; step = awaited }, (refl, refl, rw (q, k) refl, stops_through g line reach fs rest h))
+stops_through g line reach fs (Step_on made m t ws m1 es made1 last (After_wait u busy shown may early awaited) q k rest) h =
+    (refl, refl, record { unit = u; busy = busy; ticks = refl; unmasked = shown; may = may; in_time = early; step = awaited }, (refl, refl, rw (q, k) refl, stops_through g line reach fs rest h))
 
 -- the wait of the step that would come next
 pub waits_to_stop : {State Call : Type 0} (g : Setting State Call) (line : ℕ) (reach : StopCondition) (made : ℕ) {m m1 : Moment State Call} {s : Stepped} {ws : List Entry} → Readies g line m s ws m1 → GoesToStop g line reach made m ws
 waits_to_stop g line reach made At_once = tt
-waits_to_stop g line reach made (After_wait u busy may early awaited) = (refl, refl, record { unit = u; busy = busy; ticks = refl; may = may; in_time = early; step = tt }, tt)
+waits_to_stop g line reach made (After_wait u busy shown may early awaited) = (refl, refl, record { unit = u; busy = busy; ticks = refl; unmasked = shown; may = may; in_time = early; step = tt }, tt)
 
 -- what a wait is to the machine
 pub ready_deeds : {State Call : Type 0} (g : Setting State Call) (call_of : Request → Call) (order : Order) (line : ℕ) {m m1 : Moment State Call} {s : Stepped} {ws : List Entry} → Readies g line m s ws m1 → after_all g m (deeds_in call_of order ws) ≡ m1
 ready_deeds g call_of order line At_once = refl
-ready_deeds g call_of order line (After_wait u busy may early awaited) = refl
+ready_deeds g call_of order line (After_wait u busy shown may early awaited) = refl
 
 -- the same as items of a directive that wants a step of a frame that is there
 pub stops_within : {State Call : Type 0} (g : Setting State Call) (line : ℕ) (reach : StopCondition) (m : Moment State Call) (items : List Entry) (o : Open Call) (os : List (Open Call)) → (reach ≡ Count 0 → ⊥) → GoesToStop g line reach 0 m items → StopsWithin g line reach m (o ∷ os) items

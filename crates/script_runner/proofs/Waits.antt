@@ -3,7 +3,7 @@ use Rattle.std.proofs.Common.{◌≡◌, ℕ, zero, suc, ◌+◌, ◌-◌, ◌*�
 use Rattle.std.specs.Prelude.{nat_le, nat_lt, ◌==◌}
 use Rattle.std.proofs.lemmas.Bool.Decides.{nat_tests}
 use Rattle.plain_facts.specs.Numbers.{eq_self}
-use Rattle.chip_model.specs.Chip.{Chip, CanHappen, chip_after, expiry_of, happened, now_of, reset_chip, stall_of, ticked, wait_on}
+use Rattle.chip_model.specs.Chip.{Chip, CanHappen, chip_after, expiry_of, happened, is_masked, now_of, reset_chip, stall_of, ticked, wait_on}
 use Rattle.mcal_base.specs.Reach.{CanApply}
 use Rattle.mcal_base.specs.declared.directive.Directive.{Directive}
 use Rattle.mcal_base.specs.declared.directive.Order.TheVariants as orders
@@ -16,7 +16,7 @@ use Rattle.mcal_base.specs.declared.register.Reg.TheVariants.{SerialWait}
 use Rattle.mcal_base.specs.declared.routine.Taken.{Taken}
 use Rattle.run_model.specs.Entry.{Entry, Happens, Resets, Written, written}
 use Rattle.run_model.specs.Follows.{IsOne, MayWait, Ticks, awaits, ends_within, ticks_left, ticks_through}
-use Rattle.run_model.specs.Frame.{Open, is_shared}
+use Rattle.run_model.specs.Frame.{Open, is_shared, is_wait}
 use Rattle.run_model.specs.Moment as moment
 use Rattle.run_model.specs.Moment.{Moment, after_all}
 use Rattle.run_model.specs.Script.{deeds_of}
@@ -24,7 +24,7 @@ use Rattle.run_model.specs.Stops.{steps_in}
 use Rattle.run_model.proofs.Following.{Readies, At_once, After_wait, after_all-append}
 use Rattle.step_runner.specs.Driver.{Driver, EndsBefore, IsLawful}
 use Rattle.step_runner.specs.Kept.{Kept, IsLooked, IsStill, upcoming_of}
-use Rattle.step_runner.specs.Stands.{AreFramesOf, Stands, paired}
+use Rattle.step_runner.specs.Stands.{AreFramesOf, IsGuarded, Stands, paired}
 use Rattle.step_runner.specs.declared.stack.Under.{Under}
 use Rattle.step_runner.proofs.Runs.{left-is}
 use Rattle.script_runner.specs.Busy.{busies}
@@ -198,16 +198,18 @@ module _ {State Call Frame : Type 0} (d : Driver State Call Frame) (first : Chip
 
     record Waits_there (m : Moment State Call) (u : ℕ) : Type 0 where
       there : u < 2
+      unmasked : is_masked m.chip ≡ false
       may : MayWait d.setting m.opens u
 
-    waits-there : (chip : Chip) (us : List (Under Frame)) (m : Moment State Call) (os : List (Open Call)) (u : ℕ) → m.opens ≡ os → AreFramesOf d us os → d.relates m.chip m.world (paired us os) m.state → upcoming_of move_of us ≡ Some (Read (SerialWait u)) → Waits_there m u
-    waits-there chip [] m os u opens frames relates up = cc
-    waits-there chip (x ∷ us) m [] u opens frames relates up = absurd frames
-    waits-there chip (x ∷ us) m (o ∷ os) u opens frames relates up =
+    waits-there : (chip : Chip) (us : List (Under Frame)) (m : Moment State Call) (os : List (Open Call)) (u : ℕ) → m.opens ≡ os → AreFramesOf d us os → IsGuarded (is_masked m.chip) os → d.relates m.chip m.world (paired us os) m.state → upcoming_of move_of us ≡ Some (Read (SerialWait u)) → Waits_there m u
+    waits-there chip [] m os u opens frames guarded relates up = cc
+    waits-there chip (x ∷ us) m [] u opens frames guarded relates up = absurd frames
+    waits-there chip (x ∷ us) m (o ∷ os) u opens frames guarded relates up =
         let is : move_of x.frame ≡ Read (SerialWait u) = cc in
         let own = law.own m.chip m.world x.frame o (paired us os) m.state relates in
         let own1 : is_shared (Read (SerialWait u)) || d.setting.may o.origin (Read (SerialWait u)) ≡ true = subst (λ y. is_shared y || d.setting.may o.origin y ≡ true) is own in
         record {
+          unmasked = guarded.0 ∙ law.opens m.chip m.world x.frame o (paired us os) m.state relates (ap is_wait is);
           there = subst CanApply is (law.there m.chip m.world x.frame o (paired us os) m.state relates);
           may = subst (λ ys. MayWait d.setting ys u) (sym opens) (or-free (is_shared (Read (SerialWait u))) (d.setting.may o.origin (Read (SerialWait u))) refl own1);
         }
@@ -220,7 +222,7 @@ module _ {State Call Frame : Type 0} (d : Driver State Call Frame) (first : Chip
         let u = w.0 in
         let made_is = w.1 in
         let up1 : upcoming_of move_of us ≡ Some (Read (SerialWait u)) = up ∙ ap (λ x. Some x) made_is in
-        let there = waits-there chip us m m.opens u refl k.frames k.relates up1 in
+        let there = waits-there chip us m m.opens u refl k.frames k.guarded k.relates up1 in
         let wait_is : wait_on chip u ≡ n = sym (ap (stall_of chip) made_is) ∙ sym n_is in
         let at_is : wait_on m.chip u ≡ n = sym (ap (λ c. wait_on c u) k.chip_is) ∙ wait_is in
         let depth = depth_is d first call_of script chip us before.entries stands in
@@ -241,7 +243,7 @@ module _ {State Call Frame : Type 0} (d : Driver State Call Frame) (first : Chip
               subst (λ x. Readies d.setting line m s (e ∷ []) x) (sym t.leads)
               (subst (λ y. Readies d.setting line m s ((record { line = line; depth = y; said = Happens (orders.Tick n) }) ∷ []) (moment.after d.setting m (moment.Happens (orders.Tick n)))) (sym depth)
               (subst (λ x. Readies d.setting line m s ((record { line = line; depth = length m.opens; said = Happens (orders.Tick x) }) ∷ []) (moment.after d.setting m (moment.Happens (orders.Tick x)))) at_is
-              (After_wait u (omega (arith, at_is, some)) there.may early awaited)));
+              (After_wait u (omega (arith, at_is, some)) there.unmasked there.may early awaited)));
           still = still-by us chip1 made up (ap (λ c. stall_of c made) t.chip_is ∙ over);
           stands = t.stands;
           room = ap (λ x. x.room) t.written;
@@ -264,7 +266,7 @@ module _ {State Call Frame : Type 0} (d : Driver State Call Frame) (first : Chip
         let w = stalls chip made (omega (arith, n_is, some)) in
         let u = w.0 in
         let up1 : upcoming_of move_of k.frames ≡ Some (Read (SerialWait u)) = up ∙ ap (λ x. Some x) w.1 in
-        let there = waits-there chip k.frames m m.opens u refl q.frames q.relates up1 in
+        let there = waits-there chip k.frames m m.opens u refl q.frames q.guarded q.relates up1 in
         let wait_is : wait_on chip u ≡ n = sym (ap (stall_of chip) w.1) ∙ sym n_is in
         let at_is : wait_on m.chip u ≡ n = sym (ap (λ c. wait_on c u) q.chip_is) ∙ wait_is in
         let time : d.setting.machine.expires m.world m.state ≡ expiry_of chip = left-is d move_of left gave law chip k.frames m q ∙ sym (ap expiry_of q.chip_is) in
@@ -274,6 +276,7 @@ module _ {State Call Frame : Type 0} (d : Driver State Call Frame) (first : Chip
           unit = u;
           left = ended;
           busy = omega (arith, at_is, some);
+          unmasked = there.unmasked;
           may = there.may;
           expires = time ∙ h.0;
           late = ap (nat_le ended) at_is ∙ h.1;

@@ -211,7 +211,7 @@ module _ {State Call Frame : Type 0} (d : Driver State Call Frame) (first : Chip
         adds = λ order. record {
           items = w.items ++ e ∷ f ∷ [];
           is = down.is ∙ ap (λ es. es ++ e ∷ f ∷ []) w.is ∙ append_assoc before.entries w.items (e ∷ f ∷ []);
-          right = subst (λ n. GoesOn d.setting line reach 0 m (w.items ++ (record { line = line; depth = n; said = Happens (orders.Tick o.left) }) ∷ (record { line = line; depth = n; said = Resets Watchdog n }) ∷ [])) (sym n1) (goes_on_to_end d.setting line reach o.unit o.left w.went o.busy o.may o.expires o.late);
+          right = subst (λ n. GoesOn d.setting line reach 0 m (w.items ++ (record { line = line; depth = n; said = Happens (orders.Tick o.left) }) ∷ (record { line = line; depth = n; said = Resets Watchdog n }) ∷ [])) (sym n1) (goes_on_to_end d.setting line reach o.unit o.left w.went o.busy o.unmasked o.may o.expires o.late);
           leads = ap (λ ds. after_all d.setting m ds) (deeds_in-append call_of order w.items (e ∷ f ∷ []))
               ∙ after_all-append d.setting m (deeds_in call_of order w.items) (deeds_in call_of order (e ∷ f ∷ []))
               ∙ ap (λ x. after_all d.setting x (deeds_in call_of order (e ∷ f ∷ []))) (went_deeds d.setting line reach call_of order w.went)

@@ -1,6 +1,6 @@
 -- What the parts of a run are to its journal, while a directive is obeyed.
 use Rattle.std.specs.Prelude.{◌≡◌, ℕ, zero, suc, ◌+◌, ◌-◌, ◌*◌, ◌^◌, ◌<◌, ◌≤◌, Bool, true, false, nat_le, nat_lt, cond, List, [], ◌∷◌, ◌++◌, length, Option, Some, None}
-use Rattle.chip_model.specs.Chip.{Chip, now_of, incoming_at, chip_after, happened, reset_chip, wait_on}
+use Rattle.chip_model.specs.Chip.{Chip, now_of, incoming_at, chip_after, happened, is_masked, reset_chip, wait_on}
 use Rattle.mcal_base.specs.declared.directive.Directive.{Directive}
 use Rattle.mcal_base.specs.declared.directive.Order.{Order}
 use Rattle.mcal_base.specs.declared.directive.Order.TheVariants as orders
@@ -145,6 +145,7 @@ pub record RanOut {State Call Frame : Type 0} (d : Driver State Call Frame) (fir
   pub unit : ℕ
   pub left : ℕ
   pub busy : 0 < wait_on (moment_of d first call_of script before.entries).chip unit
+  pub unmasked : is_masked (moment_of d first call_of script before.entries).chip ≡ false
   pub may : MayWait d.setting (moment_of d first call_of script before.entries).opens unit
   pub expires : let m = moment_of d first call_of script before.entries in d.setting.machine.expires m.world m.state ≡ Some left
   pub late : ends_within (wait_on (moment_of d first call_of script before.entries).chip unit) (Some left) ≡ true

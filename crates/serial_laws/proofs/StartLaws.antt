@@ -10,9 +10,8 @@ use Rattle.mcal_base.specs.declared.answer_name.AnswerName.{AnswerName}
 use Rattle.mcal_base.specs.declared.answer_name.AnswerName.TheVariants.{EOk, ENotOk, SpiJobOk, SpiJobQueued, SpiJobPending}
 use Rattle.mcal_base.specs.declared.error_name.ErrorName.{ErrorName}
 use Rattle.mcal_base.specs.declared.moves.Unit as units
-use Rattle.run_model.specs.Machine.{Acts, Serves, Starts, Outcome}
+use Rattle.run_model.specs.Machine.{Acts, Serves, Starts, Outcome, named}
 use Rattle.run_model.specs.World.{World}
-use Rattle.service_outline.specs.Done.{named}
 use Rattle.spi_machine.proofs.Numbers.{item-same, item-other}
 use Rattle.spi_machine.proofs.Runs.{serve_by, one_more}
 use Rattle.spi_machine.proofs.Sending.{plain-start}

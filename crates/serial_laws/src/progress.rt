@@ -4,9 +4,8 @@ ghost use Rattle.std.specs.Prelude.{◌≡◌, ◌≢◌, ◌↔◌, ◌+◌, �
 ghost use Rattle.std.specs.List.{list_all};
 ghost use Rattle.mcal_base.specs.declared.answer_name.AnswerName.TheVariants.{EOk, SpiJobQueued, SpiJobPending};
 ghost use Rattle.mcal_base.specs.declared.moves.Unit as units;
-ghost use Rattle.run_model.specs.Machine.{Acts, Serves, Starts, Outcome};
+ghost use Rattle.run_model.specs.Machine.{Acts, Serves, Starts, Outcome, named};
 ghost use Rattle.run_model.specs.World.{World};
-ghost use Rattle.service_outline.specs.Done.{named};
 ghost use Rattle.spi_machine.specs.Machine.{spi_machine, next_at, number_of, unit_of};
 ghost use Rattle.spi_machine.specs.Pending.{Pending, is_for, job_result, next_job};
 ghost use Rattle.spi_machine.specs.Runs.{Occurrence, after_all};

@@ -9,7 +9,7 @@ use Rattle.mcal_base.specs.declared.moves.Move.{Move}
 use Rattle.run_model.specs.World.{World}
 use Rattle.run_model.specs.Machine.{Told, Machine, no_answer}
 use Rattle.run_model.specs.Frame.{Origin, Called, Entered, Owing, Open, owing, committed_after, report_of}
-use Rattle.run_model.specs.Legal.{has_line, IsNext}
+use Rattle.run_model.specs.Legal.{has_line, IsNext, StartsUncalled}
 use Rattle.service_outline.specs.Outline.{form, acted_in, served_in, owed_in, report_in}
 
 -- the answer of its act and the lines that it polled there, the lines that it served and those that it surely missed, the
@@ -54,14 +54,14 @@ past_after mac w s origin (Abort u) t p = record p { owed = p.owed ++ owing fals
 past_after mac w s origin (Start u) t p = record p { owed = p.owed ++ owing false t.notices }
 
 -- a call acts once, and serves lines that it polls, in their order; a handler serves its line once; a call serves, and a unit is started or
--- aborted, where no notice is owed
+-- aborted, where no notice is owed; what a call starts for itself it starts before it acts
 abbrev pub MayDo : {State Call : Type 0} → Machine State Call → World → State → FrameHistory → Event → Origin Call → Type 0
 MayDo mac w s p Act (Called c) = p.acted ≡ None
 MayDo mac w s p Act (Entered l) = ⊥
 MayDo mac w s p (Serve k) (Called c) = IsNext (mac.polls w s c) p.served k × (p.owed ≡ [])
 MayDo mac w s p (Serve k) (Entered l) = (k ≡ l) × (p.served ≡ [])
 MayDo mac w s p (Abort u) origin = p.owed ≡ []
-MayDo mac w s p (Start u) origin = p.owed ≡ []
+MayDo mac w s p (Start u) origin = (p.owed ≡ []) × StartsUncalled mac w s u p.acted
 
 -- a call ends with the answer of its act, and has served or missed the lines that it polled; a handler has served its line or missed it
 abbrev pub MayAnswer : {Call : Type 0} → Origin Call → FrameHistory → (ℕ → Bool) → Answer → Type 0

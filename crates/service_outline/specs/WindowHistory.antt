@@ -5,7 +5,8 @@ use Rattle.mcal_base.specs.declared.moves.Event.{Event}
 use Rattle.mcal_base.specs.declared.moves.Move.{Move}
 use Rattle.mcal_base.specs.declared.moves.Move.TheVariants.{Read, Write, Load, Store, Mask, Unmask, Note, Report}
 use Rattle.mcal_base.specs.declared.register.Reg.{Reg}
-use Rattle.run_model.specs.Frame.{is_act}
+use Rattle.mcal_base.specs.declared.register.Reg.TheVariants.{SerialWait}
+use Rattle.run_model.specs.Frame.{is_act, is_wait}
 use Rattle.run_model.specs.Legal.{low_half, commits, idles}
 use Rattle.service_outline.specs.declared.done.Done.{Done}
 use Rattle.service_outline.specs.declared.done.BodyTaken.{BodyTaken}
@@ -14,9 +15,9 @@ use Rattle.service_outline.specs.declared.done.BodyTaken.{BodyTaken}
 abbrev pub sets_output : Move → Bool
 sets_output made = commits made || idles made
 
--- a move that belongs into one window with another one: the read of a high half, and a write that sets an output
+-- a move that belongs into one window with another one, or into none: the read of a high half, a write that sets an output, and a wait
 abbrev pub is_windowed : Move → Bool
-is_windowed (Read r) = is_some (low_half r)
+is_windowed (Read r) = is_some (low_half r) || is_wait (Read r)
 is_windowed (Write r v) = sets_output (Write r v)
 is_windowed (Load k) = false
 is_windowed (Store k v) = false
@@ -88,9 +89,14 @@ abbrev pub ReadsAfter : (was : WindowHistory) → (closed : Bool) → (low : Opt
 ReadsAfter was closed None = Unit {0}
 ReadsAfter was closed (Some low) = (closed ≡ true) × (was ≡ HasRead low)
 
+-- what is asked of a read: a wait stands with the mask open
+abbrev pub ReadsRight : (was : WindowHistory) → (closed : Bool) → Reg → Type 0
+ReadsRight was closed (SerialWait u) = closed ≡ false
+ReadsRight was closed r = ReadsAfter was closed (low_half r)
+
 -- what a body's step owes of its window
 abbrev pub Sees : (was : WindowHistory) → (closed : Bool) → Move → Option Event → (is : WindowHistory) → Option Done → Type 0
-Sees was closed (Read r) e is left = ReadsAfter was closed (low_half r) × Leads was (Read r) e is left
+Sees was closed (Read r) e is left = ReadsRight was closed r × Leads was (Read r) e is left
 Sees was closed (Write r v) e is left = (sets_output (Write r v) ≡ true → closed ≡ true) × Leads was (Write r v) e is left
 Sees was closed (Load k) e is left = Leads was (Load k) e is left
 Sees was closed (Store k v) e is left = Leads was (Store k v) e is left

@@ -1,6 +1,7 @@
 ghost use Rattle.std.specs.Prelude.{◌≡◌, [], ◌∷◌, Some};
 ghost use Rattle.mcal_base.specs.declared.moves.Event.TheVariants.{Act};
 ghost use Rattle.run_model.specs.Machine.{no_answer};
+ghost use Rattle.run_model.specs.Machine as machine;
 ghost use Rattle.service_outline.specs.Done as spec;
 
 use det_errors::reported;
@@ -120,7 +121,7 @@ pub fn nothing() -> Reply
 
 /// The answer that is a name.
 pub fn named(name: AnswerName) -> Reply
-    ensures { result ≡ spec.named name }
+    ensures { result ≡ machine.named name }
 {
     Reply {
         head: Head::Name(name),
@@ -130,7 +131,7 @@ pub fn named(name: AnswerName) -> Reply
 
 /// The answer that is a number.
 pub fn number(value: u32) -> Reply
-    ensures { result ≡ spec.number value }
+    ensures { result ≡ machine.number value }
 {
     Reply {
         head: Head::Numbers,
@@ -140,7 +141,7 @@ pub fn number(value: u32) -> Reply
 
 /// The answer that is two numbers.
 pub fn numbers(first: u32, second: u32) -> Reply
-    ensures { result ≡ spec.numbers (first ∷ second ∷ []) }
+    ensures { result ≡ machine.numbers (first ∷ second ∷ []) }
 {
     Reply {
         head: Head::Numbers,
@@ -150,7 +151,7 @@ pub fn numbers(first: u32, second: u32) -> Reply
 
 /// The answer that is a count of 0 and no pointer.
 pub fn zero_null() -> Reply
-    ensures { result ≡ spec.zero_null }
+    ensures { result ≡ machine.zero_null }
 {
     Reply {
         head: Head::ZeroNull,

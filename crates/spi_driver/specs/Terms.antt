@@ -34,7 +34,7 @@ pub use Rattle.run_model.specs.{Causes.{blocks}, Frame.{asks_reset, begins_word,
 pub use Rattle.run_model.specs.{Frame.{caller_of, Entered, happening_at, happening_of, is_shared, missed_after, Open}}
 pub use Rattle.run_model.specs.{Frame.{Origin, outcome_of, Owing, owing, polled_by, resets_chip, served_by, state_by}}
 pub use Rattle.run_model.specs.{Legal.{has_line, is_left_waiting, IsNext, LeavesNone, ReceivedRight, SendsRight}}
-pub use Rattle.run_model.specs.{Legal.{StandsAt}, Machine.{Begun, no_answer, Outcome, outcome, outcome_with, Serves}}
+pub use Rattle.run_model.specs.{Legal.{StandsAt, StartsUncalled}, Machine.{Begun, no_answer, Outcome, outcome, outcome_with, Serves}}
 pub use Rattle.run_model.specs.{Machine.{Starts, tells_nothing, Told}, World.{World, world_after}}
 pub use Rattle.step_runner.proofs.Whose.{not-unless}
 pub use Rattle.step_runner.specs.Driver.{AllOutside, IsFree, IsLawful}
@@ -48,8 +48,10 @@ pub use Rattle.word_shapes.specs.{declared.search.Search.{Search}}
 pub use Rattle.service_outline.specs.{Acts.{ActsRight, is_quiet, KeepsClean}, Both.{both}}
 pub use Rattle.service_outline.specs.{DeferredWrites.{agrees_after, AreFree, AreWindows, CommitsTo, Either, GoesFree}}
 pub use Rattle.service_outline.specs.{DeferredWrites.{GoesOwing, is_fill, is_simple, or_owed, same_chip, spot_or}}
-pub use Rattle.service_outline.specs.{DeferredWrites.{Under, Windows, windows}, Done.{acts, answers, goes, named}}
-pub use Rattle.service_outline.specs.{Done.{tells_error}, FrameHistory.{FrameHistory, fresh_history, Is_this_frame}}
+pub use Rattle.run_model.specs.{Machine.{answers, named}}
+pub use Rattle.service_outline.specs.{DeferredWrites.{Under, Windows, windows}, Done.{acts, goes}}
+pub use Rattle.run_model.specs.{Machine.{tells_error}}
+pub use Rattle.service_outline.specs.{FrameHistory.{FrameHistory, fresh_history, Is_this_frame}}
 pub use Rattle.service_outline.specs.{FrameHistory.{IsThisFrame, MayDo, past_after, past_wrote}, Fuel.{ShortensTo}}
 pub use Rattle.service_outline.specs.{Services.{AllLet, AreEnding, AreEndingServices, AreLong, AssertedAt, Beside}}
 pub use Rattle.service_outline.specs.{Services.{CanBegin, Continues, Decides, Declines, ended_at, entering, gap_at}}
@@ -64,7 +66,7 @@ pub use Rattle.service_outline.specs.{declared.done.Done.{Done}, declared.done.E
 pub use Rattle.service_outline.specs.{declared.done.Epilogue.TheVariants.{One, Two}, declared.short.Short.{Short}}
 pub use Rattle.service_outline.specs.laws.{Both.{both_ending, both_right}, Duties.{no_duties}, Lawful.{all_wait}}
 pub use Rattle.service_outline.specs.laws.{Lawful.{services_lawful}, Owing.{not_filled, windows_right}}
-pub use Rattle.service_outline.specs.laws.{Reports.{error_told}, Seen.{free_windows}, ShortServices.{plain_makes}}
+pub use Rattle.service_outline.specs.laws.{Reports.{error_told}, Seen.{waiting_windows}, ShortServices.{plain_makes}}
 pub use Rattle.service_outline.specs.laws.{ShortServices.{plain_turns}, StepKinds.{asks_no, same_line}}
 pub use Rattle.spi_jobs.specs.{Parts.{asking, commit_ends, find_gave, find_move, gave, has_ended, keep_ends}}
 pub use Rattle.spi_jobs.specs.{Parts.{prepare_ends, releasing}, Placing.{bank_of, bank_word, control_word, held_word}}
@@ -135,7 +137,7 @@ pub use Rattle.spi_sequences.specs.{declared.service.write.WriteBody.{WriteBody}
 pub use Rattle.spi_sequences.specs.{declared.words.Running.{Running}, declared.words.TheConstants.{PENDING, STATE}}
 pub use Rattle.spi_sequences.specs.laws.{bookkeeping.ClearedUnit.{clear_over, cleared_of}}
 pub use Rattle.spi_sequences.specs.laws.{bookkeeping.PendingWritesBounds.{basis_right, owed_right}}
-pub use Rattle.spi_sequences.specs.laws.{bookkeeping.RefinementRight.{plain_move, waits_none}}
+pub use Rattle.spi_sequences.specs.laws.{bookkeeping.RefinementRight.{frame_may, frame_names, plain_move, waits_none}}
 pub use Rattle.spi_sequences.specs.laws.{bookkeeping.SequenceEnded.{get_contained}, hardware.AfterReset.{by_two}}
 pub use Rattle.spi_sequences.specs.laws.{hardware.SourceFilled.{any_in}, hardware.StableUnderHardware.{mode_later}}
 pub use Rattle.spi_sequences.specs.laws.{hardware.StableUnderHardware.{pending_later, runs_later}}
@@ -172,10 +174,11 @@ pub use Rattle.spi_sequences.specs.laws.{words.SideWords.{trio_fits}, words.Word
 pub use Rattle.spi_sequences.specs.laws.{words.WordsOfModule.{of_sixteen, own_first}, words.WordsToState.{any_some}}
 pub use Rattle.spi_sequences.specs.laws.{words.WordsToState.{is_below, is_number, is_past, none_any, not_true}}
 pub use Rattle.spi_sequences.specs.laws.{words.WordsToState.{same_number}}
-pub use Rattle.spi_machine.proofs.Sending.{carried-right}
-pub use Rattle.spi_machine.specs.{Bounds.{channel_words_steps, job_steps, jobs_steps, sent_steps, uses_unit}}
-pub use Rattle.spi_machine.specs.{Bounds.{words_steps}, Checks.{is_wrong_sequence}}
+pub use Rattle.spi_machine.proofs.Sending.{carried-right, start-received}
+pub use Rattle.spi_machine.specs.{Bounds.{job_steps, sent_steps, uses_unit}}
+pub use Rattle.spi_machine.specs.{Checks.{is_wrong_sequence}}
 pub use Rattle.spi_machine.specs.{Machine.{act_of, cancelled, carried_for, error_of_sending, may_end, not_sent}}
+pub use Rattle.spi_machine.specs.{Machine.{number_of}}
 pub use Rattle.spi_machine.specs.{Machine.{sending_ends, sent}, State.{carried_at, Carrying}, Table.{is_sync_unit}}
 pub use Rattle.spi_machine.specs.{Wiring.{is_sync_sequence}, declared.call.SequenceCall.TheVariants.{SyncTransmit}}
 pub use Rattle.spi_sequences.specs.{PendingWrites.{Sends, sync_owed}, Refinement.{all_of, entry_carried, Sending}}
@@ -198,5 +201,5 @@ pub use Rattle.spi_serving.specs.laws.{services.ServeBounds.{less_room}, service
 pub use Rattle.spi_serving.specs.laws.{services.ServeRight.{steps_right}}
 pub use Rattle.spi_sending.specs.Sending.{about_sent, SendAbout, SendAhead, ToEnd, ToWait}
 pub use Rattle.spi_sending.specs.Sending.{StandsAbout, StandsAhead, sync_bodies, sync_spot, sync_windows}
-pub use Rattle.spi_sending.specs.laws.services.{SendBegins.{begins_at, begins_few}, SendRight.{sender, sync_right}}
+pub use Rattle.spi_sending.specs.laws.services.{SendBegins.{begins_at, begins_few}, SendRight.{sender, sync_opens, sync_right}}
 pub use Rattle.spi_sending.specs.laws.services.{SendWindows.{AreWindowsRight}}

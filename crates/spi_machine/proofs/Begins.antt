@@ -10,12 +10,11 @@ use Rattle.mcal_base.specs.declared.directive.Order.{Order}
 use Rattle.mcal_base.specs.declared.directive.Order.TheVariants.{Fill, SpiFault}
 use Rattle.mcal_base.specs.declared.error_name.ErrorName.{ErrorName}
 use Rattle.mcal_base.specs.declared.moves.Unit as units
-use Rattle.run_model.specs.Machine.{Happening, Acts, Serves, Starts, Aborts, Moves, Restarts, Outcome, outcome, tells_nothing}
+use Rattle.run_model.specs.Machine.{Happening, Acts, Serves, Starts, Aborts, Moves, Restarts, Outcome, outcome, tells_nothing, tells_error}
 use Rattle.run_model.specs.World.{World}
 use Rattle.spi_machine.proofs.Numbers.{item-same, item-other}
 use Rattle.spi_machine.proofs.Runs.{serve_by, one_more, stored-seen, after_last-seen}
 use Rattle.spi_machine.proofs.Sending.{act-either, start-either, plain-start}
-use Rattle.service_outline.specs.Done.{tells_error}
 use Rattle.spi_machine.specs.Checks.{answer_refused, error_by}
 use Rattle.spi_machine.specs.Promised.{is_beginning, does_go_on, is_reset, received_at, shown_on}
 use Rattle.spi_machine.specs.Machine.{spi_machine, acts_by, work, unless_busy, cancelled, cancelled_by, finds_held, stored, after_last, sequence_after, job_over, job_started, job_words, served_by, served, unit_of, run_of, ready, started, start_by, next_at, number_of, moved, begins_on, as_begun, pending_of, sent, sent_on, carries_on, job_begun, job_done, sequence_begun, as_requested}

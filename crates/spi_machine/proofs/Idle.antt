@@ -14,9 +14,8 @@ use Rattle.mcal_base.specs.declared.service.Service.TheVariants as services
 use Rattle.mcal_base.specs.declared.moves.Unit as units
 use Rattle.det_errors.specs.Rows.{first_error}
 use Rattle.run_model.specs.Frame.{state_by}
-use Rattle.run_model.specs.Machine.{Happening, Acts, Serves, Starts, Aborts, Moves, Restarts, Outcome, outcome}
+use Rattle.run_model.specs.Machine.{Happening, Acts, Serves, Starts, Aborts, Moves, Restarts, Outcome, outcome, answers, named}
 use Rattle.run_model.specs.World.{World}
-use Rattle.service_outline.specs.Done.{answers, named}
 use Rattle.spi_machine.proofs.Runs.{stored-seen, after_last-seen, serve_by}
 use Rattle.spi_machine.proofs.Sending.{act-either, start-either, carried-right, sends-none}
 use Rattle.spi_machine.specs.Checks.{error_by, is_wrong_sequence}

@@ -1,16 +1,15 @@
 -- How a call that sends a sequence and waits takes part in what happens: its words, its end, and its errors.
 use Rattle.std.proofs.Common.{◌≡◌, ℕ, Bool, true, false, ◌==◌, ◌||◌, not, Option, Some, None, refl, ◌∙◌, ap, subst}
-use Rattle.std.specs.Prelude.{if◌then◌else◌}
+use Rattle.std.specs.Prelude.{IsSome, if◌then◌else◌}
 use Rattle.plain_facts.specs.Options.{some_is}
 use Rattle.plain_facts.specs.Numbers.{eq_is}
 use Rattle.mcal_base.specs.declared.error_name.ErrorName.{ErrorName}
-use Rattle.run_model.specs.Machine.{Outcome, outcome}
+use Rattle.run_model.specs.Machine.{Outcome, outcome, tells_error}
 use Rattle.run_model.specs.World.{World}
-use Rattle.service_outline.specs.Done.{tells_error}
 use Rattle.spi_machine.specs.Checks.{answer_refused}
 use Rattle.spi_machine.specs.Machine.{acts, act_of, act_by, sent_by, sending_ends, not_sent, error_of_sending, may_end, sent, sequence_begun, as_requested, carries_job, sent_on, sent_first, sent_from, sent_word, sent_at, may_go_on, start_of, start_by, is_sync_number, carried_for, next_at}
 use Rattle.spi_machine.specs.State.{SpiState, Carrying, carried_at, is_off}
-use Rattle.spi_machine.specs.Pending.{is_of}
+use Rattle.spi_machine.specs.Pending.{Pending, is_of}
 use Rattle.spi_machine.specs.Promised.{is_change}
 use Rattle.spi_machine.specs.Table.{is_sync_unit}
 use Rattle.spi_machine.specs.Transfers.{goes_on}
@@ -139,6 +138,23 @@ plain-start d w s k made_by received out u h e n = by (is_sync_number d k) (ap (
         → start_by d w s k received (next_at d s k) ≡ Some out
     by true f h = absurd (cc f)
     by false f h = h
+
+-- whether a start for no call is allowed doesn't depend on what comes in
+pub start-received : (d : SpiTable) (w : World) (s : SpiState) (k : Option ℕ) (r1 r2 : ℕ) → IsSome (start_of d w s k None r1) → IsSome (start_of d w s k None r2)
+start-received d w s k r1 r2 h = by (is_sync_number d k) h
+  where
+    unsent : (o : Option ℕ) → IsSome (sent_at d w s o r1 None) → ⊥
+    unsent None h = cc h
+    unsent (Some u) h = cc h
+
+    next : (o : Option ℕ) (p : Option Pending) → IsSome (start_by d w s o r1 p) → IsSome (start_by d w s o r2 p)
+    next None p h = absurd (cc h)
+    next (Some u) None h = absurd (cc h)
+    next (Some u) (Some p) h = refl
+
+    by : (b : Bool) → IsSome (if b then sent_at d w s k r1 None else start_by d w s k r1 (next_at d s k)) → IsSome (if b then sent_at d w s k r2 None else start_by d w s k r2 (next_at d s k))
+    by true h = absurd (unsent k h)
+    by false h = next k (next_at d s k) h
 
 -- ---- calls that don't send
 

@@ -1,5 +1,5 @@
 -- How the serial driver's frames begin, what bounds them, and what a run of the driver is over.
-use Rattle.std.specs.Prelude.{◌≡◌, ◌<◌, Contains, ℕ, zero, suc, ◌+◌, ◌*◌, ◌^◌, ◌%◌, ◌==◌, nat_lt, Bool, true, false, ◌&&◌, ◌||◌, not, if◌then◌else◌, List, [], count_by, sum_by, flat_map, Option, Some, None, is_some, slice_index_or}
+use Rattle.std.specs.Prelude.{◌≡◌, ◌<◌, Contains, ℕ, ◌+◌, ◌*◌, ◌^◌, ◌%◌, ◌==◌, nat_lt, Bool, true, false, ◌&&◌, ◌||◌, not, if◌then◌else◌, List, [], count_by, sum_by, flat_map, Option, Some, None, is_some, slice_index_or}
 use Rattle.std.specs.List.{enumerate_from, list_any}
 use Rattle.chip_model.specs.Chip.{word_of}
 use Rattle.mcal_base.specs.Layout.{is_within, own_start, place_of, start_of}
@@ -20,7 +20,7 @@ use Rattle.run_model.specs.declared.class.KeyKind.TheVariants as keys
 use Rattle.run_model.specs.declared.class.Kind.{Kind}
 use Rattle.run_model.specs.declared.class.Kind.TheVariants.{Exclusive, Keyed}
 use Rattle.run_model.specs.declared.class.Kind.TheVariants as kinds
-use Rattle.run_model.specs.Frame.{Origin, Called, Entered}
+use Rattle.run_model.specs.Frame.{Origin, Called, Entered, is_wait}
 use Rattle.run_model.specs.Moment.{Setting}
 use Rattle.service_outline.specs.There.{names_there}
 use Rattle.spi_machine.specs.declared.call.Call.{Call}
@@ -30,15 +30,13 @@ use Rattle.spi_machine.specs.declared.call.ChannelCall.TheVariants.{WriteIb, Rea
 use Rattle.spi_machine.specs.declared.call.SequenceCall.{SequenceCall}
 use Rattle.spi_machine.specs.declared.call.SequenceCall.TheVariants.{AsyncTransmit, Cancel, SyncTransmit}
 use Rattle.spi_jobs.specs.declared.channel.Channel as configured
-use Rattle.spi_machine.specs.declared.table.ChannelList.{ChannelList}
-use Rattle.spi_machine.specs.declared.table.JobList.{JobList}
 use Rattle.spi_machine.specs.declared.table.Sequence as configured_sequence
 use Rattle.spi_machine.specs.declared.table.SpiTable.{SpiTable}
 use Rattle.spi_machine.specs.Machine.{spi_machine, unit_of}
 use Rattle.spi_machine.specs.State.{SpiState, first_state, channel_at, uses}
 use Rattle.spi_machine.specs.Numbered.{word_at}
-use Rattle.spi_machine.specs.Table.{channel_of, sequence_of, jobs_of, channels_of, length_by, is_internal_channel, is_on_unit, is_sync_unit}
-use Rattle.spi_machine.specs.Wiring.{channel_number, job_number, list_of}
+use Rattle.spi_machine.specs.Table.{channel_of, sequence_of, jobs_by, jobs_of, channels_of, length_by, is_internal_channel, is_on_unit, is_sync_unit}
+use Rattle.spi_machine.specs.Wiring.{unit_of_sequence}
 
 -- ---- calls and lines
 
@@ -108,26 +106,13 @@ channel_steps k (WriteIb p) = 48 + 4 * length_by k
 channel_steps k ReadIb = 48 + 4 * length_by k
 channel_steps k (SetupEb p q n) = 64
 
-abbrev pub channel_words_steps : SpiTable → Option ℕ → ℕ
-channel_words_steps d None = 0
-channel_words_steps d (Some c) = 16 * length_by (channel_of d c)
+-- of a job 64, and 16 more for each word of its channels
+abbrev pub job_steps : SpiTable → (job : ℕ) → ℕ
+job_steps d j = 64 + 16 * sum_by (λ c. length_by (channel_of d c)) (channels_of d j)
 
--- of a sequence that is sent at once 64 more for each job, and 16 for each word
-abbrev pub words_steps : SpiTable → ChannelList → ℕ → ℕ
-words_steps d l zero = 0
-words_steps d l (suc n) = if nat_lt 4 (suc n) then 0 else channel_words_steps d (channel_number l n) + words_steps d l n
-
-abbrev pub job_steps : SpiTable → Option ℕ → ℕ
-job_steps d None = 0
-job_steps d (Some j) = 64 + words_steps d (list_of d j) 4
-
-abbrev pub jobs_steps : SpiTable → JobList → ℕ → ℕ
-jobs_steps d l zero = 0
-jobs_steps d l (suc n) = if nat_lt 16 (suc n) then 0 else job_steps d (job_number l n) + jobs_steps d l n
-
+-- of a sequence that is sent at once those of its jobs more
 abbrev pub sent_steps : SpiTable → Option configured_sequence.Sequence → ℕ
-sent_steps d None = 96
-sent_steps d (Some k) = 96 + jobs_steps d k.jobs k.jobs.count
+sent_steps d k = 96 + sum_by (job_steps d) (jobs_by k)
 
 abbrev pub sequence_steps : SpiTable → ℕ → SequenceCall → ℕ
 sequence_steps d q AsyncTransmit = 144
@@ -189,17 +174,22 @@ is_users_word d k = list_any (is_users_place k) (enumerate_from 0 d.channels)
 abbrev pub is_word_of : SpiTable → ℕ → Bool
 is_word_of d k = is_own_word d k || is_users_word d k
 
--- the move names a register, lines or a word of the module
+-- the move names a register, lines or a word of the module, and doesn't wait
 abbrev pub may_name : SpiTable → Move → Bool
-may_name d (Read r) = is_serial r
+may_name d (Read r) = is_serial r && not (is_wait (Read r))
 may_name d (Write r v) = may_write r v
 may_name d (Load k) = is_word_of d k
 may_name d (Store k v) = is_word_of d k
 may_name d _ = false
 
--- a move that a frame of the module may make: it names what is the module's and is there
+-- a move that each frame of the module may make: it names what is the module's and is there
 abbrev pub may : SpiTable → Move → Bool
 may d made = may_name d made && names_there made
+
+-- a move that waits, for the unit of the sequence that the frame's call sends; no other frame may wait
+abbrev pub may_wait : SpiTable → Move → Origin Call → Bool
+may_wait d (Read (SerialWait u)) (Called (Sequence q SyncTransmit)) = unit_of_sequence d q == u && names_there (Read (SerialWait u))
+may_wait d made o = false
 
 -- ---- the users' arrays
 
@@ -236,12 +226,12 @@ spi_setting d = record {
   used = is_used d;
   steps_of = steps_of d;
   window_of = window_of;
-  may = λ o made. may d made;
+  may = λ o made. may_wait d made o || may d made;
   halves = λ call. None;
   must = λ call. [];
   fills = fills d;
   in_use = λ w s c. uses d s c;
   rest = λ chip w s. (c : ℕ) → HoldsArrays (word_of chip) d s c;
-  unmasked = λ chip w s origins. Unit {0};
+  unmasked = λ chip w s origins. (c : ℕ) → HoldsArrays (word_of chip) d s c;
   shows = λ origin n chip s. (c : ℕ) → Contains (channels_named d n) c → HoldsArrays (word_of chip) d s c;
 }

@@ -11,8 +11,7 @@ use Rattle.mcal_base.specs.declared.moves.Unit as units
 use Rattle.mcal_base.specs.declared.moves.Unit.TheVariants as serial
 use Rattle.det_errors.specs.Reports.{Reporting}
 use Rattle.run_model.specs.World.{World}
-use Rattle.run_model.specs.Machine.{Happening, Acts, Serves, Starts, Aborts, Moves, Restarts, Begun, Outcome, Machine, tells_nothing, outcome, outcome_with}
-use Rattle.service_outline.specs.Done.{answers, named, named_with, tells_error}
+use Rattle.run_model.specs.Machine.{Happening, Acts, Serves, Starts, Aborts, Moves, Restarts, Begun, Outcome, Machine, tells_nothing, outcome, outcome_with, answers, named, named_with, tells_error}
 use Rattle.spi_machine.specs.declared.call.Call.{Call}
 use Rattle.spi_machine.specs.declared.call.Call.TheVariants.{Init, DeInit, SetAsyncMode, MainFunctionHandling, Get}
 use Rattle.spi_machine.specs.declared.call.Call.TheVariants as calls
@@ -81,6 +80,7 @@ channel_work k s c (WriteIb p) = outcome (with_channel s c (written_from p k (ch
 channel_work k s c ReadIb = outcome s (answers (read_answer k (channel_at s c)))
 channel_work k s c (SetupEb p q n) = outcome (with_channel s c (record (channel_at s c) { set_up = Some (record { source = p; destination = q; words = n }) })) (answers (named EOk))
 
+-- a call that sends its sequence at once acts otherwise, as `sending_ends` says, and never so
 abbrev pub sequence_work : SpiTable → SpiState → ℕ → SequenceCall → Outcome SpiState
 sequence_work d s q AsyncTransmit = outcome (accepted d s q) (answers (named EOk))
 sequence_work d s q Cancel = cancelled d s (find (is_of q) s.pending)

@@ -20,7 +20,8 @@ pub data Mode : Type 0 where
   Polling : Mode
   Interrupt : Mode
 
--- What a unit carries out for one call: the call's sequence, and its job that runs.
+-- What a unit carries out for one call: the call's sequence, and its job that runs. Of the entry the request, the start
+-- and the cancel mean nothing here.
 pub record Carrying : Type 0 where
   pub entry : Pending
   pub run : Run

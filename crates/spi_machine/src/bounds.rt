@@ -1,9 +1,9 @@
 ghost use Rattle.std.specs.Prelude.{◌≡◌, ◌≤◌, ◌*◌, count_by, sum_by, is_some, length};
 ghost use Rattle.spi_machine.specs.Bounds as spec;
-ghost use Rattle.spi_machine.specs.Table as table;
+ghost use Rattle.spi_machine.specs.Table as rows;
 
 use crate::call::{Call, ChannelCall, SequenceCall};
-use crate::table::{ChannelList, JobList, Sequence, SpiTable};
+use crate::table::{Sequence, SpiTable};
 use spi_jobs::Channel;
 
 /// The most steps of a handler, and of a request.
@@ -44,44 +44,40 @@ impl SpiTable {
     }
 }
 
-/// Of `Spi_SyncTransmit`: 64 more for each job of the sequence, and 16 for each word.
+/// Of `Spi_SyncTransmit`: those of its jobs more.
 fn sent_steps(table: &SpiTable, sequence: Option<Sequence>) -> u32
     ensures { result ≡ spec.sent_steps table.now sequence }
 {
     match sequence {
-        Some(sequence) => 96 + jobs_steps(table, &sequence.jobs, sequence.jobs.count),
+        Some(Sequence { jobs, .. }) => 96 + jobs_steps(table, jobs.listed()),
         None => 96,
     }
 }
 
-/// Of the first jobs of a list.
-fn jobs_steps(table: &SpiTable, jobs: &JobList, end: u8) -> u32
-    ensures is { result ≡ spec.jobs_steps table.now jobs.now end }
-    ensures few { result ≤ 16384 * end }
+/// Of jobs: 64 for each, and 16 for each word of their channels.
+fn jobs_steps(table: &SpiTable, jobs: &[u8]) -> u32
+    requires { length jobs.now ≤ 16 }
+    ensures is { result ≡ sum_by (spec.job_steps table.now) jobs.now }
+    ensures few { result ≤ 262144 }
 {
-    if end == 0 || 16 < end {
-        return 0;
+    let mut steps = 0;
+    for job in jobs {
+        steps += 64 + 16 * words(table, table.channels_of(*job).listed());
     }
-    let job = match jobs.at(end - 1) {
-        Some(job) => 64 + words_steps(table, &table.channels_of(job), 4),
-        None => 0,
-    };
-    job + jobs_steps(table, jobs, end - 1)
+    steps
 }
 
-/// Of the words of the first channels of a list.
-fn words_steps(table: &SpiTable, channels: &ChannelList, end: u8) -> u32
-    ensures is { result ≡ spec.words_steps table.now channels.now end }
-    ensures few { result ≤ 4080 * end }
+/// The words of channels.
+fn words(table: &SpiTable, channels: &[u8]) -> u32
+    requires { length channels.now ≤ 4 }
+    ensures is { result ≡ sum_by (λ c. rows.length_by (rows.channel_of table.now c)) channels.now }
+    ensures few { result ≤ 1020 }
 {
-    if end == 0 || 4 < end {
-        return 0;
+    let mut words = 0;
+    for channel in channels {
+        words += length_by(table.channel(u32::from(*channel)));
     }
-    let channel = match channels.at(end - 1) {
-        Some(number) => 16 * length_by(table.channel(u32::from(number))),
-        None => 0,
-    };
-    channel + words_steps(table, channels, end - 1)
+    words
 }
 
 /// How many of at most 16 objects are configured.
@@ -112,7 +108,7 @@ fn internal_words(channels: &[Option<Channel>; 16]) -> u32
 }
 
 fn length_by(channel: Option<Channel>) -> u32
-    ensures is { result ≡ table.length_by channel }
+    ensures is { result ≡ rows.length_by channel }
     ensures few { result ≤ 255 }
 {
     match channel {

@@ -3,11 +3,10 @@
 ghost use Rattle.std.specs.Prelude.{◌≡◌, ℕ, ◌+◌, true, false, [], ◌∷◌, ◌++◌, length, drop, slice_get, slice_index_or, if◌then◌else◌, Option, Some, None, List, IsSome, is_some, find};
 ghost use Rattle.mcal_base.specs.declared.directive.Reason.{Reason};
 ghost use Rattle.mcal_base.specs.declared.moves.Unit as units;
-ghost use Rattle.run_model.specs.Machine.{Happening, Acts, Serves, Starts, Restarts, Outcome, ErrorLeaves, tells_nothing, outcome};
+ghost use Rattle.run_model.specs.Machine.{Happening, Acts, Serves, Starts, Restarts, Outcome, ErrorLeaves, tells_nothing, outcome, answers, named};
 ghost use Rattle.run_model.specs.World.{World};
 ghost use Rattle.mcal_base.specs.declared.answer_name.AnswerName.TheVariants.{ENotOk};
 ghost use Rattle.mcal_base.specs.declared.error_name.ErrorName.TheVariants.{SpiUninit};
-ghost use Rattle.service_outline.specs.Done.{answers, named};
 ghost use Rattle.spi_machine.specs.Promised as laws;
 ghost use Rattle.spi_machine.specs.Numbered.{word_at};
 ghost use Rattle.spi_machine.specs.Table.{is_sync_unit};

@@ -1,4 +1,4 @@
-ghost use Rattle.std.specs.Prelude.{◌≡◌, slice_index_or, slice_get};
+ghost use Rattle.std.specs.Prelude.{◌≡◌, ◌≤◌, length, slice_index_or, slice_get, take};
 ghost use Rattle.std.specs.List.{list_any};
 ghost use Rattle.run_model.specs.Machine.{select_of};
 ghost use Rattle.spi_machine.specs.Bounds as bounds;
@@ -86,6 +86,14 @@ impl ChannelList {
             None
         }
     }
+
+    /// The numbers.
+    pub(crate) fn listed(&self) -> &[u8]
+        ensures is { result.now ≡ take self.now.count self.now.numbers }
+        ensures few { length result.now ≤ 4 }
+    {
+        &self.numbers[..usize::from(self.count.min(4))]
+    }
 }
 
 impl JobList {
@@ -98,6 +106,14 @@ impl JobList {
         } else {
             None
         }
+    }
+
+    /// The numbers.
+    pub(crate) fn listed(&self) -> &[u8]
+        ensures is { result.now ≡ take self.now.count self.now.numbers }
+        ensures few { length result.now ≤ 16 }
+    {
+        &self.numbers[..usize::from(self.count.min(16))]
     }
 
     /// The place of a job.

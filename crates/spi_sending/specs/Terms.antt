@@ -19,7 +19,7 @@ pub use Rattle.mcal_base.specs.declared.moves.Move.{Move}
 pub use Rattle.mcal_base.specs.declared.moves.Move.TheVariants.{Load, Mask, Read, Store, Unmask, Write}
 pub use Rattle.mcal_base.specs.declared.register.Reg.TheVariants.{SerialData, SerialSelect, SerialWait}
 pub use Rattle.mcal_base.specs.declared.service.Service.TheVariants.{SpiSyncTransmit}
-pub use Rattle.plain_facts.specs.Numbers.{lt_itself, lt_next, lt_since, same_or_other}
+pub use Rattle.plain_facts.specs.Numbers.{lt_itself, lt_next, same_or_other}
 pub use Rattle.plain_facts.specs.Options.{some_is}
 pub use Rattle.run_model.proofs.OutsideLaws.{stands-move}
 pub use Rattle.run_model.specs.Causes.{blocks}
@@ -31,7 +31,8 @@ pub use Rattle.run_model.specs.World.{World, world_after}
 pub use Rattle.service_outline.specs.Acts.{KeepsClean}
 pub use Rattle.service_outline.specs.DeferredWrites.{AreFree, AreWindows, CommitsTo, GoesFree, GoesOwing, is_fill}
 pub use Rattle.service_outline.specs.DeferredWrites.{is_simple, or_owed, same_chip, spot_or, Under, Windows, windows}
-pub use Rattle.service_outline.specs.Done.{answers, goes, named, owed_error, tells_error}
+pub use Rattle.run_model.specs.Machine.{answers, named, tells_error}
+pub use Rattle.service_outline.specs.Done.{goes, owed_error}
 pub use Rattle.service_outline.specs.FrameHistory.{FrameHistory, fresh_history, Is_this_frame, IsThisFrame}
 pub use Rattle.service_outline.specs.Fuel.{ShortensTo}
 pub use Rattle.service_outline.specs.Outline.{TellsAs}
@@ -61,7 +62,7 @@ pub use Rattle.spi_jobs.specs.declared.keeping.Taker.{Taker}
 pub use Rattle.spi_jobs.specs.declared.preparing.Prepare.{Prepare}
 pub use Rattle.spi_machine.proofs.Numbers.{item-other, item-same}
 pub use Rattle.spi_machine.proofs.Results.{results-other, results-own}
-pub use Rattle.spi_machine.specs.Bounds.{channel_words_steps, class_of, HoldsArrays, job_steps, jobs_steps, may}
+pub use Rattle.spi_machine.specs.Bounds.{class_of, HoldsArrays, job_steps, may}
 pub use Rattle.spi_machine.specs.Bounds.{sent_steps, spi_setting}
 pub use Rattle.spi_machine.specs.Channels.{ChannelState, set_up_or, SetUp, untouched, words_from}
 pub use Rattle.spi_machine.specs.Checks.{answer_refused, error_by}

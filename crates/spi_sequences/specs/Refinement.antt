@@ -14,7 +14,7 @@ use Rattle.mcal_base.specs.declared.register.Reg.TheVariants.{EnableSet, EnableC
 use Rattle.run_model.specs.Frame.{Called}
 use Rattle.run_model.specs.Outside.{StandsIn}
 use Rattle.run_model.specs.World.{World}
-use Rattle.service_outline.specs.Done.{named_with}
+use Rattle.run_model.specs.Machine.{named_with}
 use Rattle.service_outline.specs.Services.{ReservedBy, SharedRefinement}
 use Rattle.word_shapes.specs.Banks.{Banks, Putting, Taking}
 use Rattle.word_shapes.specs.Order.{Entry}

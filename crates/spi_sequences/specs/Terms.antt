@@ -71,7 +71,8 @@ pub use Rattle.word_shapes.specs.{declared.search.Sought.TheVariants.{All, More}
 pub use Rattle.word_shapes.specs.{declared.triple_buffer.TripleBuffer.{TripleBuffer}}
 pub use Rattle.service_outline.specs.{Acts.{Cleans}, DeferredWrites.{agrees_after, AreFree, AreWindows, CommitsTo}}
 pub use Rattle.service_outline.specs.{DeferredWrites.{GoesFree, GoesOwing, is_simple, same_chip, Under, Windows}}
-pub use Rattle.service_outline.specs.{DeferredWrites.{windows}, Done.{acts, answers, ends, goes, named, named_with}}
+pub use Rattle.run_model.specs.{Machine.{answers, named, named_with}}
+pub use Rattle.service_outline.specs.{DeferredWrites.{windows}, Done.{acts, ends, goes}}
 pub use Rattle.service_outline.specs.{Done.{owed_error}, FrameHistory.{FrameHistory, fresh_history, Is_this_frame}}
 pub use Rattle.service_outline.specs.{FrameHistory.{IsThisFrame}, Fuel.{Shortens, ShortensTo}, Outline.{error_in}}
 pub use Rattle.service_outline.specs.{Outline.{notices_in, owes_nothing}, Services.{Adding, AreEnding, AreLong}}

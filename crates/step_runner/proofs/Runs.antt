@@ -242,6 +242,7 @@ module _ {State Call Frame : Type 0} (d : Driver State Call Frame) (move_of : Fr
         legal = record {
           waits = still;
           value = refl;
+          waits_open = law.opens chip w u.frame o (paired us os) s k.relates;
           received = come;
           event = x.event;
           sends = x.sends;

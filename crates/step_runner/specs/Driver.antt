@@ -17,7 +17,7 @@ use Rattle.run_model.specs.declared.class.Tag.{Tag}
 use Rattle.run_model.specs.declared.item.Stepped.{Stepped}
 use Rattle.run_model.specs.World.{World, world_after}
 use Rattle.run_model.specs.Machine.{Happening, Acts, Moves, Restarts, Outcome, ErrorLeaves}
-use Rattle.run_model.specs.Frame.{Origin, Called, Entered, Open, opened, is_act, state_after, open_after, report_by, outcome_at, begun_by, top_after, is_shared, resets_chip, asks_reset}
+use Rattle.run_model.specs.Frame.{Origin, Called, Entered, Open, opened, is_act, state_after, open_after, report_by, outcome_at, begun_by, top_after, is_shared, is_wait, resets_chip, asks_reset}
 use Rattle.run_model.specs.Causes.{may_reenter, none_above, all_below}
 use Rattle.run_model.specs.Moment.{Setting, is_busy, Moment, call_tag, line_tag}
 use Rattle.run_model.specs.Outside.{StandsIn}
@@ -143,6 +143,8 @@ pub record IsLawful {State Call Frame : Type 0} (d : Driver State Call Frame) (m
   pub there : (chip : Chip) (w : World) (f : Frame) (o : Open Call) (ps : List (Frame × Open Call)) (s : State) → d.relates chip w ((f, o) ∷ ps) s → CanApply (move_of f)
   -- and it is one that the frame may make
   pub own : (chip : Chip) (w : World) (f : Frame) (o : Open Call) (ps : List (Frame × Open Call)) (s : State) → d.relates chip w ((f, o) ∷ ps) s → is_shared (move_of f) || d.setting.may o.origin (move_of f) ≡ true
+  -- a frame waits for a word with the mask open
+  pub opens : (chip : Chip) (w : World) (f : Frame) (o : Open Call) (ps : List (Frame × Open Call)) (s : State) → d.relates chip w ((f, o) ∷ ps) s → is_wait (move_of f) ≡ true → o.inside ≡ false
   -- a frame has steps left, and while it is in a window moves of that
   pub lasts : (f : Frame) → 0 < d.fuel f
   pub roomy : (chip : Chip) (w : World) (f : Frame) (o : Open Call) (ps : List (Frame × Open Call)) (s : State) → d.relates chip w ((f, o) ∷ ps) s → o.inside ≡ true → 0 < d.room f

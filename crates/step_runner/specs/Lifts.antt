@@ -20,7 +20,7 @@ use Rattle.run_model.specs.World.{World}
 use Rattle.run_model.specs.Machine.{Acts, Serves, Starts, Aborts, Outcome}
 use Rattle.run_model.specs.Frame.{Origin, Called, Entered, Owing, ActedAt, Open, Brought, brought_by, happening_of, happening_at, outcome_of, outcome_at, state_by, begun_by, acted_by, polled_by, committed_after, served_by, owed_by, acted_at_by, report_as, report_of, report_by, owed_after, report_after, reads_after, is_write, writes_after, inside_after, since_after, is_act, acts_after, window_after, is_note, missed_after, open_after, is_shared, is_reset_service, asks_reset}
 use Rattle.run_model.specs.Moment.{Setting}
-use Rattle.run_model.specs.Legal.{has_line, IsNext, IsOwnEvent, EventRight, SendsRight, ShowsFirst, ShowsRight, has_met, is_beside, is_beside_act, WindowRight, HalvesRight, halves_of, ErrorsRight, MoveRight, MayEnd, EndRight, is_left_waiting, LeavesNone, StartsRight, MadeUnless, HasMade, WritesRight}
+use Rattle.run_model.specs.Legal.{has_line, IsNext, StartsUncalled, IsOwnEvent, EventRight, SendsRight, ShowsFirst, ShowsRight, has_met, is_beside, is_beside_act, WindowRight, HalvesRight, halves_of, ErrorsRight, MoveRight, MayEnd, EndRight, is_left_waiting, LeavesNone, StartsRight, MadeUnless, HasMade, WritesRight}
 use Rattle.step_runner.specs.Driver.{Driver, FuelRight, RoomRight, KeepsStep}
 use Rattle.step_runner.specs.Union.{lift_out, lift_origin, lift_open, IsMine, SameOn}
 
@@ -163,6 +163,10 @@ module _ {S C U E : Type 0} (g : Setting S C) (b : Setting U E) (put : S → U) 
   out-at o chip st None m right = refl
   out-at o chip st (Some e) m right = out-by o o.origin (brought_by w o.committed st.made st.received) e m right.0 right.2
 
+  uncalled-lifted : (u : units.Unit) (acted : Option Answer) → StartsUncalled g.machine w s u acted → StartsUncalled b.machine w (put s) u acted
+  uncalled-lifted u None h = tt
+  uncalled-lifted u (Some answer) h = λ r. subst (λ x. IsSome x) (sym (lies.starts u None r (h r))) (some-lifted put (g.machine.happens w s (Starts u None r)) (h r))
+
   own-lifted : (o : Open C) (missed : ℕ → Bool) (e : Event) (p : Origin C) → IsOwnEvent g.machine w s o e p → IsOwnEvent b.machine w (put s) (lift_open k missed o) e (lift_origin k p)
   own-lifted o missed Act (Called c) own = own
   own-lifted o missed Act (Entered l) own = own
@@ -170,8 +174,8 @@ module _ {S C U E : Type 0} (g : Setting S C) (b : Setting U E) (put : S → U) 
   own-lifted o missed (Serve j) (Entered l) own = own
   own-lifted o missed (Abort u) (Called c) own = own
   own-lifted o missed (Abort u) (Entered l) own = own
-  own-lifted o missed (Start u) (Called c) own = own
-  own-lifted o missed (Start u) (Entered l) own = own
+  own-lifted o missed (Start u) (Called c) own = (own.0, uncalled-lifted u o.acted own.1)
+  own-lifted o missed (Start u) (Entered l) own = (own.0, uncalled-lifted u o.acted own.1)
 
   event-lifted : (o : Open C) (missed : ℕ → Bool) (chip : Chip) (st : Stepped) (e : Option Event) → IsMine mine o.origin → EventRight g (record { chip = chip; world = w; state = s; opens = []; steps = 0 }) o st e → EventRight b (record { chip = chip; world = w; state = put s; opens = []; steps = 0 }) (lift_open k missed o) st e
   event-lifted o missed chip st None m right = tt

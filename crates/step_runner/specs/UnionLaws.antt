@@ -22,7 +22,7 @@ use Rattle.mcal_base.specs.declared.routine.Taken.{Taken}
 use Rattle.run_model.specs.declared.class.Tag.{Tag}
 use Rattle.run_model.specs.World.{World, world_after}
 use Rattle.run_model.specs.Machine.{Happening, Acts, Serves, Starts, Aborts, Moves, Restarts, Outcome, outcome, tells_nothing, ErrorLeaves}
-use Rattle.run_model.specs.Frame.{Origin, Called, Entered, Open, opened, outcome_at, state_by, state_after, top_after, is_shared}
+use Rattle.run_model.specs.Frame.{Origin, Called, Entered, Open, opened, outcome_at, state_by, state_after, top_after, is_shared, is_wait}
 use Rattle.run_model.specs.Causes.{may_reenter, blocks, none_above, all_below}
 use Rattle.run_model.specs.Moment.{Setting, reads_from, call_tag, line_tag}
 use Rattle.step_runner.specs.Driver.{Driver, most_steps, IsLawful, AllOutside, tags_in, origins_in, TicksFit, IsFree, ComesRight, KeepsStep, stepped}
@@ -344,6 +344,10 @@ module _ {S T C D F G : Type 0} (d : Driver S C F) (e : Driver T D G) (move_a : 
   own-split chip w u o ps s t fs gs (Left_open f o1 missed qs fs1 gs1 m all same sp) x y = subst (λ q. is_shared (move_a f) || q ≡ true) (sym (ap (λ h. h (move_a f)) (origin-left ours d.setting.may e.setting.may o1.origin m))) (la.own chip w f o1 fs1 s x)
   own-split chip w u o ps s t fs gs (Right_open f o1 missed qs fs1 gs1 m all same sp) x y = subst (λ q. is_shared (move_b f) || q ≡ true) (sym (ap (λ h. h (move_b f)) (origin-right ours d.setting.may e.setting.may o1.origin m))) (lb.own chip w f o1 gs1 t y)
 
+  opens-split : (chip : Chip) (w : World) (u : Either F G) (o : Open (Either C D)) (ps : List (Either F G × Open (Either C D))) (s : S) (t : T) (fs : List (F × Open C)) (gs : List (G × Open D)) → Splits ours ((u, o) ∷ ps) fs gs → d.relates chip w fs s → e.relates chip w gs t → is_wait (either move_a move_b u) ≡ true → o.inside ≡ false
+  opens-split chip w u o ps s t fs gs (Left_open f o1 missed qs fs1 gs1 m all same sp) x y waits = la.opens chip w f o1 fs1 s x waits
+  opens-split chip w u o ps s t fs gs (Right_open f o1 missed qs fs1 gs1 m all same sp) x y waits = lb.opens chip w f o1 gs1 t y waits
+
   lasts-either : (u : Either F G) → 0 < either d.fuel e.fuel u
   lasts-either (Left f) = la.lasts f
   lasts-either (Right f) = lb.lasts f
@@ -629,6 +633,7 @@ module _ {S T C D F G : Type 0} (d : Driver S C F) (e : Driver T D G) (move_a : 
     steps = λ chip w f o ps s received come few masked out h. step-split chip w f o ps s.0 s.1 h.firsts h.seconds h.splits masked out h.first h.second received come (omega (arith, few)) (omega (arith, few));
     there = λ chip w f o ps s h. there-split chip w f o ps s.0 s.1 h.firsts h.seconds h.splits h.first h.second;
     own = λ chip w f o ps s h. own-split chip w f o ps s.0 s.1 h.firsts h.seconds h.splits h.first h.second;
+    opens = λ chip w f o ps s h. opens-split chip w f o ps s.0 s.1 h.firsts h.seconds h.splits h.first h.second;
     lasts = lasts-either;
     roomy = λ chip w f o ps s h. roomy-split chip w f o ps s.0 s.1 h.firsts h.seconds h.splits h.first h.second;
     moves = u-moves;

@@ -159,6 +159,7 @@ module _ {State Call : Type 0} (g : Setting State Call) (line : ℕ) (reach : St
         record {
           unit = w.unit;
           busy = w.busy;
+          unmasked = w.unmasked;
           may = w.may;
           goes = waits_on _ _ _ _ _ _ _ _ _ (λ i. quiet_as fs back _ e s p i (refl, tt)) (awaited w.unit fs back e) (λ x. subst (λ (y : ℕ). GoesOn g line (Count y) made (after g m (Happens (orders.Tick ticks))) (fs ++ e ∷ [])) q (more made j (after g m (Happens (orders.Tick ticks))) c x)) w.goes;
         },

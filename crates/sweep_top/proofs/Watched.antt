@@ -8,7 +8,9 @@ use Rattle.std.proofs.lemmas.List.{length-map, take_more}
 use Rattle.std.proofs.lemmas.List.Elements.{filter_map-append}
 use Rattle.std.proofs.lemmas.Fmt.{decimal_digit}
 use Rattle.run_model.specs.Entry.{Entry, entries, said_at}
-use Rattle.run_model.specs.declared.item.Item.{Item}
+use Rattle.run_model.specs.Packing.{what_of, item_of, items_of}
+use Rattle.run_model.specs.declared.kept.Kept.{Kept}
+use Rattle.run_model.specs.declared.kept.Rest.{Rest}
 use Rattle.run_model.specs.declared.item.What.{What}
 use Rattle.run_model.specs.declared.item.What.TheVariants as whats
 use Rattle.sweep_trials.specs.declared.seen.StepSeen.{StepSeen}
@@ -45,20 +47,20 @@ abbrev put : {Y : Type 0} → Option Y → List Y → List Y
 put None ys = ys
 put (Some y) ys = y ∷ ys
 
-steps_by : (words : List ℕ) (items : List Item) → filter_map step_on items ≡ steps_of (entries words items)
-steps_by words [] = refl
-steps_by words (i ∷ is) = ap₂ put (sym (step_same words i.line i.what)) (steps_by words is)
+steps_by : (words : List ℕ) (rests : List Rest) (ks : List Kept) → filter_map (λ k. step_on (item_of rests k)) ks ≡ steps_of (entries words (items_of rests ks))
+steps_by words rests [] = refl
+steps_by words rests (k ∷ ks) = ap₂ put (sym (step_same words k.line (what_of rests k.what))) (steps_by words rests ks)
 
-waiting_by : (words : List ℕ) (items : List Item) → filter_map wait_on items ≡ waiting_of (entries words items)
-waiting_by words [] = refl
-waiting_by words (i ∷ is) = ap₂ put (sym (wait_same words i.line i.what)) (waiting_by words is)
+waiting_by : (words : List ℕ) (rests : List Rest) (ks : List Kept) → filter_map (λ k. wait_on (item_of rests k)) ks ≡ waiting_of (entries words (items_of rests ks))
+waiting_by words rests [] = refl
+waiting_by words rests (k ∷ ks) = ap₂ put (sym (wait_same words k.line (what_of rests k.what))) (waiting_by words rests ks)
 
 -- the items of a journal tell the steps and what was held of its entries
-pub steps_seen : (words : List ℕ) (items : List Item) (journal : List Entry) → entries words items ≡ journal → filter_map step_on items ≡ steps_of journal
-steps_seen words items journal e = steps_by words items ∙ ap steps_of e
+pub steps_seen : (words : List ℕ) (rests : List Rest) (ks : List Kept) (journal : List Entry) → entries words (items_of rests ks) ≡ journal → filter_map (λ k. step_on (item_of rests k)) ks ≡ steps_of journal
+steps_seen words rests ks journal e = steps_by words rests ks ∙ ap steps_of e
 
-pub waiting_seen : (words : List ℕ) (items : List Item) (journal : List Entry) → entries words items ≡ journal → filter_map wait_on items ≡ waiting_of journal
-waiting_seen words items journal e = waiting_by words items ∙ ap waiting_of e
+pub waiting_seen : (words : List ℕ) (rests : List Rest) (ks : List Kept) (journal : List Entry) → entries words (items_of rests ks) ≡ journal → filter_map (λ k. wait_on (item_of rests k)) ks ≡ waiting_of journal
+waiting_seen words rests ks journal e = waiting_by words rests ks ∙ ap waiting_of e
 
 move_same : (words : List ℕ) (w : What) → move_in (said_at words w) ≡ move_said w
 move_same words (whats.Happened h) = refl
@@ -67,12 +69,12 @@ move_same words (whats.Held c) = refl
 move_same words (whats.Stepped s) = refl
 move_same words (whats.Reset r n) = refl
 
-moves_by : (words : List ℕ) (items : List Item) → filter_map move_on items ≡ moves_of (entries words items)
-moves_by words [] = refl
-moves_by words (i ∷ is) = ap₂ put (sym (move_same words i.what)) (moves_by words is)
+moves_by : (words : List ℕ) (rests : List Rest) (ks : List Kept) → filter_map (λ k. move_on (item_of rests k)) ks ≡ moves_of (entries words (items_of rests ks))
+moves_by words rests [] = refl
+moves_by words rests (k ∷ ks) = ap₂ put (sym (move_same words (what_of rests k.what))) (moves_by words rests ks)
 
-pub moves_seen : (words : List ℕ) (items : List Item) (journal : List Entry) → entries words items ≡ journal → filter_map move_on items ≡ moves_of journal
-moves_seen words items journal e = moves_by words items ∙ ap moves_of e
+pub moves_seen : (words : List ℕ) (rests : List Rest) (ks : List Kept) (journal : List Entry) → entries words (items_of rests ks) ≡ journal → filter_map (λ k. move_on (item_of rests k)) ks ≡ moves_of journal
+moves_seen words rests ks journal e = moves_by words rests ks ∙ ap moves_of e
 
 -- there is a move for each step
 count_by : (w : What) (line : ℕ) (ms : List (List ℕ)) (ss : List StepSeen) → length ms ≡ length ss → length (put (move_said w) ms) ≡ length (put (step_said line w) ss)
@@ -82,12 +84,12 @@ count_by (whats.Held c) line ms ss e = e
 count_by (whats.Stepped s) line ms ss e = ap suc e
 count_by (whats.Reset r n) line ms ss e = e
 
-as_many : (items : List Item) → length (filter_map move_on items) ≡ length (filter_map step_on items)
-as_many [] = refl
-as_many (i ∷ is) = count_by i.what i.line (filter_map move_on is) (filter_map step_on is) (as_many is)
+as_many : (rests : List Rest) (ks : List Kept) → length (filter_map (λ k. move_on (item_of rests k)) ks) ≡ length (filter_map (λ k. step_on (item_of rests k)) ks)
+as_many rests [] = refl
+as_many rests (k ∷ ks) = count_by (what_of rests k.what) k.line (filter_map (λ j. move_on (item_of rests j)) ks) (filter_map (λ j. step_on (item_of rests j)) ks) (as_many rests ks)
 
-pub named_each : (moves : List (String Global)) (steps : List StepSeen) (items : List Item) → map string_bytes moves ≡ filter_map move_on items → steps ≡ filter_map step_on items → length moves ≡ length steps
-named_each moves steps items m s = sym (length-map moves string_bytes) ∙ ap length m ∙ as_many items ∙ sym (ap length s)
+pub named_each : (moves : List (String Global)) (steps : List StepSeen) (rests : List Rest) (ks : List Kept) → map string_bytes moves ≡ filter_map (λ k. move_on (item_of rests k)) ks → steps ≡ filter_map (λ k. step_on (item_of rests k)) ks → length moves ≡ length steps
+named_each moves steps rests ks m s = sym (length-map moves string_bytes) ∙ ap length m ∙ as_many rests ks ∙ sym (ap length s)
 
 -- the move of a step, behind the words that begin its line
 step_front : (made : List ℕ) → codes "step " ++ (decimal 0 ++ (codes " " ++ made)) ≡ codes "step 0 " ++ made

@@ -65,10 +65,10 @@ fn run_on(alloc: Global, config: Config, script: &[Directive], named: bool) -> R
         return Err(Stop::NoMemory);
     }
     let report = told(alloc, script, &ran)?;
-    let items = ran.journal.items();
-    let moves = moves_named(alloc, items, named)?;
-    let steps = steps_among(alloc, items)?;
-    let waiting = waiting_among(alloc, items)?;
+    let lists = ran.journal.lists();
+    let moves = moves_named(alloc, &lists, named)?;
+    let steps = steps_among(alloc, &lists)?;
+    let waiting = waiting_among(alloc, &lists)?;
     Ok(Seen {
         steps,
         moves,

@@ -1,11 +1,12 @@
 ghost use Rattle.std.specs.Prelude.{◌≡◌, ◌++◌, [], false, true, IfOk, OnOk, map, option_to_list, string_bytes};
 ghost use Rattle.std.specs.List.{filter_map};
+ghost use Rattle.run_model.specs.Packing.{item_of};
 ghost use Rattle.sweep_top.specs.Reported as spec;
 
 use bench_report::Line;
 use irq_control::Held;
 use mcal_base::{Move, Notice};
-use run_model::{Item, Logged, What};
+use run_model::{Item, JournalLists, Logged, What};
 use std::alloc::{AllocError, Global};
 use sweep_trials::StepSeen;
 
@@ -42,13 +43,16 @@ fn keep_step(steps: &mut Vec<StepSeen>, item: &Item) -> Result<(), AllocError>
     Ok(())
 }
 
-/// The steps among items.
-pub(crate) fn steps_among(alloc: Global, items: &[Item]) -> Result<Vec<StepSeen>, AllocError>
-    ensures { IfOk result (λ steps. steps.items ≡ filter_map (λ i. spec.step_on i) items.now) }
+/// The steps of a journal.
+pub(crate) fn steps_among(
+    alloc: Global,
+    lists: &JournalLists<'_>,
+) -> Result<Vec<StepSeen>, AllocError>
+    ensures { IfOk result (λ steps. steps.items ≡ filter_map (λ k. spec.step_on (item_of lists.now.rests.now k)) lists.now.items.now) }
 {
     let mut steps = Vec::new(alloc);
-    for item in items {
-        keep_step(&mut steps, item)?;
+    for kept in lists.items {
+        keep_step(&mut steps, &kept.item(lists.rests))?;
     }
     Ok(steps)
 }
@@ -66,17 +70,17 @@ fn move_text(alloc: Global, logged: &Logged) -> Result<String, AllocError>
     }
 }
 
-/// The moves of the steps among items, where they are to be named.
+/// The moves of the steps of a journal, where they are to be named.
 pub(crate) fn moves_named(
     alloc: Global,
-    items: &[Item],
+    lists: &JournalLists<'_>,
     named: bool,
 ) -> Result<Vec<String>, AllocError>
     ensures none { named ≡ false → IfOk result (λ moves. moves.items ≡ []) }
-    ensures all { named ≡ true → IfOk result (λ moves. map string_bytes moves.items ≡ filter_map (λ i. spec.move_on i) items.now) }
+    ensures all { named ≡ true → IfOk result (λ moves. map string_bytes moves.items ≡ filter_map (λ k. spec.move_on (item_of lists.now.rests.now k)) lists.now.items.now) }
 {
     if named {
-        moves_among(alloc, items)
+        moves_among(alloc, lists)
     } else {
         Ok(Vec::new(alloc))
     }
@@ -92,13 +96,13 @@ fn keep_move(alloc: Global, moves: &mut Vec<String>, item: &Item) -> Result<(), 
     Ok(())
 }
 
-/// The moves of the steps among items.
-fn moves_among(alloc: Global, items: &[Item]) -> Result<Vec<String>, AllocError>
-    ensures { IfOk result (λ moves. map string_bytes moves.items ≡ filter_map (λ i. spec.move_on i) items.now) }
+/// The moves of the steps of a journal.
+fn moves_among(alloc: Global, lists: &JournalLists<'_>) -> Result<Vec<String>, AllocError>
+    ensures { IfOk result (λ moves. map string_bytes moves.items ≡ filter_map (λ k. spec.move_on (item_of lists.now.rests.now k)) lists.now.items.now) }
 {
     let mut moves = Vec::new(alloc);
-    for item in items {
-        keep_move(alloc, &mut moves, item)?;
+    for kept in lists.items {
+        keep_move(alloc, &mut moves, &kept.item(lists.rests))?;
     }
     Ok(moves)
 }
@@ -124,13 +128,13 @@ fn keep_wait(lines: &mut Vec<u32>, item: &Item) -> Result<(), AllocError>
     Ok(())
 }
 
-/// The lines of the directives among items that were held, and wait.
-pub(crate) fn waiting_among(alloc: Global, items: &[Item]) -> Result<Vec<u32>, AllocError>
-    ensures { IfOk result (λ lines. lines.items ≡ filter_map (λ i. spec.wait_on i) items.now) }
+/// The lines of the directives of a journal that were held, and wait.
+pub(crate) fn waiting_among(alloc: Global, lists: &JournalLists<'_>) -> Result<Vec<u32>, AllocError>
+    ensures { IfOk result (λ lines. lines.items ≡ filter_map (λ k. spec.wait_on (item_of lists.now.rests.now k)) lists.now.items.now) }
 {
     let mut lines = Vec::new(alloc);
-    for item in items {
-        keep_wait(&mut lines, item)?;
+    for kept in lists.items {
+        keep_wait(&mut lines, &kept.item(lists.rests))?;
     }
     Ok(lines)
 }

@@ -7,20 +7,19 @@ use Rattle.std.proofs.lemmas.Bool.{and_right}
 use Rattle.mcal_base.specs.declared.error_name.ErrorName.{ErrorName}
 use Rattle.mcal_base.specs.declared.service.Service.TheVariants as services
 use Rattle.det_errors.specs.Rows.{first_error}
-use Rattle.run_model.specs.Machine.{Happening, Acts, Serves, Outcome}
+use Rattle.run_model.specs.Machine.{Happening, Acts, Serves, Outcome, number}
 use Rattle.run_model.specs.World.{World}
-use Rattle.service_outline.specs.Done.{number}
-use Rattle.gpt_driver.specs.Checks.{error_by, takes}
-use Rattle.gpt_driver.specs.Machine.{GptState, Timing, Course, Never, Running, Stopped, channel_at, is_off, is_asleep, is_busy, elapsed, remaining, target_of, runs, expired, is_marked, started, stopped, unmarked, served_channel, served_by, served, wakes, notifies, ready, runs_at, acts_by, acts}
-use Rattle.gpt_driver.specs.Table.{channel_of}
-use Rattle.gpt_driver.specs.declared.call.Call.{Call}
-use Rattle.gpt_driver.specs.declared.call.Call.TheVariants.{SetMode}
-use Rattle.gpt_driver.specs.declared.call.Call.TheVariants as calls
-use Rattle.gpt_driver.specs.declared.call.ChannelCall.TheVariants.{GetTimeElapsed, GetTimeRemaining, StartTimer, StopTimer}
-use Rattle.gpt_driver.specs.declared.call.GptMode.TheVariants.{Sleep}
-use Rattle.gpt_driver.specs.declared.driver.Channel.{Channel}
-use Rattle.gpt_driver.specs.declared.driver.GptDriver.{GptDriver}
-use Rattle.gpt_driver.specs.laws.RefinementRight.{within}
+use Rattle.gpt_machine.specs.Checks.{error_by, takes}
+use Rattle.gpt_machine.specs.Machine.{GptState, Timing, Course, Never, Running, Stopped, channel_at, is_off, is_asleep, is_busy, elapsed, remaining, target_of, runs, expired, is_marked, started, stopped, unmarked, served_channel, served_by, served, wakes, notifies, ready, runs_at, acts_by, acts}
+use Rattle.gpt_machine.specs.Table.{channel_of}
+use Rattle.gpt_machine.specs.declared.call.Call.{Call}
+use Rattle.gpt_machine.specs.declared.call.Call.TheVariants.{SetMode}
+use Rattle.gpt_machine.specs.declared.call.Call.TheVariants as calls
+use Rattle.gpt_machine.specs.declared.call.ChannelCall.TheVariants.{GetTimeElapsed, GetTimeRemaining, StartTimer, StopTimer}
+use Rattle.gpt_machine.specs.declared.call.GptMode.TheVariants.{Sleep}
+use Rattle.gpt_machine.specs.declared.table.Channel.{Channel}
+use Rattle.gpt_machine.specs.declared.table.GptTable.{GptTable}
+use Rattle.gpt_machine.specs.laws.Channels.{within}
 use Rattle.timer_laws.specs.Channels.{Occurrence, after_all, leaves_module, leaves_course, leaves_start}
 use Rattle.timer_laws.specs.Expiries.{ExpiresBetween}
 use Rattle.timer_laws.proofs.ChannelSteps.{Makes, begins, starts, stops, sleeps, switched, serves, put_same, step, step_on, all_steps, not_itself}
@@ -31,10 +30,10 @@ use Rattle.timer_laws.proofs.ExpiryTimes.{by_times}
 abbrev pub seen : Timing → Course × ℕ
 seen t = (t.course, t.dropped)
 
-pub configured : (d : GptDriver) (c : ℕ) (k : Channel) → channel_of d c ≡ Some k → c < 8
+pub configured : (d : GptTable) (c : ℕ) (k : Channel) → channel_of d c ≡ Some k → c < 8
 configured d c k there = within d c (ap (λ (o : Option Channel). is_some o) there)
 
-seen_made : (d : GptDriver) (w : World) (t : Timing) (c : ℕ) (h : Happening Call) (y : Timing) → leaves_course c h ≡ true → leaves_module h ≡ true → Makes d w t c h y → seen y ≡ seen t
+seen_made : (d : GptTable) (w : World) (t : Timing) (c : ℕ) (h : Happening Call) (y : Timing) → leaves_course c h ≡ true → leaves_module h ≡ true → Makes d w t c h y → seen y ≡ seen t
 seen_made d w t c h y left all (begins e) = absurd (cc (sym e ∙ all))
 seen_made d w t c h y left all (starts v times) = absurd (not_itself c left)
 seen_made d w t c h y left all (stops times) = absurd (not_itself c left)
@@ -49,7 +48,7 @@ module_left c (Acts (SetMode (Some Sleep)) times) left = refl
 module_left c (Serves line received) left = refl
 module_left c h left = left
 
-pub seen_all : (d : GptDriver) (s : GptState) (c : ℕ) (xs : List Occurrence) → c < 8 → list_all (λ (x : Occurrence). leaves_course c x.what) xs ≡ true
+pub seen_all : (d : GptTable) (s : GptState) (c : ℕ) (xs : List Occurrence) → c < 8 → list_all (λ (x : Occurrence). leaves_course c x.what) xs ≡ true
     → seen (channel_at (after_all d s xs) c) ≡ seen (channel_at s c)
 seen_all d s c xs lt left =
     let from : Course × ℕ = seen (channel_at s c) in
@@ -57,7 +56,7 @@ seen_all d s c xs lt left =
     (λ w after h one e. step (λ t. seen t ≡ from) d w after c lt e h (λ y m. seen_made d w (channel_at after c) c h y one (module_left c h one) m ∙ e))
     s xs left refl
 
-pub on_all : (d : GptDriver) (s : GptState) (c : ℕ) (xs : List Occurrence) → list_all (λ (x : Occurrence). leaves_course c x.what) xs ≡ true → is_off s.mode ≡ false → is_off (after_all d s xs).mode ≡ false
+pub on_all : (d : GptTable) (s : GptState) (c : ℕ) (xs : List Occurrence) → list_all (λ (x : Occurrence). leaves_course c x.what) xs ≡ true → is_off s.mode ≡ false → is_off (after_all d s xs).mode ≡ false
 on_all d s c xs left on =
     all_steps d (λ after. is_off after.mode ≡ false) (leaves_course c) (λ w after h one e. step_on d w after h (module_left c h one) e) s xs left on
 
@@ -66,26 +65,26 @@ on_all d s c xs left on =
 below_eight : (c : ℕ) → c < 8 → nat_lt c 8 ≡ true
 below_eight c lt = grind (arith, nat_tests)
 
-pub ready_is : (d : GptDriver) (w : World) (s : GptState) (c : ℕ) (k : Channel) (x : Course) (dropped : ℕ) → channel_of d c ≡ Some k → seen (channel_at s c) ≡ (x, dropped)
+pub ready_is : (d : GptTable) (w : World) (s : GptState) (c : ℕ) (k : Channel) (x : Course) (dropped : ℕ) → channel_of d c ≡ Some k → seen (channel_at s c) ≡ (x, dropped)
     → ready d w s c ≡ expired (Some k) dropped w.now x
 ready_is d w s c k x dropped there is =
     ap (λ q. q && is_marked (channel_of d c) w.now (channel_at s c)) (below_eight c (configured d c k there))
     ∙ ap (λ (o : Option Channel). is_marked o w.now (channel_at s c)) there
     ∙ ap (λ (p : Course × ℕ). expired (Some k) p.1 w.now p.0) is
 
-pub mark_is : (d : GptDriver) (w : World) (s : GptState) (c start target dropped : ℕ) (k : Channel) → channel_of d c ≡ Some k → seen (channel_at s c) ≡ (Running start target, dropped)
+pub mark_is : (d : GptTable) (w : World) (s : GptState) (c start target dropped : ℕ) (k : Channel) → channel_of d c ≡ Some k → seen (channel_at s c) ≡ (Running start target, dropped)
     → (ready d w s c ≡ true) ↔ ExpiresBetween k.one_shot start target k.prescaler dropped w.now
 mark_is d w s c start target dropped k there is =
     let at = ready_is d w s c k (Running start target) dropped there is in
     let times = by_times k.one_shot start target k.prescaler dropped w.now in
     (λ e. times.0 (sym at ∙ e), λ e. at ∙ times.1 e)
 
-pub runs_is : (d : GptDriver) (w : World) (s : GptState) (c : ℕ) (k : Channel) (x : Course) → channel_of d c ≡ Some k → (channel_at s c).course ≡ x → runs_at d w s c ≡ runs (Some k) w.now x
+pub runs_is : (d : GptTable) (w : World) (s : GptState) (c : ℕ) (k : Channel) (x : Course) → channel_of d c ≡ Some k → (channel_at s c).course ≡ x → runs_at d w s c ≡ runs (Some k) w.now x
 runs_is d w s c k x there is = ap (λ (o : Option Channel). runs o w.now (channel_at s c).course) there ∙ ap (λ y. runs (Some k) w.now y) is
 
 -- ---- calls without an error
 
-pub no_error : (d : GptDriver) (w : World) (s : GptState) (call : Call) (e : Option ErrorName) → (acts_by d w s call e).told.error ≡ None → e ≡ None
+pub no_error : (d : GptTable) (w : World) (s : GptState) (call : Call) (e : Option ErrorName) → (acts_by d w s call e).told.error ≡ None → e ≡ None
 no_error d w s call None told = refl
 no_error d w s call (Some e) told = absurd (cc told)
 
@@ -100,20 +99,20 @@ stop_on false false v a b e = absurd (cc e)
 
 -- ---- answers
 
-unhindered : (d : GptDriver) (s : GptState) (c : ℕ) (k : Channel) (busy : Bool) → is_off s.mode ≡ false → channel_of d c ≡ Some k
+unhindered : (d : GptTable) (s : GptState) (c : ℕ) (k : Channel) (busy : Bool) → is_off s.mode ≡ false → channel_of d c ≡ Some k
     → first_error services.GptGetTimeElapsed (is_off s.mode ∷ not (is_some (channel_of d c)) ∷ not true ∷ is_asleep s.mode ∷ busy ∷ false ∷ []) ≡ None
 unhindered d s c k busy on there =
     ap (λ u. first_error services.GptGetTimeElapsed (u ∷ not (is_some (channel_of d c)) ∷ not true ∷ is_asleep s.mode ∷ busy ∷ false ∷ [])) on
     ∙ ap (λ (o : Option Channel). first_error services.GptGetTimeElapsed (false ∷ not (is_some o) ∷ not true ∷ is_asleep s.mode ∷ busy ∷ false ∷ [])) there
 
-pub elapsed_answer : (d : GptDriver) (w : World) (s : GptState) (c : ℕ) (k : Channel) (x : Course) → is_off s.mode ≡ false → channel_of d c ≡ Some k → (channel_at s c).course ≡ x
+pub elapsed_answer : (d : GptTable) (w : World) (s : GptState) (c : ℕ) (k : Channel) (x : Course) → is_off s.mode ≡ false → channel_of d c ≡ Some k → (channel_at s c).course ≡ x
     → (acts d w s (calls.Channel c GetTimeElapsed)).told.answer ≡ number (elapsed (Some k) w.now x)
 elapsed_answer d w s c k x on there is =
     ap (λ e. (acts_by d w s (calls.Channel c GetTimeElapsed) e).told.answer) (unhindered d s c k (runs_at d w s c) on there)
     ∙ ap (λ (o : Option Channel). number (elapsed o w.now (channel_at s c).course)) there
     ∙ ap (λ y. number (elapsed (Some k) w.now y)) is
 
-pub remaining_answer : (d : GptDriver) (w : World) (s : GptState) (c : ℕ) (k : Channel) (x : Course) → is_off s.mode ≡ false → channel_of d c ≡ Some k → (channel_at s c).course ≡ x
+pub remaining_answer : (d : GptTable) (w : World) (s : GptState) (c : ℕ) (k : Channel) (x : Course) → is_off s.mode ≡ false → channel_of d c ≡ Some k → (channel_at s c).course ≡ x
     → (acts d w s (calls.Channel c GetTimeRemaining)).told.answer ≡ number (remaining (Some k) w.now x)
 remaining_answer d w s c k x on there is =
     ap (λ e. (acts_by d w s (calls.Channel c GetTimeRemaining) e).told.answer) (unhindered d s c k (runs_at d w s c) on there)
@@ -122,11 +121,11 @@ remaining_answer d w s c k x on there is =
 
 -- ---- after a start
 
-record StartedAt (d : GptDriver) (s : GptState) (c time target : ℕ) : Type 0 where
+record StartedAt (d : GptTable) (s : GptState) (c time target : ℕ) : Type 0 where
   seen : seen (channel_at s c) ≡ (Running time target, time)
   on : is_off s.mode ≡ false
 
-start_by : (d : GptDriver) (w : World) (s : GptState) (c target : ℕ) (k : Channel) (e : Option ErrorName) → e ≡ error_by d (calls.Channel c (StartTimer target)) (is_off s.mode) (is_asleep s.mode) (is_busy d w s (calls.Channel c (StartTimer target)))
+start_by : (d : GptTable) (w : World) (s : GptState) (c target : ℕ) (k : Channel) (e : Option ErrorName) → e ≡ error_by d (calls.Channel c (StartTimer target)) (is_off s.mode) (is_asleep s.mode) (is_busy d w s (calls.Channel c (StartTimer target)))
     → (acts_by d w s (calls.Channel c (StartTimer target)) e).told.error ≡ None → channel_of d c ≡ Some k → StartedAt d (acts_by d w s (calls.Channel c (StartTimer target)) e).state c w.now target
 start_by d w s c target k (Some e) is told there = absurd (cc told)
 start_by d w s c target k None is told there = record {
@@ -134,7 +133,7 @@ start_by d w s c target k None is told there = record {
   on = start_on (is_off s.mode) (is_some (channel_of d c)) (takes (StartTimer target) (channel_of d c)) (is_asleep s.mode) (runs_at d w s c) (sym is);
 }
 
-pub after_start : (d : GptDriver) (w : World) (s : GptState) (c target : ℕ) (k : Channel) (xs : List Occurrence)
+pub after_start : (d : GptTable) (w : World) (s : GptState) (c target : ℕ) (k : Channel) (xs : List Occurrence)
     → (acts d w s (calls.Channel c (StartTimer target))).told.error ≡ None → channel_of d c ≡ Some k → list_all (λ (x : Occurrence). leaves_course c x.what) xs ≡ true
     → (seen (channel_at (after_all d (acts d w s (calls.Channel c (StartTimer target))).state xs) c) ≡ (Running w.now target, w.now))
     × (is_off (after_all d (acts d w s (calls.Channel c (StartTimer target))).state xs).mode ≡ false)
@@ -178,7 +177,7 @@ still_served : (now : ℕ) (t : Timing) (q : Bool) → still t.course ≡ true �
 still_served now t true e = e
 still_served now t false e = e
 
-still_made : (d : GptDriver) (w : World) (t : Timing) (c : ℕ) (h : Happening Call) (y : Timing) → leaves_start c h ≡ true → still t.course ≡ true → Makes d w t c h y → still y.course ≡ true
+still_made : (d : GptTable) (w : World) (t : Timing) (c : ℕ) (h : Happening Call) (y : Timing) → leaves_start c h ≡ true → still t.course ≡ true → Makes d w t c h y → still y.course ≡ true
 still_made d w t c h y left e (begins gone) = refl
 still_made d w t c h y left e (starts v times) = absurd (not_itself c left)
 still_made d w t c h y left e (stops times) = still_stopped (channel_of d c) w.now t e
@@ -191,7 +190,7 @@ still_unmarked o after now Never e = refl
 still_unmarked o after now (Running s v) e = absurd (cc e)
 still_unmarked o after now (Stopped value v) e = refl
 
-pub still_all : (d : GptDriver) (later : World) (s : GptState) (c : ℕ) (xs : List Occurrence) → c < 8 → list_all (λ (x : Occurrence). leaves_start c x.what) xs ≡ true → still (channel_at s c).course ≡ true
+pub still_all : (d : GptTable) (later : World) (s : GptState) (c : ℕ) (xs : List Occurrence) → c < 8 → list_all (λ (x : Occurrence). leaves_start c x.what) xs ≡ true → still (channel_at s c).course ≡ true
     → ready d later (after_all d s xs) c ≡ false
 still_all d later s c xs lt left e =
     let end : GptState = after_all d s xs in

@@ -7,18 +7,17 @@ use Rattle.std.proofs.lemmas.Bool.{and_right, false_from_ne_true}
 use Rattle.mcal_base.specs.Expiry.{runs_on}
 use Rattle.mcal_base.specs.declared.error_name.ErrorName.{ErrorName}
 use Rattle.run_model.specs.World.{World}
-use Rattle.service_outline.specs.Done.{number}
-use Rattle.gpt_driver.specs.Checks.{error_by, takes}
-use Rattle.gpt_driver.specs.Machine.{GptState, Timing, Course, Never, Running, Stopped, Normal, fresh_state, channel_at, is_off, is_asleep, is_busy, elapsed, target_of, runs, expired, stopped, unmarked, slept, slept_all, ready, runs_at, acts_by, acts, prescaler_of}
-use Rattle.gpt_driver.specs.Table.{channel_of, one_shot_of}
-use Rattle.gpt_driver.specs.declared.call.Call.TheVariants.{SetMode}
-use Rattle.gpt_driver.specs.declared.call.Call.TheVariants as calls
-use Rattle.gpt_driver.specs.declared.call.ChannelCall.TheVariants.{GetTimeElapsed, GetTimeRemaining, StopTimer}
-use Rattle.gpt_driver.specs.declared.call.GptMode.TheVariants.{Sleep}
-use Rattle.gpt_driver.specs.declared.driver.Channel.{Channel}
-use Rattle.gpt_driver.specs.declared.driver.GptDriver.{GptDriver}
-use Rattle.gpt_driver.specs.laws.RefinementRight.{within}
-use Rattle.gpt_driver.specs.laws.Parts.{table_at}
+use Rattle.run_model.specs.Machine.{number}
+use Rattle.gpt_machine.specs.Checks.{error_by, takes}
+use Rattle.gpt_machine.specs.Machine.{GptState, Timing, Course, Never, Running, Stopped, Normal, fresh_state, channel_at, is_off, is_asleep, is_busy, elapsed, target_of, runs, expired, stopped, unmarked, slept, slept_all, ready, runs_at, acts_by, acts, prescaler_of}
+use Rattle.gpt_machine.specs.Table.{channel_of, one_shot_of}
+use Rattle.gpt_machine.specs.declared.call.Call.TheVariants.{SetMode}
+use Rattle.gpt_machine.specs.declared.call.Call.TheVariants as calls
+use Rattle.gpt_machine.specs.declared.call.ChannelCall.TheVariants.{GetTimeElapsed, GetTimeRemaining, StopTimer}
+use Rattle.gpt_machine.specs.declared.call.GptMode.TheVariants.{Sleep}
+use Rattle.gpt_machine.specs.declared.table.Channel.{Channel}
+use Rattle.gpt_machine.specs.declared.table.GptTable.{GptTable}
+use Rattle.gpt_machine.specs.laws.Channels.{table_at, within}
 use Rattle.timer_laws.specs.Channels.{Occurrence, after_all, leaves_course, leaves_start}
 use Rattle.timer_laws.specs.Expiries.{ExpiresBetween}
 use Rattle.timer_laws.proofs.ChannelMarks.{seen, seen_all, on_all, still, still_all, no_error, stop_on, elapsed_answer, remaining_answer, configured}
@@ -32,7 +31,7 @@ use Rattle.timer_laws.proofs.ExpiryTimes.{by_times}
 pub ran : (o : Option Channel) (now : ℕ) (t : Timing) → runs o now t.course ≡ true → (stopped o now t).course ≡ Stopped (elapsed o now t.course) (target_of t.course)
 ran o now t e = ap (λ q. (if q then record t { course = Stopped (elapsed o now t.course) (target_of t.course); dropped = now } else t).course) e
 
-record Stops (d : GptDriver) (w : World) (s after : GptState) (c : ℕ) : Type 0 where
+record Stops (d : GptTable) (w : World) (s after : GptState) (c : ℕ) : Type 0 where
   channel : Channel
   there : channel_of d c ≡ Some channel
   on : is_off s.mode ≡ false
@@ -43,7 +42,7 @@ known : (o : Option Channel) → is_some o ≡ true → (k : Channel) × (o ≡ 
 known None e = absurd (cc e)
 known (Some k) e = (k, refl)
 
-stops_by : (d : GptDriver) (w : World) (s : GptState) (c : ℕ) (e : Option ErrorName) → e ≡ error_by d (calls.Channel c StopTimer) (is_off s.mode) (is_asleep s.mode) (is_busy d w s (calls.Channel c StopTimer))
+stops_by : (d : GptTable) (w : World) (s : GptState) (c : ℕ) (e : Option ErrorName) → e ≡ error_by d (calls.Channel c StopTimer) (is_off s.mode) (is_asleep s.mode) (is_busy d w s (calls.Channel c StopTimer))
     → (acts_by d w s (calls.Channel c StopTimer) e).told.error ≡ None → runs_at d w s c ≡ true → Stops d w s (acts_by d w s (calls.Channel c StopTimer) e).state c
 stops_by d w s c (Some e) is told running = absurd (cc told)
 stops_by d w s c None is told running =
@@ -60,7 +59,7 @@ stops_by d w s c None is told running =
           ∙ ap (λ (o : Option Channel). Stopped (elapsed o w.now (channel_at s c).course) (target_of (channel_at s c).course)) k.1);
     }
 
-pub stop_value : (d : GptDriver) (w later : World) (s : GptState) (c : ℕ) (xs : List Occurrence) → (acts d w s (calls.Channel c StopTimer)).told.error ≡ None → runs_at d w s c ≡ true
+pub stop_value : (d : GptTable) (w later : World) (s : GptState) (c : ℕ) (xs : List Occurrence) → (acts d w s (calls.Channel c StopTimer)).told.error ≡ None → runs_at d w s c ≡ true
     → list_all (λ (x : Occurrence). leaves_course c x.what) xs ≡ true
     → (acts d later (after_all d (acts d w s (calls.Channel c StopTimer)).state xs) (calls.Channel c GetTimeElapsed)).told.answer ≡ (acts d w s (calls.Channel c GetTimeElapsed)).told.answer
 stop_value d w later s c xs told running left =
@@ -71,7 +70,7 @@ stop_value d w later s c xs told running left =
     elapsed_answer d later (after_all d s' xs) c h.channel _ (on_all d s' c xs left h.after_on) h.there there
     ∙ sym (elapsed_answer d w s c h.channel (channel_at s c).course h.on h.there refl)
 
-pub stop_rest : (d : GptDriver) (w later : World) (s : GptState) (c : ℕ) (xs : List Occurrence) → (acts d w s (calls.Channel c StopTimer)).told.error ≡ None → runs_at d w s c ≡ true
+pub stop_rest : (d : GptTable) (w later : World) (s : GptState) (c : ℕ) (xs : List Occurrence) → (acts d w s (calls.Channel c StopTimer)).told.error ≡ None → runs_at d w s c ≡ true
     → list_all (λ (x : Occurrence). leaves_course c x.what) xs ≡ true
     → (acts d later (after_all d (acts d w s (calls.Channel c StopTimer)).state xs) (calls.Channel c GetTimeRemaining)).told.answer ≡ (acts d w s (calls.Channel c GetTimeRemaining)).told.answer
 stop_rest d w later s c xs told running left =
@@ -82,7 +81,7 @@ stop_rest d w later s c xs told running left =
     remaining_answer d later (after_all d s' xs) c h.channel _ (on_all d s' c xs left h.after_on) h.there there
     ∙ sym (remaining_answer d w s c h.channel (channel_at s c).course h.on h.there refl)
 
-pub stop_mark : (d : GptDriver) (w later : World) (s : GptState) (c : ℕ) (xs : List Occurrence) → (acts d w s (calls.Channel c StopTimer)).told.error ≡ None → runs_at d w s c ≡ true
+pub stop_mark : (d : GptTable) (w later : World) (s : GptState) (c : ℕ) (xs : List Occurrence) → (acts d w s (calls.Channel c StopTimer)).told.error ≡ None → runs_at d w s c ≡ true
     → list_all (λ (x : Occurrence). leaves_start c x.what) xs ≡ true → ready d later (after_all d (acts d w s (calls.Channel c StopTimer)).state xs) c ≡ false
 stop_mark d w later s c xs told running left =
     let h = stops_by d w s c _ refl told running in
@@ -90,10 +89,10 @@ stop_mark d w later s c xs told running left =
 
 -- ---- sleep
 
-sleeps : (d : GptDriver) (w : World) (s : GptState) → is_off s.mode ≡ false → (acts d w s (SetMode (Some Sleep))).state ≡ slept_all d w s
+sleeps : (d : GptTable) (w : World) (s : GptState) → is_off s.mode ≡ false → (acts d w s (SetMode (Some Sleep))).state ≡ slept_all d w s
 sleeps d w s on = ap (λ u. (acts_by d w s (SetMode (Some Sleep)) (error_by d (SetMode (Some Sleep)) u (is_asleep s.mode) (is_busy d w s (SetMode (Some Sleep))))).state) on
 
-asleep_channel : (d : GptDriver) (w : World) (s : GptState) (c : ℕ) → c < 8 → is_off s.mode ≡ false → (channel_at s c).switches.wakeup ≡ false
+asleep_channel : (d : GptTable) (w : World) (s : GptState) (c : ℕ) → c < 8 → is_off s.mode ≡ false → (channel_at s c).switches.wakeup ≡ false
     → channel_at (acts d w s (SetMode (Some Sleep))).state c ≡ unmarked w.now (stopped (channel_of d c) w.now (channel_at s c))
 asleep_channel d w s c lt on off =
     ap (λ (x : GptState). channel_at x c) (sleeps d w s on)
@@ -126,7 +125,7 @@ order a b = by (nat_lt a b) refl where
   by true e = inl (grind (arith, nat_tests))
   by false e = inr e
 
-pub sleep_mark : (d : GptDriver) (w later : World) (s : GptState) (c : ℕ) (xs : List Occurrence) → is_off s.mode ≡ false → (channel_at s c).switches.wakeup ≡ false
+pub sleep_mark : (d : GptTable) (w later : World) (s : GptState) (c : ℕ) (xs : List Occurrence) → is_off s.mode ≡ false → (channel_at s c).switches.wakeup ≡ false
     → list_all (λ (x : Occurrence). leaves_course c x.what) xs ≡ true → ready d later (after_all d (acts d w s (SetMode (Some Sleep))).state xs) c ≡ false
 sleep_mark d w later s c xs on off left = by_number (order c 8) where
   end : GptState
@@ -140,7 +139,7 @@ sleep_mark d w later s c xs on off left = by_number (order c 8) where
       (ap (λ (p : Course × ℕ). expired (channel_of d c) p.1 later.now p.0) is
       ∙ stopped_expired (channel_of d c) w.now later.now (channel_at s c) (runs (channel_of d c) w.now (channel_at s c).course) refl)
 
-pub sleep_value : (d : GptDriver) (w later : World) (s : GptState) (c : ℕ) (k : Channel) (xs : List Occurrence) → is_off s.mode ≡ false → channel_of d c ≡ Some k → (channel_at s c).switches.wakeup ≡ false
+pub sleep_value : (d : GptTable) (w later : World) (s : GptState) (c : ℕ) (k : Channel) (xs : List Occurrence) → is_off s.mode ≡ false → channel_of d c ≡ Some k → (channel_at s c).switches.wakeup ≡ false
     → runs_at d w s c ≡ true → list_all (λ (x : Occurrence). leaves_course c x.what) xs ≡ true
     → (acts d later (after_all d (acts d w s (SetMode (Some Sleep))).state xs) (calls.Channel c GetTimeElapsed)).told.answer ≡ (acts d w s (calls.Channel c GetTimeElapsed)).told.answer
 sleep_value d w later s c k xs on there off running left =
@@ -157,7 +156,7 @@ sleep_value d w later s c k xs on there off running left =
 
 -- ---- after Gpt_Init
 
-module _ (d : GptDriver) (w : World) (s : GptState) (told : (acts d w s calls.Init).told.error ≡ None) where
+module _ (d : GptTable) (w : World) (s : GptState) (told : (acts d w s calls.Init).told.error ≡ None) where
   init_fresh : (acts d w s calls.Init).state ≡ fresh_state Normal
   init_fresh = ap (λ e. (acts_by d w s calls.Init e).state) (no_error d w s calls.Init _ told)
 

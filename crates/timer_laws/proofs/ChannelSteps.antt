@@ -9,24 +9,24 @@ use Rattle.mcal_base.specs.declared.error_name.ErrorName.{ErrorName}
 use Rattle.run_model.specs.Frame.{state_by}
 use Rattle.run_model.specs.Machine.{Happening, Acts, Serves, Starts, Aborts, Moves, Restarts}
 use Rattle.run_model.specs.World.{World}
-use Rattle.gpt_driver.specs.Checks.{error_by}
-use Rattle.gpt_driver.specs.Machine.{GptState, Timing, channel_at, untouched, is_off, is_asleep, is_busy, started, stopped, slept, changed, with_channel, wakes, notifies, served_channel, served_by, served, ready, switches, acts_by}
-use Rattle.gpt_driver.specs.Table.{channel_of}
-use Rattle.gpt_driver.specs.declared.call.Call.{Call}
-use Rattle.gpt_driver.specs.declared.call.Call.TheVariants.{Init, DeInit, SetMode}
-use Rattle.gpt_driver.specs.declared.call.Call.TheVariants as calls
-use Rattle.gpt_driver.specs.declared.call.ChannelCall.TheVariants.{GetTimeElapsed, GetTimeRemaining, StartTimer, StopTimer}
-use Rattle.gpt_driver.specs.declared.call.ChannelCall.TheVariants as asks
-use Rattle.gpt_driver.specs.declared.call.Change.{Change}
-use Rattle.gpt_driver.specs.declared.call.GptMode.TheVariants as modes
-use Rattle.gpt_driver.specs.declared.driver.Channel.{Channel}
-use Rattle.gpt_driver.specs.declared.driver.GptDriver.{GptDriver}
-use Rattle.gpt_driver.specs.laws.Parts.{table_at}
+use Rattle.gpt_machine.specs.Checks.{error_by}
+use Rattle.gpt_machine.specs.Machine.{GptState, Timing, channel_at, untouched, is_off, is_asleep, is_busy, started, stopped, slept, changed, with_channel, wakes, notifies, served_channel, served_by, served, ready, switches, acts_by}
+use Rattle.gpt_machine.specs.Table.{channel_of}
+use Rattle.gpt_machine.specs.declared.call.Call.{Call}
+use Rattle.gpt_machine.specs.declared.call.Call.TheVariants.{Init, DeInit, SetMode}
+use Rattle.gpt_machine.specs.declared.call.Call.TheVariants as calls
+use Rattle.gpt_machine.specs.declared.call.ChannelCall.TheVariants.{GetTimeElapsed, GetTimeRemaining, StartTimer, StopTimer}
+use Rattle.gpt_machine.specs.declared.call.ChannelCall.TheVariants as asks
+use Rattle.gpt_machine.specs.declared.call.Change.{Change}
+use Rattle.gpt_machine.specs.declared.call.GptMode.TheVariants as modes
+use Rattle.gpt_machine.specs.declared.table.Channel.{Channel}
+use Rattle.gpt_machine.specs.declared.table.GptTable.{GptTable}
+use Rattle.gpt_machine.specs.laws.Channels.{table_at}
 use Rattle.timer_laws.specs.Channels.{Occurrence, state_after, after_all, leaves_module}
 
 -- ---- what it may make of a channel, where it doesn't leave it
 
-pub data Makes (d : GptDriver) (w : World) (t : Timing) (c : ℕ) : Happening Call → Timing → Type 0 where
+pub data Makes (d : GptTable) (w : World) (t : Timing) (c : ℕ) : Happening Call → Timing → Type 0 where
   begins : {h : Happening Call} → leaves_module h ≡ false → Makes d w t c h untouched
   starts : (v : ℕ) (times : ℕ → ℕ) → Makes d w t c (Acts (calls.Channel c (StartTimer v)) times) (started w.now v t)
   stops : (times : ℕ → ℕ) → Makes d w t c (Acts (calls.Channel c StopTimer) times) (stopped (channel_of d c) w.now t)
@@ -54,7 +54,7 @@ put P s n c x lt here there = subst P (sym (put_at s n c x lt)) (by (c == n) ref
 
 -- ---- a step
 
-module _ (P : Timing → Type 0) (d : GptDriver) (w : World) (s : GptState) (c : ℕ) (lt : c < 8) (stays : P (channel_at s c)) where
+module _ (P : Timing → Type 0) (d : GptTable) (w : World) (s : GptState) (c : ℕ) (lt : c < 8) (stays : P (channel_at s c)) where
   switches_make : (o : Option Channel) (n : ℕ) (by : Change) (times : ℕ → ℕ)
       → ((y : Timing) → Makes d w (channel_at s c) c (Acts (calls.Channel n (asks.Change by)) times) y → P y)
       → P (channel_at (switches o s n by).state c)
@@ -112,7 +112,7 @@ module _ (P : Timing → Type 0) (d : GptDriver) (w : World) (s : GptState) (c :
 
 -- ---- the module stays initialised
 
-acts_on : (d : GptDriver) (w : World) (s : GptState) (call : Call) (times : ℕ → ℕ) (e : Option ErrorName) → leaves_module (Acts call times) ≡ true → is_off s.mode ≡ false → is_off (acts_by d w s call e).state.mode ≡ false
+acts_on : (d : GptTable) (w : World) (s : GptState) (call : Call) (times : ℕ → ℕ) (e : Option ErrorName) → leaves_module (Acts call times) ≡ true → is_off s.mode ≡ false → is_off (acts_by d w s call e).state.mode ≡ false
 acts_on d w s call times (Some e) left on = on
 acts_on d w s Init times None left on = absurd (cc left)
 acts_on d w s DeInit times None left on = absurd (cc left)
@@ -136,7 +136,7 @@ serves_on : (w : World) (s : GptState) (line : ℕ) (q : Bool) → is_off s.mode
 serves_on w s line true on = served_on w s line (wakes s.mode (channel_at s line).switches) (notifies s.mode (channel_at s line).switches) on
 serves_on w s line false on = on
 
-pub step_on : (d : GptDriver) (w : World) (s : GptState) (h : Happening Call) → leaves_module h ≡ true → is_off s.mode ≡ false → is_off (state_after d w s h).mode ≡ false
+pub step_on : (d : GptTable) (w : World) (s : GptState) (h : Happening Call) → leaves_module h ≡ true → is_off s.mode ≡ false → is_off (state_after d w s h).mode ≡ false
 step_on d w s (Acts call times) left on = acts_on d w s call times (error_by d call (is_off s.mode) (is_asleep s.mode) (is_busy d w s call)) left on
 step_on d w s (Serves line received) left on = serves_on w s line (ready d w s line) on
 step_on d w s (Starts u made_by received) left on = on
@@ -146,7 +146,7 @@ step_on d w s (Restarts reason) left on = absurd (cc left)
 
 -- ---- histories
 
-pub all_steps : (d : GptDriver) (P : GptState → Type 0) (leaves : Happening Call → Bool)
+pub all_steps : (d : GptTable) (P : GptState → Type 0) (leaves : Happening Call → Bool)
     → ((w : World) (s : GptState) (h : Happening Call) → leaves h ≡ true → P s → P (state_after d w s h))
     → (s : GptState) (xs : List Occurrence) → list_all (λ (x : Occurrence). leaves x.what) xs ≡ true → P s → P (after_all d s xs)
 all_steps d P leaves one s [] left p = p

@@ -8,17 +8,16 @@ use Rattle.mcal_base.specs.declared.service.Service.TheVariants as services
 use Rattle.det_errors.specs.Rows.{first_error}
 use Rattle.run_model.specs.Machine.{Happening, Acts, Outcome}
 use Rattle.run_model.specs.World.{World}
-use Rattle.gpt_driver.specs.Checks.{error_by, has_notification}
-use Rattle.gpt_driver.specs.Machine.{GptState, Timing, Mode, Off, Normal, Sleep, channel_at, is_off, is_asleep, elapsed, target_of, runs, stopped, unmarked, slept, changed, wakes, notifies, served_channel, served_by, served, ready, runs_at, notes, switches, acts_by, acts}
-use Rattle.gpt_driver.specs.Machine.{Stopped}
-use Rattle.gpt_driver.specs.Table.{channel_of}
-use Rattle.gpt_driver.specs.declared.call.Call.{Call}
-use Rattle.gpt_driver.specs.declared.call.Call.TheVariants as calls
-use Rattle.gpt_driver.specs.declared.call.ChannelCall.TheVariants as asks
-use Rattle.gpt_driver.specs.declared.call.Change.TheVariants.{Notification, Wakeup, Check}
-use Rattle.gpt_driver.specs.declared.driver.Channel.{Channel}
-use Rattle.gpt_driver.specs.declared.driver.GptDriver.{GptDriver}
-use Rattle.gpt_driver.specs.declared.switches.Switches.{Switches}
+use Rattle.gpt_machine.specs.Checks.{error_by, has_notification}
+use Rattle.gpt_machine.specs.Machine.{GptState, Timing, Mode, Off, Normal, Sleep, channel_at, is_off, is_asleep, elapsed, target_of, runs, stopped, unmarked, slept, changed, wakes, notifies, served_channel, served_by, served, ready, runs_at, notes, switches, acts_by, acts, Stopped}
+use Rattle.gpt_machine.specs.Table.{channel_of}
+use Rattle.gpt_machine.specs.declared.call.Call.{Call}
+use Rattle.gpt_machine.specs.declared.call.Call.TheVariants as calls
+use Rattle.gpt_machine.specs.declared.call.ChannelCall.TheVariants as asks
+use Rattle.gpt_machine.specs.declared.call.Change.TheVariants.{Notification, Wakeup, Check}
+use Rattle.gpt_machine.specs.declared.table.Channel.{Channel}
+use Rattle.gpt_machine.specs.declared.table.GptTable.{GptTable}
+use Rattle.gpt_machine.specs.declared.switches.Switches.{Switches}
 use Rattle.timer_laws.specs.Channels.{Occurrence, after_all, leaves_module, leaves_notification, leaves_serving, leaves_wakeup, one_notice}
 use Rattle.timer_laws.proofs.ChannelMarks.{configured}
 use Rattle.timer_laws.proofs.ChannelSteps.{Makes, begins, starts, stops, sleeps, switched, serves, put_same, step, step_on, all_steps, not_itself}
@@ -41,7 +40,7 @@ slept_keeps o now t = sleep_keeps o now t t.switches.wakeup
 
 -- ---- the notification
 
-notified_made : (d : GptDriver) (w : World) (t : Timing) (c : ℕ) (h : Happening Call) (y : Timing) (on : Bool) → leaves_notification c h ≡ true → leaves_module h ≡ true → t.switches.notification ≡ on → Makes d w t c h y
+notified_made : (d : GptTable) (w : World) (t : Timing) (c : ℕ) (h : Happening Call) (y : Timing) (on : Bool) → leaves_notification c h ≡ true → leaves_module h ≡ true → t.switches.notification ≡ on → Makes d w t c h y
     → y.switches.notification ≡ on
 notified_made d w t c h y on left all e (begins gone) = absurd (cc (sym gone ∙ all))
 notified_made d w t c h y on left all e (starts v times) = e
@@ -57,7 +56,7 @@ module_left : (c : ℕ) (h : Happening Call) → leaves_notification c h ≡ tru
 module_left c (Acts (calls.Channel n (asks.Change (Notification on))) times) left = refl
 module_left c h left = left
 
-notified_all : (d : GptDriver) (s : GptState) (c : ℕ) (on : Bool) (xs : List Occurrence) → c < 8 → list_all (λ (x : Occurrence). leaves_notification c x.what) xs ≡ true
+notified_all : (d : GptTable) (s : GptState) (c : ℕ) (on : Bool) (xs : List Occurrence) → c < 8 → list_all (λ (x : Occurrence). leaves_notification c x.what) xs ≡ true
     → (channel_at s c).switches.notification ≡ on → (channel_at (after_all d s xs) c).switches.notification ≡ on
 notified_all d s c on xs lt left e =
     all_steps d (λ after. (channel_at after c).switches.notification ≡ on) (leaves_notification c)
@@ -72,7 +71,7 @@ switch_there false true a b on e = refl
 switch_there false false a b true e = absurd (cc e)
 switch_there false false a b false e = absurd (cc e)
 
-allowed : (d : GptDriver) (s : GptState) (c : ℕ) (on busy : Bool) → error_by d (calls.Channel c (asks.Change (Notification on))) (is_off s.mode) (is_asleep s.mode) busy ≡ None → has_notification (channel_of d c) ≡ true
+allowed : (d : GptTable) (s : GptState) (c : ℕ) (on busy : Bool) → error_by d (calls.Channel c (asks.Change (Notification on))) (is_off s.mode) (is_asleep s.mode) busy ≡ None → has_notification (channel_of d c) ≡ true
 allowed d s c true busy e = switch_there (is_off s.mode) (has_notification (channel_of d c)) (is_asleep s.mode) busy true e
 allowed d s c false busy e = switch_there (is_off s.mode) (has_notification (channel_of d c)) (is_asleep s.mode) busy false e
 
@@ -80,11 +79,11 @@ known : (o : Option Channel) → has_notification o ≡ true → (k : Channel) �
 known None e = absurd (cc e)
 known (Some k) e = (k, refl)
 
-record SwitchedTo (d : GptDriver) (s : GptState) (c : ℕ) (on : Bool) : Type 0 where
+record SwitchedTo (d : GptTable) (s : GptState) (c : ℕ) (on : Bool) : Type 0 where
   within : c < 8
   is : (channel_at s c).switches.notification ≡ on
 
-switched_by : (d : GptDriver) (w : World) (s : GptState) (c : ℕ) (on : Bool) (e : Option ErrorName) → e ≡ error_by d (calls.Channel c (asks.Change (Notification on))) (is_off s.mode) (is_asleep s.mode) (runs_at d w s c)
+switched_by : (d : GptTable) (w : World) (s : GptState) (c : ℕ) (on : Bool) (e : Option ErrorName) → e ≡ error_by d (calls.Channel c (asks.Change (Notification on))) (is_off s.mode) (is_asleep s.mode) (runs_at d w s c)
     → (acts_by d w s (calls.Channel c (asks.Change (Notification on))) e).told.error ≡ None → SwitchedTo d (acts_by d w s (calls.Channel c (asks.Change (Notification on))) e).state c on
 switched_by d w s c on (Some e) is told = absurd (cc told)
 switched_by d w s c on None is told =
@@ -114,7 +113,7 @@ serving_notices w s c on out false made awake f = absurd (cc made)
 serving_notices w s c on out true made awake f =
     let at : served w s c ≡ out = cc in subst (λ (o : Outcome GptState). o.told.notices ≡ (if on then one_notice GptNotification c else [])) at (served_notices w s c on awake f)
 
-pub normal_notices : (d : GptDriver) (w later : World) (s : GptState) (c : ℕ) (on : Bool) (out : Outcome GptState) (xs : List Occurrence)
+pub normal_notices : (d : GptTable) (w later : World) (s : GptState) (c : ℕ) (on : Bool) (out : Outcome GptState) (xs : List Occurrence)
     → (acts d w s (calls.Channel c (asks.Change (Notification on)))).told.error ≡ None → list_all (λ (x : Occurrence). leaves_notification c x.what) xs ≡ true
     → is_asleep (after_all d (acts d w s (calls.Channel c (asks.Change (Notification on)))).state xs).mode ≡ false
     → (if ready d later (after_all d (acts d w s (calls.Channel c (asks.Change (Notification on)))).state xs) c then Some (served later (after_all d (acts d w s (calls.Channel c (asks.Change (Notification on)))).state xs) c) else None) ≡ Some out
@@ -126,7 +125,7 @@ normal_notices d w later s c on out xs told left awake made =
 
 -- ---- the wakeup mark
 
-told_made : (d : GptDriver) (w : World) (t : Timing) (c : ℕ) (h : Happening Call) (y : Timing) → leaves_serving c h ≡ true → t.switches.woken ≡ false → Makes d w t c h y → y.switches.woken ≡ false
+told_made : (d : GptTable) (w : World) (t : Timing) (c : ℕ) (h : Happening Call) (y : Timing) → leaves_serving c h ≡ true → t.switches.woken ≡ false → Makes d w t c h y → y.switches.woken ≡ false
 told_made d w t c h y left e (begins gone) = refl
 told_made d w t c h y left e (starts v times) = e
 told_made d w t c h y left e (stops times) = ap (λ (x : Switches). x.woken) (stopped_keeps (channel_of d c) w.now t) ∙ e
@@ -136,7 +135,7 @@ told_made d w t c h y left e (switched (Wakeup b) times) = e
 told_made d w t c h y left e (switched Check times) = refl
 told_made d w t c h y left e (serves wakes received) = absurd (not_itself c left)
 
-woken_made : (d : GptDriver) (w : World) (t : Timing) (c : ℕ) (h : Happening Call) (y : Timing) → leaves_wakeup c h ≡ true → leaves_module h ≡ true → t.switches.woken ≡ true → Makes d w t c h y → y.switches.woken ≡ true
+woken_made : (d : GptTable) (w : World) (t : Timing) (c : ℕ) (h : Happening Call) (y : Timing) → leaves_wakeup c h ≡ true → leaves_module h ≡ true → t.switches.woken ≡ true → Makes d w t c h y → y.switches.woken ≡ true
 woken_made d w t c h y left all e (begins gone) = absurd (cc (sym gone ∙ all))
 woken_made d w t c h y left all e (starts v times) = e
 woken_made d w t c h y left all e (stops times) = ap (λ (x : Switches). x.woken) (stopped_keeps (channel_of d c) w.now t) ∙ e
@@ -148,11 +147,11 @@ woken_made d w t c h y left all e (serves true received) = refl
 woken_made d w t c h y left all e (serves false received) = e
 
 -- a check tells of a mark that stands, and of no other
-check_none : (d : GptDriver) (w : World) (s : GptState) (c : ℕ) (o : Option Channel) → (channel_at s c).switches.woken ≡ false → (switches o s c Check).told.notices ≡ []
+check_none : (d : GptTable) (w : World) (s : GptState) (c : ℕ) (o : Option Channel) → (channel_at s c).switches.woken ≡ false → (switches o s c Check).told.notices ≡ []
 check_none d w s c None e = refl
 check_none d w s c (Some k) e = ap (λ q. (notes q EcuMSetWakeupEvent c).notices) e
 
-checks_none : (d : GptDriver) (w : World) (s : GptState) (c : ℕ) (e : Option ErrorName) → ((k : Channel) → channel_of d c ≡ Some k → (channel_at s c).switches.woken ≡ false)
+checks_none : (d : GptTable) (w : World) (s : GptState) (c : ℕ) (e : Option ErrorName) → ((k : Channel) → channel_of d c ≡ Some k → (channel_at s c).switches.woken ≡ false)
     → (acts_by d w s (calls.Channel c (asks.Change Check)) e).told.notices ≡ []
 checks_none d w s c (Some e) off = refl
 checks_none d w s c None off = by_channel (channel_of d c) refl where
@@ -160,14 +159,14 @@ checks_none d w s c None off = by_channel (channel_of d c) refl where
   by_channel None there = refl
   by_channel (Some k) there = ap (λ q. (notes q EcuMSetWakeupEvent c).notices) (off k there)
 
-checked_by : (d : GptDriver) (w : World) (s : GptState) (c : ℕ) (k : Channel) (e : Option ErrorName) → (acts_by d w s (calls.Channel c (asks.Change Check)) e).told.error ≡ None → channel_of d c ≡ Some k
+checked_by : (d : GptTable) (w : World) (s : GptState) (c : ℕ) (k : Channel) (e : Option ErrorName) → (acts_by d w s (calls.Channel c (asks.Change Check)) e).told.error ≡ None → channel_of d c ≡ Some k
     → (channel_at (acts_by d w s (calls.Channel c (asks.Change Check)) e).state c).switches.woken ≡ false
 checked_by d w s c k (Some e) told there = absurd (cc told)
 checked_by d w s c k None told there =
     ap (λ (o : Option Channel). (channel_at (switches o s c Check).state c).switches.woken) there
     ∙ ap (λ (t : Timing). t.switches.woken) (put_same s c (record (channel_at s c) { switches = changed Check (channel_at s c).switches }) (configured d c k there))
 
-pub told_once : (d : GptDriver) (w later : World) (s : GptState) (c : ℕ) (xs : List Occurrence) → (acts d w s (calls.Channel c (asks.Change Check))).told.error ≡ None
+pub told_once : (d : GptTable) (w later : World) (s : GptState) (c : ℕ) (xs : List Occurrence) → (acts d w s (calls.Channel c (asks.Change Check))).told.error ≡ None
     → list_all (λ (x : Occurrence). leaves_serving c x.what) xs ≡ true
     → (acts d later (after_all d (acts d w s (calls.Channel c (asks.Change Check))).state xs) (calls.Channel c (asks.Change Check))).told.notices ≡ []
 told_once d w later s c xs told left =
@@ -202,7 +201,7 @@ woken_by w s c out true made asleep wakeup lt =
     let wake : wakes s.mode (channel_at s c).switches ≡ true = ap (λ q. q && (channel_at s c).switches.wakeup) asleep ∙ wakeup in
     subst (λ (o : Outcome GptState). IsWoken o.state c) at (wakes_by w s c _ wake lt (asleep_on s.mode asleep))
 
-pub told_next : (d : GptDriver) (w later : World) (s : GptState) (c : ℕ) (k : Channel) (out : Outcome GptState) (xs : List Occurrence) → is_asleep s.mode ≡ true → (channel_at s c).switches.wakeup ≡ true → channel_of d c ≡ Some k
+pub told_next : (d : GptTable) (w later : World) (s : GptState) (c : ℕ) (k : Channel) (out : Outcome GptState) (xs : List Occurrence) → is_asleep s.mode ≡ true → (channel_at s c).switches.wakeup ≡ true → channel_of d c ≡ Some k
     → (if ready d w s c then Some (served w s c) else None) ≡ Some out → list_all (λ (x : Occurrence). leaves_wakeup c x.what) xs ≡ true
     → (acts d later (after_all d out.state xs) (calls.Channel c (asks.Change Check))).told.notices ≡ one_notice EcuMSetWakeupEvent c
 told_next d w later s c k out xs asleep wakeup there made left =

@@ -5,14 +5,14 @@ use Rattle.mcal_base.specs.declared.notice.NoticeKind.{NoticeKind}
 use Rattle.run_model.specs.Frame.{state_by}
 use Rattle.run_model.specs.Machine.{Happening, Acts, Serves, Restarts}
 use Rattle.run_model.specs.World.{World}
-use Rattle.gpt_driver.specs.Machine.{GptState, channel_at, happens}
-use Rattle.gpt_driver.specs.declared.call.Call.{Call}
-use Rattle.gpt_driver.specs.declared.call.Call.TheVariants.{Init, DeInit, SetMode}
-use Rattle.gpt_driver.specs.declared.call.Call.TheVariants as calls
-use Rattle.gpt_driver.specs.declared.call.ChannelCall.TheVariants.{StartTimer, StopTimer, Change}
-use Rattle.gpt_driver.specs.declared.call.Change.TheVariants.{Notification, Check}
-use Rattle.gpt_driver.specs.declared.call.GptMode.TheVariants.{Sleep}
-use Rattle.gpt_driver.specs.declared.driver.GptDriver.{GptDriver}
+use Rattle.gpt_machine.specs.Machine.{GptState, channel_at, happens}
+use Rattle.gpt_machine.specs.declared.call.Call.{Call}
+use Rattle.gpt_machine.specs.declared.call.Call.TheVariants.{Init, DeInit, SetMode}
+use Rattle.gpt_machine.specs.declared.call.Call.TheVariants as calls
+use Rattle.gpt_machine.specs.declared.call.ChannelCall.TheVariants.{StartTimer, StopTimer, Change}
+use Rattle.gpt_machine.specs.declared.call.Change.TheVariants.{Notification, Check}
+use Rattle.gpt_machine.specs.declared.call.GptMode.TheVariants.{Sleep}
+use Rattle.gpt_machine.specs.declared.table.GptTable.{GptTable}
 
 -- a happening, with the outside at its time
 pub record Occurrence : Type 0 where
@@ -20,10 +20,10 @@ pub record Occurrence : Type 0 where
   pub what : Happening Call
 
 -- the state after a happening, and after several
-abbrev pub state_after : GptDriver → World → GptState → Happening Call → GptState
+abbrev pub state_after : GptTable → World → GptState → Happening Call → GptState
 state_after d w s h = state_by s (happens d w s h)
 
-abbrev pub after_all : GptDriver → GptState → List Occurrence → GptState
+abbrev pub after_all : GptTable → GptState → List Occurrence → GptState
 after_all d s [] = s
 after_all d s (x ∷ xs) = after_all d (state_after d x.world s x.what) xs
 

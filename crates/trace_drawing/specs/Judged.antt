@@ -11,6 +11,8 @@ use Rattle.bench_script.specs.Lines.{file}
 use Rattle.bench_script.specs.Script as scripts
 use Rattle.bench_script.specs.declared.fault.ScriptFault.{ScriptFault}
 use Rattle.bench_script.specs.declared.fault.ScriptFault.TheVariants.{Long}
+use Rattle.trace_lanes.specs.InputNames.{name_of}
+use Rattle.trace_lanes.specs.declared.input_name.InputName.{InputName}
 use Rattle.trace_drawing.specs.Program.{status_of, written, text_under}
 use Rattle.trace_drawing.specs.declared.input.Given.{Given}
 use Rattle.trace_drawing.specs.declared.input.InputEnd.{InputEnd}
@@ -27,22 +29,31 @@ pub record Ending : Type 0 where
 abbrev pub one_word : List ℕ → Option Form
 one_word word =
     if bytes_eq word (codes "vcd") then Some forms.Changes
-    else if bytes_eq word (codes "svg") then Some forms.Page
+    else if bytes_eq word (codes "svg") then Some (forms.Page None)
     else if bytes_eq word (codes "text") then Some forms.Rows
     else None
 
 abbrev pub with_option : List ℕ → List ℕ → Option Form
 with_option word option = if bytes_eq word (codes "vcd") && bytes_eq option (codes "--time") then Some forms.Times else None
 
+-- a name; an empty one is none
+abbrev pub named : List ℕ → Option InputName
+named [] = None
+named text = Some (name_of text)
+
+abbrev pub with_title : List ℕ → List ℕ → List ℕ → Option Form
+with_title word option title = if bytes_eq word (codes "svg") && bytes_eq option (codes "--title") then Some (forms.Page (named title)) else None
+
 abbrev pub form_of : List (List ℕ) → Option Form
 form_of (word ∷ []) = one_word word
 form_of (word ∷ option ∷ []) = with_option word option
+form_of (word ∷ option ∷ title ∷ []) = with_title word option title
 form_of _ = None
 
 -- ---- endings without a drawing
 
 abbrev pub usage : Ending
-usage = record { status = 1; text = codes "usage: trace_view vcd [--time] | svg | text\n" }
+usage = record { status = 1; text = codes "usage: trace_view vcd [--time] | svg [--title NAME] | text\n" }
 
 abbrev pub ending_of : InputEnd → Ending
 ending_of ends.Fault = record { status = 2; text = codes "read fault\n" }

@@ -16,7 +16,7 @@ use Rattle.trace_drawing.specs.declared.program.Form.TheVariants as forms
 abbrev pub printed : Form → Drawing → List ℕ
 printed forms.Changes d = waves clocks.Steps d.steps d.signs
 printed forms.Times d = waves clocks.Ticks d.steps d.signs
-printed forms.Page d = page d.steps d.signs
+printed (forms.Page name) d = page name d.steps d.signs
 printed forms.Rows d = rows d.signs
 
 infixl 10 ◌>>=◌

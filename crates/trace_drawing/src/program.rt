@@ -13,13 +13,13 @@ use crate::transfer::{ReadEnd, read_all, write_all};
 use mcal_base::{Directive, Sink, Source};
 use std::alloc::{AllocError, Global};
 use trace_forms::rows_of;
-use trace_lanes::page_of;
+use trace_lanes::{InputName, page_of};
 use trace_reader::{TraceFault, read_trace};
 use trace_signs::{Drawing, drawing_of, moments_of};
 use trace_waves::{Clock, waves_of};
 
 /// What is printed where the words are of no form.
-const USAGE: &str = "usage: trace_view vcd [--time] | svg | text\n";
+const USAGE: &str = "usage: trace_view vcd [--time] | svg [--title NAME] | text\n";
 
 /// What is drawn.
 #[derive(Clone, Copy)]
@@ -28,8 +28,8 @@ pub enum Form {
     Changes,
     /// Value changes, whose time is in ticks.
     Times,
-    /// A page.
-    Page,
+    /// A page, with the name of its input in its title, if it has one.
+    Page(Option<InputName>),
     /// Rows of characters.
     Rows,
 }
@@ -40,7 +40,7 @@ fn one_word(word: &str) -> Option<Form>
 {
     match word {
         "vcd" => Some(Form::Changes),
-        "svg" => Some(Form::Page),
+        "svg" => Some(Form::Page(None)),
         "text" => Some(Form::Rows),
         _ => None,
     }
@@ -57,6 +57,28 @@ fn with_option(word: &str, option: &str) -> Option<Form>
     }
 }
 
+/// A name; an empty one is none.
+fn named(text: &str) -> Option<InputName>
+    ensures { result ≡ judged.named text.now }
+{
+    if text.is_empty() {
+        None
+    } else {
+        Some(InputName::of(text))
+    }
+}
+
+/// The form that a word with an option and a title asks for.
+fn with_title(word: &str, option: &str, title: &str) -> Option<Form>
+    ensures { result ≡ judged.with_title word.now option.now title.now }
+{
+    if word == "svg" && option == "--title" {
+        Some(Form::Page(named(title)))
+    } else {
+        None
+    }
+}
+
 /// The form that the words of a command line ask for.
 fn form_of(words: &[String]) -> Option<Form>
     ensures { result ≡ judged.form_of (map string_bytes words.now) }
@@ -64,6 +86,7 @@ fn form_of(words: &[String]) -> Option<Form>
     match words {
         [word] => one_word(word.as_str()),
         [word, option] => with_option(word.as_str(), option.as_str()),
+        [word, option, title] => with_title(word.as_str(), option.as_str(), title.as_str()),
         _ => None,
     }
 }
@@ -75,7 +98,7 @@ fn printed(alloc: Global, form: Form, drawing: &Drawing) -> Result<String, Alloc
     match form {
         Form::Changes => waves_of(alloc, Clock::Steps, drawing.steps(), drawing.signs()),
         Form::Times => waves_of(alloc, Clock::Ticks, drawing.steps(), drawing.signs()),
-        Form::Page => page_of(alloc, drawing.steps(), drawing.signs()),
+        Form::Page(name) => page_of(alloc, name, drawing.steps(), drawing.signs()),
         Form::Rows => rows_of(alloc, drawing.signs()),
     }
 }
@@ -161,10 +184,11 @@ fn conclude<K: Sink>(alloc: Global, out: &mut K, form: Form, bytes: &[u8]) -> u8
     }
 }
 
-/// Draws the trace that stands behind its bench file and a line that is exactly `===`, by the one word `vcd`, `svg` or
-/// `text`, and gives the status: 0 where the drawing was written; 1 where the words are others; 2 where a read failed;
-/// 3 where a write failed; 4 where memory was not found; 5 where the input is too long; 6 and 7 where the configuration
-/// or the script is refused; 8 where there is no report; 9 where a line of it is none of a trace of the script.
+/// Draws the trace that stands behind its bench file and a line that is exactly `===`, by the word `vcd`, `svg` or
+/// `text` and its option, `vcd --time` or `svg --title NAME`, and gives the status: 0 where the drawing was written; 1
+/// where the words are others; 2 where a read failed; 3 where a write failed; 4 where memory was not found; 5 where
+/// the input is too long; 6 and 7 where the configuration or the script is refused; 8 where there is no report; 9
+/// where a line of it is none of a trace of the script.
 pub fn view<S: Source, K: Sink>(alloc: Global, words: &[String], input: &mut S, out: &mut K) -> u8
     // Where no fault was met and memory was found, the status and the output are those of the definition.
     ensures exact { result ≢ 2 → result ≢ 3 → result ≢ 4 → IfSome (S.left input.old) (λ bytes. IsEnded (judged.judged (judged.form_of (map string_bytes words.now)) bytes) result (K.taken out.old) (K.taken out.new)) }

@@ -1,5 +1,5 @@
 -- No two labels overlap, and all lie inside the page.
-use Rattle.std.proofs.Common.{◌≡◌, ◌≢◌, inl, inr, ℕ, zero, suc, ◌+◌, ◌*◌, ◌<◌, ◌≤◌, List, [], ◌∷◌, ◌++◌, length, Bool, true, false, Some, None, map, refl, ◌∙◌, ap, sym, subst, arith}
+use Rattle.std.proofs.Common.{◌≡◌, ◌≢◌, inl, inr, ℕ, zero, suc, ◌+◌, ◌*◌, ◌<◌, ◌≤◌, List, [], ◌∷◌, ◌++◌, length, Bool, true, false, Option, Some, None, map, refl, ◌∙◌, ap, sym, subst, arith}
 use Rattle.std.specs.Prelude.{◌==◌, ◌&&◌, max, count_by, nat_le, nat_lt, slice_index_or, slice_set, if◌then◌else◌}
 use Rattle.std.proofs.lemmas.Bool.{false≢true}
 use Rattle.std.proofs.lemmas.Bool.Decides.{nat_tests}
@@ -11,11 +11,12 @@ use Rattle.trace_lanes.specs.Captions.{caption_text, width}
 use Rattle.trace_lanes.specs.Course.{first}
 use Rattle.trace_lanes.specs.Drawn.{is_drawn, is_left_out, strokes, behind_all, lasts}
 use Rattle.trace_lanes.specs.Laws.{rectangle, Apart, ApartFrom, AllApart, AllInside, HasClearLabels}
-use Rattle.trace_lanes.specs.Page.{own_words, body, board, page_width, page_height}
+use Rattle.trace_lanes.specs.Page.{run_caption, own_words, body, board, page_width, page_height}
 use Rattle.trace_lanes.specs.Rows.{slot, has_name, pitch, top}
 use Rattle.trace_lanes.specs.declared.board.Label.{Label}
 use Rattle.trace_lanes.specs.declared.caption.Caption.{Caption}
 use Rattle.trace_lanes.specs.declared.caption.Caption.TheVariants.{Name}
+use Rattle.trace_lanes.specs.declared.input_name.InputName.{InputName}
 use Rattle.trace_lanes.specs.declared.rows.Row.{Row}
 use Rattle.trace_lanes.specs.declared.rows.Row.TheVariants as rows
 
@@ -296,10 +297,10 @@ all_inside b end (l ∷ ls) h = (inside_one b end l h.0, all_inside b end ls h.1
 clear_of : (b : Board) (end : ℕ) → Keeps b → HasClearLabels b end
 clear_of b end h = record { apart = all_apart b.free b.used b.wide b.labels h.stands h.clear; inside = all_inside b end b.labels h.stands }
 
-pub clear_labels : (steps : ℕ) (signs : List Sign) → HasClearLabels (board steps signs) (behind_all first signs).x
-clear_labels steps signs =
-    clear_of (board steps signs) (behind_all first signs).x
+pub clear_labels : (name : Option InputName) (steps : ℕ) (signs : List Sign) → HasClearLabels (board name steps signs) (behind_all first signs).x
+clear_labels name steps signs =
+    clear_of (board name steps signs) (behind_all first signs).x
     (all_keep (body (behind_all first signs) signs)
-    (own_words steps (behind_all first signs).ticks (count_by is_drawn signs) (count_by is_left_out signs) (body (behind_all first signs) signs).unnamed)
+    (own_words (run_caption name steps (behind_all first signs).ticks) (count_by is_drawn signs) (count_by is_left_out signs) (body (behind_all first signs) signs).unnamed)
     (all_keep (put_all empty (strokes first signs)) (lasts (behind_all first signs).x (behind_all first signs).levels)
     (all_keep empty (strokes first signs) empty_keeps)))

@@ -1,6 +1,7 @@
 -- What labels say.
 use Rattle.std.specs.Prelude.{ℕ, ◌*◌, List, ◌++◌, length, codes, decimal}
 use Rattle.trace_forms.specs.Sentences.{asked_text, purpose_text, reply_text, sentence}
+use Rattle.trace_lanes.specs.InputNames.{name_text}
 use Rattle.trace_lanes.specs.Rows.{name}
 use Rattle.trace_lanes.specs.declared.caption.Caption.{Caption}
 use Rattle.trace_lanes.specs.declared.caption.Caption.TheVariants as captions
@@ -22,6 +23,7 @@ caption_text (captions.Answer purpose reply) = purpose_text purpose ++ reply_tex
 caption_text (captions.Waits steps ticks) = codes "waits " ++ (decimal steps ++ (codes " steps, " ++ (decimal ticks ++ codes " ticks")))
 caption_text (captions.Value value) = decimal value
 caption_text (captions.Run steps ticks) = codes "A run of " ++ (decimal steps ++ (codes " steps and " ++ (decimal ticks ++ codes " ticks")))
+caption_text (captions.NamedRun input steps ticks) = name_text input ++ (codes ": " ++ (decimal steps ++ (codes " steps and " ++ (decimal ticks ++ codes " ticks"))))
 caption_text (captions.Tally drawn left unnamed) = counts_text drawn left unnamed
 caption_text captions.Colors = COLORS.now
 caption_text captions.Symbols = SYMBOLS.now

@@ -2,6 +2,7 @@ pub mod Board
 pub mod Captions
 pub mod Course
 pub mod Drawn
+pub mod InputNames
 pub mod Laws
 pub mod Marks
 pub mod Page

@@ -1,5 +1,5 @@
 -- The page of the signs of a run.
-use Rattle.std.specs.Prelude.{ℕ, zero, suc, ◌+◌, ◌-◌, ◌==◌, max, Bool, false, List, [], ◌∷◌, ◌++◌, slice_index_or, codes, decimal, count_by, flat_map, if◌then◌else◌}
+use Rattle.std.specs.Prelude.{ℕ, zero, suc, ◌+◌, ◌-◌, ◌==◌, max, Bool, false, List, [], ◌∷◌, ◌++◌, slice_index_or, Option, Some, None, codes, decimal, count_by, flat_map, if◌then◌else◌}
 use Rattle.sign_kinds.specs.Sums.{sum_up}
 use Rattle.sign_kinds.specs.declared.signs.Sign.{Sign}
 use Rattle.trace_lanes.specs.Board.{Board, Stroke, Says, empty, put_all}
@@ -12,8 +12,10 @@ use Rattle.trace_lanes.specs.declared.board.Label.{Label}
 use Rattle.trace_lanes.specs.declared.board.Mark.{Mark}
 use Rattle.trace_lanes.specs.declared.board.Mark.TheVariants as marks
 use Rattle.trace_lanes.specs.declared.board.Shape.{Shape}
+use Rattle.trace_lanes.specs.declared.caption.Caption.{Caption}
 use Rattle.trace_lanes.specs.declared.caption.Caption.TheVariants as captions
 use Rattle.trace_lanes.specs.declared.course.Course.{Course}
+use Rattle.trace_lanes.specs.declared.input_name.InputName.{InputName}
 use Rattle.trace_lanes.specs.declared.page.TheConstants.{STYLE}
 use Rattle.trace_lanes.specs.declared.rows.Row.TheVariants as rows
 
@@ -54,21 +56,26 @@ lanes_text used (suc n) = lanes_text used n ++ lane_text used n
 
 -- ---- the page
 
+-- its title: the name of the input, if it has one, and how many steps and ticks the run has
+abbrev pub run_caption : Option InputName → ℕ → ℕ → Caption
+run_caption None steps ticks = captions.Run steps ticks
+run_caption (Some name) steps ticks = captions.NamedRun name steps ticks
+
 -- what the page says of itself, where so many labels had no room
-unfoldable pub own_words : ℕ → ℕ → ℕ → ℕ → ℕ → List Stroke
-own_words steps ticks drawn left unnamed =
-    Says rows.Title 6 20000000 (captions.Run steps ticks) ∷ Says rows.Colors 6 20000000 captions.Colors ∷ Says rows.Symbols 6 20000000 captions.Symbols
+unfoldable pub own_words : Caption → ℕ → ℕ → ℕ → List Stroke
+own_words run drawn left unnamed =
+    Says rows.Title 6 20000000 run ∷ Says rows.Colors 6 20000000 captions.Colors ∷ Says rows.Symbols 6 20000000 captions.Symbols
     ∷ Says rows.Tally 6 20000000 (captions.Tally drawn left unnamed) ∷ []
 
 -- all that signs put on it, and then what it says of itself
 abbrev pub body : Course → List Sign → Board
 body c signs = put_all (put_all empty (strokes first signs)) (lasts c.x c.levels)
 
-abbrev pub with_words : ℕ → ℕ → List Sign → Board → Board
-with_words steps ticks signs b = put_all b (own_words steps ticks (count_by is_drawn signs) (count_by is_left_out signs) b.unnamed)
+abbrev pub with_words : Caption → List Sign → Board → Board
+with_words run signs b = put_all b (own_words run (count_by is_drawn signs) (count_by is_left_out signs) b.unnamed)
 
-abbrev pub board : ℕ → List Sign → Board
-board steps signs = with_words steps (behind_all first signs).ticks signs (body (behind_all first signs) signs)
+abbrev pub board : Option InputName → ℕ → List Sign → Board
+board name steps signs = with_words (run_caption name steps (behind_all first signs).ticks) signs (body (behind_all first signs) signs)
 
 -- how wide and how high it is
 abbrev pub page_width : Board → ℕ → ℕ
@@ -88,6 +95,6 @@ board_text b = lanes_text b.used 40 ++ (layer_text b.used 0 b.shapes ++ (layer_t
 abbrev pub text_of : Board → ℕ → List ℕ
 text_of b end = opening (page_width b end) (page_height b) ++ (board_text b ++ codes "</svg>\n")
 
--- of the signs of a trace of so many steps
-abbrev pub page : ℕ → List Sign → List ℕ
-page steps signs = text_of (board steps signs) (behind_all first signs).x
+-- of the signs of a trace of so many steps, with the name of its input, if it has one
+abbrev pub page : Option InputName → ℕ → List Sign → List ℕ
+page name steps signs = text_of (board name steps signs) (behind_all first signs).x

@@ -1,6 +1,7 @@
 ghost use Rattle.std.specs.Prelude.{◌≡◌, Some};
 ghost use Rattle.trace_lanes.specs.Captions as spec;
 
+use crate::input_name::InputName;
 use crate::rows::Row;
 use bench_report::Purpose;
 use sign_kinds::{Asked, What};
@@ -53,6 +54,8 @@ pub enum Caption {
     Value(u32),
     /// A run of so many steps and so many ticks.
     Run(usize, u64),
+    /// A run of so many steps and so many ticks, of an input that has a name.
+    NamedRun(InputName, usize, u64),
     /// So many signs were drawn, so many shapes left out, and so many labels.
     Tally(usize, usize, usize),
     /// What the colors stand for.
@@ -88,6 +91,9 @@ impl fmt::Display for Caption {
             Caption::Waits(steps, ticks) => write!(f, "waits {steps} steps, {ticks} ticks"),
             Caption::Value(value) => write!(f, "{value}"),
             Caption::Run(steps, ticks) => write!(f, "A run of {steps} steps and {ticks} ticks"),
+            Caption::NamedRun(name, steps, ticks) => {
+                write!(f, "{name}: {steps} steps and {ticks} ticks")
+            }
             Caption::Tally(drawn, left, unnamed) => {
                 let counts = Counts(drawn, left, unnamed);
                 write!(f, "{counts}")

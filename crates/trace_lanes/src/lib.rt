@@ -6,10 +6,12 @@ mod board;
 mod caption;
 mod course;
 mod draw;
+mod input_name;
 mod laws;
 mod marks;
 mod page;
 mod rows;
 
+pub use input_name::InputName;
 pub use laws::keeps_labels_apart;
 pub use page::page_of;

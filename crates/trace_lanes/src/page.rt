@@ -9,6 +9,7 @@ use crate::board::{Board, Label, Mark, NO_LIMIT, Shape};
 use crate::caption::Caption;
 use crate::course::Course;
 use crate::draw::{is_drawn, is_left_out, put_lasts, put_signs};
+use crate::input_name::InputName;
 use crate::marks::{
     Point, Rectangle, Title, Words, class, drop_of, height_of, layer, second_class, symbol,
     symbol_drop,
@@ -246,22 +247,31 @@ fn left_out_in(signs: &[Sign]) -> usize
     count
 }
 
-/// Puts the words of the page itself: of how many steps and ticks it is, what colors and symbols stand for, and how many
-/// signs were drawn and left out.
+/// The title of a page.
+fn run_caption(name: Option<InputName>, steps: usize, ticks: u64) -> Caption
+    ensures { result ≡ spec.run_caption name steps ticks }
+{
+    match name {
+        Some(name) => Caption::NamedRun(name, steps, ticks),
+        None => Caption::Run(steps, ticks),
+    }
+}
+
+/// Puts the words of the page itself: its title, what colors and symbols stand for, and how many signs were drawn and
+/// left out.
 #[tactic(auto, unfolding(crate::specs::Page::own_words))]
 fn put_words(
     board: &mut Board,
     alloc: Global,
-    steps: usize,
-    ticks: u64,
+    run: Caption,
     drawn: usize,
     left: usize,
 ) -> Result<(), AllocError>
-    ensures { OnOk result (board.new ≡ all_put board.old (spec.own_words steps ticks drawn left board.old.unnamed)) }
+    ensures { OnOk result (board.new ≡ all_put board.old (spec.own_words run drawn left board.old.unnamed)) }
 {
     let unnamed = board.unnamed();
     let tally = Caption::Tally(drawn, left, unnamed);
-    board.say(alloc, Row::Title, 6, NO_LIMIT, Caption::Run(steps, ticks))?;
+    board.say(alloc, Row::Title, 6, NO_LIMIT, run)?;
     board.say(alloc, Row::Colors, 6, NO_LIMIT, Caption::Colors)?;
     board.say(alloc, Row::Symbols, 6, NO_LIMIT, Caption::Symbols)?;
     board.say(alloc, Row::Tally, 6, NO_LIMIT, tally)
@@ -302,9 +312,15 @@ fn text_of(alloc: Global, board: &Board, end: usize) -> Result<String, AllocErro
 
 /// The signs of a trace on a page, of so many steps: a row for each level and each handler's line that is used with bars
 /// for its frames, symbols for their steps and thin bars where the mask is closed; rows for errors, callbacks, held
-/// directives and ticks above, and for values that change and the script below.
-pub fn page_of(alloc: Global, steps: usize, signs: &[Sign]) -> Result<String, AllocError>
-    ensures { IfOk result (λ text. string_bytes text ≡ spec.page steps signs.now) }
+/// directives and ticks above, and for values that change and the script below. The name of the input stands in its
+/// title, if it has one.
+pub fn page_of(
+    alloc: Global,
+    name: Option<InputName>,
+    steps: usize,
+    signs: &[Sign],
+) -> Result<String, AllocError>
+    ensures { IfOk result (λ text. string_bytes text ≡ spec.page name steps signs.now) }
 {
     let mut board = Board::empty(alloc);
     let mut course = Course::first();
@@ -312,6 +328,7 @@ pub fn page_of(alloc: Global, steps: usize, signs: &[Sign]) -> Result<String, Al
     put_lasts(&mut board, alloc, &course.levels, course.x)?;
     let drawn = drawn_in(signs);
     let left = left_out_in(signs);
-    put_words(&mut board, alloc, steps, course.ticks, drawn, left)?;
+    let run = run_caption(name, steps, course.ticks);
+    put_words(&mut board, alloc, run, drawn, left)?;
     text_of(alloc, &board, course.x)
 }

@@ -2,11 +2,14 @@
 use Rattle.std.proofs.Common.{◌≡◌, ℕ, suc, ◌<◌, ◌≤◌, List, [], ◌∷◌, length, Option, Some, None, take, drop, refl, ap, arith}
 use Rattle.std.proofs.lemmas.List.Sums.{count_by-le-length}
 use Rattle.run_model.specs.Entry.{Entry, answer_at, order_at, said_at, entry_at, entries}
+use Rattle.run_model.specs.Packing.{items_of}
 use Rattle.run_model.specs.Stops.{is_step, steps_in}
 use Rattle.run_model.specs.declared.item.Hardware.{Hardware}
 use Rattle.run_model.specs.declared.item.Hardware.TheVariants as hardware
 use Rattle.run_model.specs.declared.item.Item.{Item}
 use Rattle.run_model.specs.declared.item.LoggedAnswer.{LoggedAnswer}
+use Rattle.run_model.specs.declared.kept.Kept.{Kept}
+use Rattle.run_model.specs.declared.kept.Rest.{Rest}
 use Rattle.run_model.specs.declared.item.What.{What}
 use Rattle.run_model.specs.declared.item.What.TheVariants as whats
 use Rattle.bench_report.specs.Numbers.{IsNumber, Each, AnswerFits, HappensFits, SaidFits, EntryFits}
@@ -34,12 +37,14 @@ entries_fit words (item ∷ items) w h = ((h.0.0, h.0.1, said_fits words item.wh
 
 -- ---- a journal has no more steps than items
 
-entries_counted : (words : List ℕ) (items : List Item) → length (entries words items) ≡ length items
-entries_counted words [] = refl
-entries_counted words (item ∷ items) = ap (λ (n : ℕ). suc n) (entries_counted words items)
+entries_counted : (words : List ℕ) (rests : List Rest) (ks : List Kept) → length (entries words (items_of rests ks)) ≡ length ks
+entries_counted words rests [] = refl
+entries_counted words rests (k ∷ ks) = ap (λ (n : ℕ). suc n) (entries_counted words rests ks)
 
 fewer : (a b c : ℕ) → a ≤ b → b ≡ c → c < 18446744073709551615 → a < 18446744073709551615
 fewer a b c h e k = omega (arith, h, e, k)
 
-pub few_steps : (words : List ℕ) (items : List Item) → length items < 18446744073709551615 → steps_in (entries words items) < 18446744073709551615
-few_steps words items h = fewer (steps_in (entries words items)) (length (entries words items)) (length items) (count_by-le-length (λ (e : Entry). is_step e.said) (entries words items)) (entries_counted words items) h
+pub few_steps : (words : List ℕ) (rests : List Rest) (ks : List Kept) → length ks < 18446744073709551615 → steps_in (entries words (items_of rests ks)) < 18446744073709551615
+few_steps words rests ks h =
+    let es = entries words (items_of rests ks) in
+    fewer (steps_in es) (length es) (length ks) (count_by-le-length (λ (e : Entry). is_step e.said) es) (entries_counted words rests ks) h

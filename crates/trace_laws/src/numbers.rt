@@ -1,12 +1,13 @@
 //! The numbers that a journal and a script hold, by their types.
 
 ghost use Rattle.std.specs.Prelude.{◌<◌, length};
+ghost use Rattle.run_model.specs.Packing.{items_of};
 ghost use Rattle.run_model.specs.Stops.{steps_in};
 ghost use Rattle.bench_report.specs.Numbers.{Each, IsNumber, EntryFits};
 ghost use Rattle.trace_laws.specs.Numbers.{DirectiveFits, ItemFits, OrderFits};
 
 use mcal_base::{Directive, Order};
-use run_model::{Item, Journal};
+use run_model::{Item, Journal, JournalLists, Kept};
 
 /// The numbers of an item.
 fn item_fits(item: Item)
@@ -25,12 +26,12 @@ fn words_fit(words: &[u32])
 }
 
 /// The items of a journal.
-fn items_fit(items: &[Item])
-    ensures { Each ItemFits items.now }
+fn items_fit(lists: &JournalLists<'_>)
+    ensures { Each ItemFits (items_of lists.now.rests.now lists.now.items.now) }
 {
-    let mut rest = items;
+    let mut rest = lists.items;
     while let [item, behind @ ..] = rest {
-        item_fits(*item);
+        item_fits(item.item(lists.rests));
         rest = behind;
     }
 }
@@ -71,12 +72,13 @@ pub(crate) fn script_fits(script: &[Directive])
 pub fn journal_fits(journal: &Journal)
     ensures { Each EntryFits journal.now.entries }
 {
-    words_fit(journal.words());
-    items_fit(journal.items());
+    let lists = journal.lists();
+    words_fit(lists.words);
+    items_fit(&lists);
 }
 
 /// Items are fewer than a drawing may count.
-fn few_items(items: &[Item])
+fn few_items(items: &[Kept])
     ensures { length items.now < 18446744073709551615 }
 {}
 
@@ -85,6 +87,5 @@ fn few_items(items: &[Item])
 pub fn few_steps(journal: &Journal)
     ensures { steps_in journal.now.entries < 18446744073709551615 }
 {
-    let _words = journal.words();
-    few_items(journal.items());
+    few_items(journal.lists().items);
 }

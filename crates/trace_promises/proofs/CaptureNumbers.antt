@@ -10,16 +10,16 @@ use Rattle.run_model.specs.Frame.{state_by}
 use Rattle.run_model.specs.Machine.{Happening, Acts, Serves, Starts, Aborts, Moves, Restarts}
 use Rattle.run_model.specs.World.{World}
 use Rattle.icu_driver.specs.Bounds.{icu_setting}
-use Rattle.icu_driver.specs.Checks.{error_by}
-use Rattle.icu_driver.specs.Edges.{Edge, is_same}
-use Rattle.icu_driver.specs.Machine.{IcuState, Capture, Stamp, untouched, capture_at, by_channel, with_capture, edge_queued, edge_taken, edge_at_pin, is_taken, moved, switched, cleared, cleared_all, channel_work, asked, work, acts_by, is_on, stamped, index, is_full, measured, completes, served_by, served_edge, served, ready, happens, stamp_in}
-use Rattle.icu_driver.specs.Table.{channel_of, channel_number, is_counter}
-use Rattle.icu_driver.specs.declared.call.Call.{Call}
-use Rattle.icu_driver.specs.declared.call.Call.TheVariants as calls
-use Rattle.icu_driver.specs.declared.call.ChannelCall.{ChannelCall}
-use Rattle.icu_driver.specs.declared.call.ChannelCall.TheVariants.{SetActivationCondition, EnableNotification, DisableNotification, GetInputState, EnableEdgeDetection, DisableEdgeDetection, ResetEdgeCount, EnableEdgeCount, DisableEdgeCount, GetEdgeNumbers, StartTimestamp, StopTimestamp, GetTimestampIndex, StartSignalMeasurement, StopSignalMeasurement, GetTimeElapsed, GetDutyCycleValues}
-use Rattle.icu_driver.specs.declared.driver.Channel.{Channel}
-use Rattle.icu_driver.specs.declared.driver.IcuDriver.{IcuDriver}
+use Rattle.icu_machine.specs.Checks.{error_by}
+use Rattle.icu_machine.specs.Edges.{Edge, is_same}
+use Rattle.icu_machine.specs.Machine.{IcuState, Capture, Stamp, untouched, capture_at, by_channel, with_capture, edge_queued, edge_taken, edge_at_pin, is_taken, moved, switched, cleared, cleared_all, channel_work, asked, work, acts_by, is_on, stamped, index, is_full, measured, completes, served_by, served_edge, served, ready, happens, stamp_in}
+use Rattle.icu_machine.specs.Table.{channel_of, channel_number, is_counter}
+use Rattle.icu_machine.specs.declared.call.Call.{Call}
+use Rattle.icu_machine.specs.declared.call.Call.TheVariants as calls
+use Rattle.icu_machine.specs.declared.call.ChannelCall.{ChannelCall}
+use Rattle.icu_machine.specs.declared.call.ChannelCall.TheVariants.{SetActivationCondition, EnableNotification, DisableNotification, GetInputState, EnableEdgeDetection, DisableEdgeDetection, ResetEdgeCount, EnableEdgeCount, DisableEdgeCount, GetEdgeNumbers, StartTimestamp, StopTimestamp, GetTimestampIndex, StartSignalMeasurement, StopSignalMeasurement, GetTimeElapsed, GetDutyCycleValues}
+use Rattle.icu_machine.specs.declared.table.Channel.{Channel}
+use Rattle.icu_machine.specs.declared.table.IcuTable.{IcuTable}
 use Rattle.bench_report.specs.Numbers.{IsNumber, Each}
 use Rattle.trace_laws.proofs.Within.{each_append}
 use Rattle.trace_promises.specs.Keeping.{WorldFits, HappeningFits, Keeps}
@@ -59,12 +59,12 @@ edge_fits : (k : Option Channel) (now pin : ℕ) (rising : Bool) (x : Capture) �
 edge_fits None now pin rising x h = h
 edge_fits (Some k) now pin rising x h = chosen CaptureFits (k.pin == pin) (edge_taken k now rising x) x (taken_by (not (is_taken k rising x)) (is_counter k.mode) now rising x h) h
 
-level_fits : (b : Bool) (d : IcuDriver) (w : World) (s : IcuState) (pin : ℕ) (high : Bool) → CapturesFit s →
+level_fits : (b : Bool) (d : IcuTable) (w : World) (s : IcuState) (pin : ℕ) (high : Bool) → CapturesFit s →
     CapturesFit (if b then s else record s { channels = by_channel (λ c. edge_at_pin (channel_of d c) w.now pin high (capture_at s c)) })
 level_fits true d w s pin high h = h
 level_fits false d w s pin high h = all_fit (λ c. edge_at_pin (channel_of d c) w.now pin high (capture_at s c)) s.initialised (λ c. edge_fits (channel_of d c) w.now pin high (capture_at s c) (h c))
 
-moved_fits : (d : IcuDriver) (w : World) (s : IcuState) (order : Order) → CapturesFit s → CapturesFit (moved d w s order)
+moved_fits : (d : IcuTable) (w : World) (s : IcuState) (order : Order) → CapturesFit s → CapturesFit (moved d w s order)
 moved_fits d w s (Level pin high) h = level_fits (is_same (w.levels pin) high) d w s pin high h
 moved_fits d w s _ h = h
 
@@ -98,15 +98,15 @@ asked_fits : (k : Option Channel) (s : IcuState) (c : ℕ) (call : ChannelCall) 
 asked_fits None s c call h = h
 asked_fits (Some k) s c call h = with_fits s c (channel_work call (capture_at s c)) h (work_fits call (capture_at s c) (h c))
 
-whole_fits : (d : IcuDriver) (s : IcuState) (initialised : Bool) → CapturesFit s → CapturesFit (cleared_all d s initialised)
+whole_fits : (d : IcuTable) (s : IcuState) (initialised : Bool) → CapturesFit s → CapturesFit (cleared_all d s initialised)
 whole_fits d s initialised h = all_fit (λ c. cleared (channel_of d c) (capture_at s c)) initialised (λ c. cleared_fits (channel_of d c) (capture_at s c) (h c))
 
-call_fits : (d : IcuDriver) (s : IcuState) (call : Call) → CapturesFit s → CapturesFit (work d s call).state
+call_fits : (d : IcuTable) (s : IcuState) (call : Call) → CapturesFit s → CapturesFit (work d s call).state
 call_fits d s calls.Init h = whole_fits d s true h
 call_fits d s calls.DeInit h = whole_fits d s false h
 call_fits d s (calls.Channel c call) h = asked_fits (channel_of d c) s c call h
 
-act_fits : (d : IcuDriver) (s : IcuState) (call : Call) (e : Option ErrorName) → CapturesFit s → CapturesFit (acts_by d s call e).state
+act_fits : (d : IcuTable) (s : IcuState) (call : Call) (e : Option ErrorName) → CapturesFit s → CapturesFit (acts_by d s call e).state
 act_fits d s call None h = call_fits d s call h
 act_fits d s call (Some e) h = h
 
@@ -133,13 +133,13 @@ edges_fit (Some k) s c (e ∷ es) h p = with_fits s c _ h (mode_fits k.mode k e 
 edges_fit (Some k) s c [] h p = h
 edges_fit None s c es h p = h
 
-serving_fits : (b : Bool) (d : IcuDriver) (s : IcuState) (c : ℕ) → CapturesFit s → CapturesFit (state_by s (if b then Some (served d s c) else None))
+serving_fits : (b : Bool) (d : IcuTable) (s : IcuState) (c : ℕ) → CapturesFit s → CapturesFit (state_by s (if b then Some (served d s c) else None))
 serving_fits true d s c h = edges_fit (channel_of d c) s c (capture_at s c).waiting h (h c).0
 serving_fits false d s c h = h
 
 -- ---- the machine
 
-stays : (d : IcuDriver) (w : World) (s : IcuState) (x : Happening Call) → WorldFits w → HappeningFits x → CapturesFit s → CapturesFit (state_by s (happens d w s x))
+stays : (d : IcuTable) (w : World) (s : IcuState) (x : Happening Call) → WorldFits w → HappeningFits x → CapturesFit s → CapturesFit (state_by s (happens d w s x))
 stays d w s (Acts call committed) v f h = act_fits d s call (error_by d call (not s.initialised) (is_on s call)) h
 stays d w s (Serves l received) v f h = serving_fits (ready d w s l) d s (channel_number l) h
 stays d w s (Starts u made_by received) v f h = h
@@ -147,7 +147,7 @@ stays d w s (Aborts u) v f h = h
 stays d w s (Moves order) v f h = moved_fits d w s order h
 stays d w s (Restarts reason) v f h = λ c. at_place CaptureFits [] c untouched tt untouched_fits
 
-pub captures_keep : (d : IcuDriver) → Keeps (icu_setting d) CapturesFit
+pub captures_keep : (d : IcuTable) → Keeps (icu_setting d) CapturesFit
 captures_keep d = record { first = λ c. at_place CaptureFits [] c untouched tt untouched_fits; stays = stays d }
 
 -- what is shown

@@ -8,14 +8,14 @@ use Rattle.run_model.specs.Frame.{state_by}
 use Rattle.run_model.specs.Machine.{Happening, Acts, Serves, Starts, Aborts, Moves, Restarts}
 use Rattle.run_model.specs.World.{World}
 use Rattle.mcu_driver.specs.Bounds.{mcu_setting}
-use Rattle.mcu_driver.specs.Checks.{error_by}
-use Rattle.mcu_driver.specs.Machine.{McuState, Pll, is_locked, clocked, distributed, fills_with, word_in, ram_at, work, acts_by, happens}
-use Rattle.mcu_driver.specs.Table.{driver_of, multiplier_of, section_in, section_of, is_within}
-use Rattle.mcu_driver.specs.declared.call.Call.{Call}
-use Rattle.mcu_driver.specs.declared.call.Call.TheVariants.{Init, InitRamSection, Clock, GetPllStatus, GetResetReason, PerformReset, SetMode}
-use Rattle.mcu_driver.specs.declared.call.ClockCall.TheVariants.{InitClock, DistributePllClock}
-use Rattle.mcu_driver.specs.declared.driver.McuDriver.{McuDriver}
-use Rattle.mcu_driver.specs.declared.driver.Section.{Section}
+use Rattle.mcu_machine.specs.Checks.{error_by}
+use Rattle.mcu_machine.specs.Machine.{McuState, Pll, is_locked, clocked, distributed, fills_with, word_in, ram_at, work, acts_by, happens}
+use Rattle.mcu_machine.specs.Table.{table_of, multiplier_of, section_in, section_of, is_within}
+use Rattle.mcu_machine.specs.declared.call.Call.{Call}
+use Rattle.mcu_machine.specs.declared.call.Call.TheVariants.{Init, InitRamSection, Clock, GetPllStatus, GetResetReason, PerformReset, SetMode}
+use Rattle.mcu_machine.specs.declared.call.ClockCall.TheVariants.{InitClock, DistributePllClock}
+use Rattle.mcu_machine.specs.declared.table.McuTable.{McuTable}
+use Rattle.mcu_machine.specs.declared.table.Section.{Section}
 use Rattle.bench_report.specs.Numbers.{IsNumber, Each}
 use Rattle.trace_promises.specs.Keeping.{WorldFits, HappeningFits, Keeps}
 use Rattle.trace_promises.specs.Numbers.{SectionFits, FillFits, ClockFits}
@@ -32,12 +32,12 @@ small_in [] (suc n) h = tt
 small_in (x ∷ xs) zero h = h.0
 small_in (x ∷ xs) (suc n) h = small_in xs n h.1
 
-pub small_sections : (g : McuConfig) → Each SectionFits g.ram_sections → (n : ℕ) → Small (section_of (driver_of g) n)
+pub small_sections : (g : McuConfig) → Each SectionFits g.ram_sections → (n : ℕ) → Small (section_of (table_of g) n)
 small_sections g h n =
     let small = λ (k : ℕ). small_in g.ram_sections k h in
-    chosen Small (nat_lt n 8) (slice_index_or (driver_of g).sections n None) None (at_place Small (driver_of g).sections n None (small 0, (small 1, (small 2, (small 3, (small 4, (small 5, (small 6, (small 7, tt)))))))) tt) tt
+    chosen Small (nat_lt n 8) (slice_index_or (table_of g).sections n None) None (at_place Small (table_of g).sections n None (small 0, (small 1, (small 2, (small 3, (small 4, (small 5, (small 6, (small 7, tt)))))))) tt) tt
 
-module _ (d : McuDriver) (small : (n : ℕ) → Small (section_of d n)) where
+module _ (d : McuTable) (small : (n : ℕ) → Small (section_of d n)) where
   fill_fits : (o : Option Section) (xs : List Section) → Small o → Each FillFits xs → Each FillFits (fills_with o xs)
   fill_fits None xs k h = h
   fill_fits (Some x) xs k h = (k, h)

@@ -11,9 +11,9 @@ use Rattle.run_model.specs.Entry.{Entry}
 use Rattle.run_model.specs.Moment.{Setting, start_moment}
 use Rattle.run_model.specs.World.{World}
 use Rattle.script_runner.specs.Scripts.{chip_for}
-use Rattle.mcu_driver.specs.Table as clock_table
-use Rattle.pwm_driver.specs.Table as pulse_table
-use Rattle.icu_driver.specs.Table as capture_table
+use Rattle.mcu_machine.specs.Table as clock_table
+use Rattle.pwm_machine.specs.Table as pulse_table
+use Rattle.icu_machine.specs.Table as capture_table
 use Rattle.adc_machine.specs.Machine.{chosen_buffer}
 use Rattle.adc_machine.specs.Table as converter_table
 use Rattle.adc_machine.specs.Words.{buffer_number, place_count}
@@ -24,11 +24,11 @@ use Rattle.spi_machine.specs.Numbered.{word_at}
 use Rattle.spi_machine.specs.State.{channel_at, internal_word, wire_at}
 use Rattle.spi_machine.specs.Table as serial_table
 use Rattle.chip_model.specs.Wiring.{wiring_of}
-use Rattle.dio_driver.specs.Machine.{does_by}
-use Rattle.dio_driver.specs.Table as port_table
-use Rattle.dio_driver.specs.declared.access.PortPins.{PortPins}
-use Rattle.dio_driver.specs.declared.call.Call as port_calls
-use Rattle.dio_driver.specs.declared.call.Call.TheVariants as port_call
+use Rattle.dio_machine.specs.Machine.{does_by}
+use Rattle.dio_machine.specs.Table as port_table
+use Rattle.dio_machine.specs.declared.table.PortPins.{PortPins}
+use Rattle.dio_machine.specs.declared.call.Call as port_calls
+use Rattle.dio_machine.specs.declared.call.Call.TheVariants as port_call
 use Rattle.bench_report.specs.Numbers.{IsNumber, Each}
 use Rattle.bench_report.specs.Rows.{Row}
 use Rattle.bench_report.specs.declared.rows.RowName.{RowName}
@@ -127,7 +127,7 @@ keeps_two : {S T C D : Type 0} {P : S → Type 0} {Q : T → Type 0} (g : Settin
 keeps_two {P = P} {Q = Q} g h a b = keeps_both P Q g.used g h a b
 
 -- what channels and ports make of a state has its numbers still
-port_fits : (c : Config) (w : World) (s : SystemState) (call : port_calls.Call) (pins : Option PortPins) → StateFits s → StateFits (does_by (host_pins (pulse_table.driver_of c.pwm) (wiring_of c).outputs) w s call pins).state
+port_fits : (c : Config) (w : World) (s : SystemState) (call : port_calls.Call) (pins : Option PortPins) → StateFits s → StateFits (does_by (host_pins (pulse_table.table_of c.pwm) (wiring_of c).outputs) w s call pins).state
 port_fits c w s call None k = k
 port_fits c w s (port_call.ReadChannel n) (Some pins) k = k
 port_fits c w s (port_call.WriteChannel n high) (Some pins) k = k
@@ -140,8 +140,8 @@ port_fits c w s (port_call.WriteChannelGroup n value) (Some pins) k = k
 state_keeps : (c : Config) → ConfigFits c → Keeps (system_setting c) StateFits
 unfolding system_setting
 state_keeps c v =
-    let clock = clock_keeps (clock_table.driver_of c.mcu) (small_sections c.mcu v.small) in
-    let captures = captures_keep (capture_table.driver_of c.icu) in
+    let clock = clock_keeps (clock_table.table_of c.mcu) (small_sections c.mcu v.small) in
+    let captures = captures_keep (capture_table.table_of c.icu) in
     let converter = converter_keeps (converter_table.table_of c.adc) in
     let serial = serial_keeps (serial_table.table_of c.spi) (small_channels c.spi v.defaults) in
     let timed = joined (pin_setting c) (timer_setting c) in
@@ -155,7 +155,7 @@ state_keeps c v =
       first = (kept.first.0.0.0, kept.first.1.0.1, kept.first.1.1.0, kept.first.1.1.1);
       stays = λ w s h v f k. let x = kept.stays w s h v f (((k.0, tt), tt), ((tt, k.1), (k.2, k.3))) in (x.0.0.0, x.1.0.1, x.1.1.0, x.1.1.1);
     } in
-    keeps_guest StateFits (host_setting c) (port_guest c) host (λ w s call k. port_fits c w s call (port_table.pins_of (port_table.driver_of c.port c.dio) call) k)
+    keeps_guest StateFits (host_setting c) (port_guest c) host (λ w s call k. port_fits c w s call (port_table.pins_of (port_table.table_of c.port c.dio) call) k)
 
 -- what is shown of a run has numbers of 32 bits
 pub shows_fit : (devices : ℕ) (c : Config) (script : List Directive) (es : List Entry) → ConfigFits c → Each BringsNumbers es → Each RowsFit (shows_of devices c script es)

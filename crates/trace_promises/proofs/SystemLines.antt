@@ -11,9 +11,9 @@ use Rattle.step_runner.specs.declared.either.Either.{Either}
 use Rattle.step_runner.specs.declared.either.Either.TheVariants.{Left, Right}
 use Rattle.guest_runner.specs.Guest.{Guest, guest_setting}
 use Rattle.mcal_system.specs.Setting.{clock_setting, watchdog_setting, pin_setting, timer_setting, pulse_setting, capture_setting, converter_setting, serial_setting, joined, host_setting, port_guest, system_setting}
-use Rattle.gpt_driver.specs.Table as timer_table
-use Rattle.pwm_driver.specs.Table as pulse_table
-use Rattle.icu_driver.specs.Table as capture_table
+use Rattle.gpt_machine.specs.Table as timer_table
+use Rattle.pwm_machine.specs.Table as pulse_table
+use Rattle.icu_machine.specs.Table as capture_table
 use Rattle.adc_machine.specs.Bounds.{group_of_input}
 use Rattle.adc_machine.specs.Machine.{is_unit_line, is_trigger_line}
 use Rattle.adc_machine.specs.Table as converter_table
@@ -57,19 +57,19 @@ pin_lines c = record { used = λ line e. cc; polled = λ w s call line e. cc }
 
 timer_lines : (c : Config) → HasLines (timer_setting c)
 timer_lines c = record {
-  used = λ line e. let lt = below line 8 (slice_index_or (timer_table.driver_of c.gpt).channels line None) e in omega (arith, lt);
+  used = λ line e. let lt = below line 8 (slice_index_or (timer_table.table_of c.gpt).channels line None) e in omega (arith, lt);
   polled = λ w s call line e. cc;
 }
 
 pulse_lines : (c : Config) → HasLines (pulse_setting c)
 pulse_lines c = record {
-  used = λ line e. let lt = from line 8 8 (slice_index_or (pulse_table.driver_of c.pwm).channels (line - 8) None) e in omega (arith, lt);
+  used = λ line e. let lt = from line 8 8 (slice_index_or (pulse_table.table_of c.pwm).channels (line - 8) None) e in omega (arith, lt);
   polled = λ w s call line e. cc;
 }
 
 capture_lines : (c : Config) → HasLines (capture_setting c)
 capture_lines c = record {
-  used = λ line e. let lt = from line 16 8 (slice_index_or (capture_table.driver_of c.icu).channels (line - 16) None) e in omega (arith, lt);
+  used = λ line e. let lt = from line 16 8 (slice_index_or (capture_table.table_of c.icu).channels (line - 16) None) e in omega (arith, lt);
   polled = λ w s call line e. cc;
 }
 

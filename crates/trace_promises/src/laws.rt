@@ -2,6 +2,7 @@ ghost use Rattle.std.specs.Prelude.{◌≡◌, ℕ, List, Some, None};
 ghost use Rattle.mcal_base.specs.declared.config.whole.Config.{Config};
 ghost use Rattle.mcal_base.specs.declared.directive.Directive.{Directive};
 ghost use Rattle.run_model.specs.Entry.{Entry};
+ghost use Rattle.run_model.specs.Packing.{items_of};
 ghost use Rattle.mcal_config.specs.Whole.{fault_of, record_of};
 ghost use Rattle.mcal_system.specs.Setting.{system_setting};
 ghost use Rattle.bench_top.specs.Runs.{shows_of};
@@ -14,7 +15,7 @@ ghost use Rattle.trace_laws.specs.Numbers.{RowsFit};
 ghost use Rattle.trace_promises.specs.Numbers.{BringsNumbers, ConfigFits, ItemBrings};
 ghost use Rattle.trace_promises.specs.Viewed.{IsViewed};
 
-use run_model::{Item, Journal};
+use run_model::{Item, Journal, JournalLists};
 use trace_laws::{few_steps, journal_fits};
 
 /// What a trace asks of its run holds of the runs of all modules: the lines that they use and poll are those of a chip,
@@ -43,12 +44,12 @@ fn level_fits(item: Item)
 {}
 
 /// The levels that the items of a journal bring for analog inputs.
-fn levels_fit(items: &[Item])
-    ensures { Each ItemBrings items.now }
+fn levels_fit(lists: &JournalLists<'_>)
+    ensures { Each ItemBrings (items_of lists.now.rests.now lists.now.items.now) }
 {
-    let mut rest = items;
+    let mut rest = lists.items;
     while let [item, behind @ ..] = rest {
-        level_fits(*item);
+        level_fits(item.item(lists.rests));
         rest = behind;
     }
 }
@@ -59,8 +60,9 @@ pub fn brings_numbers(journal: &Journal)
     ensures { Each BringsNumbers journal.now.entries }
 {
     journal_fits(journal);
-    words_fit(journal.words());
-    levels_fit(journal.items());
+    let lists = journal.lists();
+    words_fit(lists.words);
+    levels_fit(&lists);
 }
 
 /// The trace of each bench file that `bench` runs to its end with `--trace` is read as what its lines tell, and drawn,

@@ -22,7 +22,7 @@ use Rattle.mcal_base.specs.Reach.{CanApply}
 use Rattle.run_model.specs.declared.class.Tag.{Tag}
 use Rattle.run_model.specs.World.{World}
 use Rattle.run_model.specs.Machine.{ErrorLeaves, outcome, tells_nothing}
-use Rattle.run_model.specs.Frame.{Origin, Called, Open, opened, is_shared}
+use Rattle.run_model.specs.Frame.{Origin, Called, Open, opened, is_shared, is_wait}
 use Rattle.step_runner.specs.Driver.{origins_in, IsFree, IsLawful, KeepsStep, stepped}
 use Rattle.step_runner.specs.Union.{AreApart, union_of}
 use Rattle.step_runner.proofs.Apart.{apart-second}
@@ -138,6 +138,10 @@ module _ (word : ℕ) (fits : word < SOURCES) where
   own_of : (f : CellFrame) (o : Open CellCall) (ps : List (CellFrame × Open CellCall)) → AllNew word ((f, o) ∷ ps) → is_shared (cell_move f) || names word (cell_move f) ≡ true
   own_of f o ps (New_frame c tag qs new) = call_own word c
 
+  -- it waits for nothing, and never closes the mask
+  waits_of : (f : CellFrame) (o : Open CellCall) (ps : List (CellFrame × Open CellCall)) → AllNew word ((f, o) ∷ ps) → is_wait (cell_move f) ≡ true → o.inside ≡ false
+  waits_of f o ps (New_frame c tag qs new) waits = refl
+
   open_of : (f : CellFrame) (o : Open CellCall) (ps : List (CellFrame × Open CellCall)) → AllNew word ((f, o) ∷ ps) → o.inside ≡ true → 0 < 0
   open_of f o ps (New_frame c tag qs new) closed = cc
 
@@ -149,6 +153,7 @@ module _ (word : ℕ) (fits : word < SOURCES) where
     steps = λ chip w f o ps s received come few masked out h. steps_of chip w f o ps s received h.all h.value h.frames;
     there = λ chip w f o ps s h. there_of f o ps h.frames;
     own = λ chip w f o ps s h. own_of f o ps h.frames;
+    opens = λ chip w f o ps s h. waits_of f o ps h.frames;
     lasts = λ f. omega arith;
     roomy = λ chip w f o ps s h closed. open_of f o ps h.frames closed;
     moves = λ chip w ps s order free out h. let there = fills_there word (is_masked chip) w s (origins_in ps) order free in (outcome s tells_nothing, refl, record { all = all-step chip (Hardware order) there h.all; value = word_event chip word order fits h.all there ∙ h.value; frames = h.frames });

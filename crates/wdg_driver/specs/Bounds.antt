@@ -1,21 +1,16 @@
--- Which calls may begin over which, the bounds of their frames, what frames may name, and what a run of the driver is over.
+-- The bounds of frames, what frames may name, and what a run of the driver is over.
 use Rattle.std.specs.Prelude.{ℕ, nat_lt, Bool, true, false, ◌&&◌, not, [], None}
 use Rattle.mcal_base.specs.declared.module_name.ModuleName.TheVariants.{Wdg}
 use Rattle.mcal_base.specs.declared.moves.Move.{Move}
 use Rattle.mcal_base.specs.declared.moves.Move.TheVariants.{Read, Write, Load, Store}
 use Rattle.mcal_base.specs.declared.register.Reg.{Reg}
 use Rattle.mcal_base.specs.declared.register.Reg.TheVariants.{WatchdogLoad}
-use Rattle.run_model.specs.declared.class.Class.{Class}
-use Rattle.run_model.specs.declared.class.Kind.TheVariants.{Exclusive}
 use Rattle.run_model.specs.Moment.{Setting}
 use Rattle.service_outline.specs.There.{names_there}
-use Rattle.wdg_driver.specs.Machine.{WdgState, first_state, wdg_machine}
-use Rattle.wdg_driver.specs.declared.call.Call.{Call}
-use Rattle.wdg_driver.specs.declared.driver.WdgDriver.{WdgDriver}
-
--- the class of a call: each is alone in its module
-abbrev pub class_of : Call → Class
-class_of call = record { kind = Exclusive; «module» = Wdg; key = None }
+use Rattle.wdg_machine.specs.Machine.{WdgState, first_state, wdg_machine}
+use Rattle.wdg_machine.specs.declared.call.Call.{Call}
+use Rattle.wdg_machine.specs.declared.table.WdgTable.{WdgTable}
+use Rattle.wdg_machine.specs.Classes.{class_of}
 
 -- the register of the watchdog
 abbrev pub is_register : Reg → Bool
@@ -39,7 +34,7 @@ abbrev pub may : Move → Bool
 may made = owns made && names_there made
 
 -- what a run of the driver is over
-abbrev pub wdg_setting : WdgDriver → Setting WdgState Call
+abbrev pub wdg_setting : WdgTable → Setting WdgState Call
 wdg_setting d = record {
   machine = wdg_machine d;
   first = first_state;

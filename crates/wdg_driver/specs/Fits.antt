@@ -3,8 +3,8 @@ use Rattle.std.proofs.Common.{◌≡◌, ℕ, ◌<◌, Bool, true, false, nat_lt
 use Rattle.std.specs.Prelude.{if◌then◌else◌}
 use Rattle.std.proofs.lemmas.Bool.Decides.{nat_tests}
 use Rattle.mcal_base.specs.declared.config.wdg.WdgConfig.{WdgConfig}
-use Rattle.wdg_driver.specs.Table.{driver_of, FitsWdg}
-use Rattle.wdg_driver.specs.Words.{narrow}
+use Rattle.wdg_machine.specs.Table.{table_of, FitsWdg}
+use Rattle.wdg_machine.specs.Numbers.{narrow}
 
 narrow_few : (n : ℕ) → narrow n < 65536
 narrow_few n = by (nat_lt n 65536) refl
@@ -13,5 +13,5 @@ narrow_few n = by (nat_lt n 65536) refl
     by true e = grind (arith, nat_tests)
     by false e = omega arith
 
-pub fits_of : (g : WdgConfig) → FitsWdg (driver_of g)
+pub fits_of : (g : WdgConfig) → FitsWdg (table_of g)
 fits_of g = record { initial = narrow_few g.initial_ticks; most = narrow_few g.max_ticks }

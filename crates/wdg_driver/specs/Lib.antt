@@ -1,9 +1,5 @@
-pub mod Words
-pub mod Table
-pub mod Checks
-pub mod Machine
 pub mod Bounds
-pub mod Refinement
-pub mod Requests
 pub mod Fits
+pub mod Refinement
+pub mod Words
 pub mod laws

@@ -6,10 +6,10 @@ use Rattle.run_model.specs.World.{World}
 use Rattle.run_model.specs.Outside.{StandsIn}
 use Rattle.service_outline.specs.Outline.{Refinement}
 use Rattle.wdg_driver.specs.Bounds.{owns, wdg_setting}
-use Rattle.wdg_driver.specs.Machine.{WdgState}
+use Rattle.wdg_machine.specs.Machine.{WdgState}
 use Rattle.wdg_driver.specs.Words.{state_word}
-use Rattle.wdg_driver.specs.declared.call.Call.{Call}
-use Rattle.wdg_driver.specs.declared.driver.WdgDriver.{WdgDriver}
+use Rattle.wdg_machine.specs.declared.call.Call.{Call}
+use Rattle.wdg_machine.specs.declared.table.WdgTable.{WdgTable}
 use Rattle.wdg_driver.specs.declared.words.TheConstants.{STATE, TIMEOUT}
 
 -- what the top frame may have under work: words that are behind the machine's state, after the act
@@ -41,7 +41,7 @@ pub record WdgRepresents (gap : Lag) (chip : Chip) (w : World) (s : WdgState) : 
   pub few : s.timeout < 65536
 
 -- what all services of the driver stand on
-abbrev pub wdg_ground : WdgDriver → Refinement WdgState Call
+abbrev pub wdg_ground : WdgTable → Refinement WdgState Call
 wdg_ground d = record {
   setting = wdg_setting d;
   wired = λ chip. Unit {0};

@@ -1,8 +1,8 @@
 -- What stands in the driver words of the module and in the register, and numbers of 16 bits.
-use Rattle.std.specs.Prelude.{ℕ, ◌*◌, ◌==◌, nat_lt, max, if◌then◌else◌, Option, Some, None}
+use Rattle.std.specs.Prelude.{ℕ, ◌*◌, ◌==◌, max, if◌then◌else◌, Option, Some, None}
 use Rattle.mcal_base.specs.declared.config.wdg.WdgMode.{WdgMode}
 use Rattle.mcal_base.specs.declared.config.wdg.WdgMode.TheVariants.{Off, Slow, Fast}
-use Rattle.wdg_driver.specs.declared.timing.Timing.{Timing}
+use Rattle.wdg_machine.specs.declared.table.Timing.{Timing}
 
 -- the word of an initialised module's mode, and of the state, uninitialised or not
 abbrev pub mode_word : WdgMode → ℕ
@@ -17,10 +17,6 @@ state_word (Some m) = mode_word m
 -- the mode in the word of an initialised module
 abbrev pub mode_in : ℕ → WdgMode
 mode_in n = if n == 2 then Slow else (if n == 3 then Fast else Off)
-
--- the number, where it has at most 16 bits
-abbrev pub narrow : ℕ → ℕ
-narrow n = if nat_lt n 65536 then n else 0
 
 -- what is written to the register: the ticks of the oscillator, at least one, and 0 in the off mode
 abbrev pub load_by : WdgMode → ℕ → ℕ

@@ -1,48 +1,47 @@
 ghost use Rattle.std.specs.Prelude.{◌≡◌};
 ghost use Rattle.service_outline.specs.Done.{owed_error};
-ghost use Rattle.wdg_driver.specs.Checks.{reporting};
-ghost use Rattle.wdg_driver.specs.Table as spec;
+ghost use Rattle.wdg_machine.specs.Checks.{reporting};
+ghost use Rattle.wdg_machine.specs.Table as spec;
 
-use crate::timing::{Timing, narrow};
-use mcal_base::{Config, ErrorName, Service, WdgMode};
+use mcal_base::{Config, ErrorName, Service};
 use service_outline::Epilogue;
+use std::marker::Model;
+use std::ops::Deref;
+use wdg_machine::WdgTable;
 
-/// The driver: what it keeps of a configuration.
+/// The driver: what it keeps of a configuration, and no more. Contracts see its table.
 #[derive(Clone, Copy)]
 pub struct WdgDriver {
-    /// `WdgDevErrorDetect`.
-    pub detect: bool,
-    /// `WdgDefaultMode` and `InitialTicks`: the mode and the timeout after `Wdg_Init`.
-    pub initial: Timing,
-    /// `WdgDisableAllowed`: whether `Wdg_SetMode` may set the off mode.
-    pub disable_allowed: bool,
-    /// `MaxTicks`: the largest timeout.
-    pub max_ticks: u16,
+    table: WdgTable,
+}
+
+impl Model for WdgDriver {
+    ghost use Rattle.wdg_machine.specs.declared.table.WdgTable.{WdgTable};
+
+    ghost Value = { WdgTable };
+
+    ghost view = { λ driver. driver.table };
+
+    ghost inverse = { λ table. record { table = table } };
+}
+
+impl Deref for WdgDriver {
+    type Target = WdgTable;
+
+    ghost deref_gives = { λ driver table. table ≡ driver };
+
+    fn deref(&self) -> &WdgTable {
+        &self.table
+    }
 }
 
 impl WdgDriver {
     /// The driver under a configuration. It takes no memory.
     pub fn new(config: &Config) -> WdgDriver
-        ensures { result ≡ spec.driver_of config.now.wdg }
+        ensures { result ≡ spec.table_of config.now.wdg }
     {
         WdgDriver {
-            detect: config.wdg.dev_error_detect,
-            initial: Timing {
-                mode: config.wdg.default_mode,
-                timeout: narrow(config.wdg.initial_ticks),
-            },
-            disable_allowed: config.wdg.disable_allowed,
-            max_ticks: narrow(config.wdg.max_ticks),
-        }
-    }
-
-    /// Whether `Wdg_SetMode` may set this mode.
-    pub fn allows(&self, mode: WdgMode) -> bool
-        ensures { result ≡ spec.allows self.now mode }
-    {
-        match mode {
-            WdgMode::Off => self.disable_allowed,
-            WdgMode::Slow | WdgMode::Fast => true,
+            table: WdgTable::new(config),
         }
     }
 

@@ -1,5 +1,4 @@
 use crate::asked::Asked;
-use crate::call::Call;
 use crate::driver::WdgDriver;
 use crate::service::WdgBody;
 use chip_model::Bus;
@@ -8,6 +7,7 @@ use run_model::Class;
 use service_outline::Short;
 use std::marker::Model;
 use step_runner::Module;
+use wdg_machine::Call;
 
 /// A call of the driver, under way.
 pub type WdgFrame = Short<Asked, WdgBody>;
@@ -16,7 +16,7 @@ pub type WdgFrame = Short<Asked, WdgBody>;
 pub struct WdgMachine;
 
 impl Model for WdgMachine {
-    ghost use Rattle.wdg_driver.specs.Machine.{WdgState, first_state};
+    ghost use Rattle.wdg_machine.specs.Machine.{WdgState, first_state};
 
     ghost Value = { WdgState };
 

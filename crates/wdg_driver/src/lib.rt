@@ -5,17 +5,14 @@
 #![tactic(auto)]
 
 mod asked;
-mod call;
+mod caller;
 mod driver;
 mod frames;
-mod request;
 mod service;
 mod timing;
 mod words;
 
 pub use asked::Asked;
-pub use call::Call;
 pub use driver::WdgDriver;
 pub use frames::{WdgFrame, WdgMachine};
 pub use service::{Says, WdgBody};
-pub use timing::Timing;

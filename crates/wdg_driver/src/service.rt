@@ -1,10 +1,11 @@
 ghost use Rattle.std.specs.Prelude.{◌≡◌};
 ghost use Rattle.wdg_driver.specs.laws.Body as spec;
 
-use crate::timing::{Timing, narrow, state_word};
+use crate::timing::{load, state_word};
 use crate::words::{STATE, TIMEOUT};
 use mcal_base::{AnswerName, Move, Reg, WdgMode};
 use service_outline::{Body, BodyTaken, Epilogue, Reply, acts, ends, goes, named, nothing};
+use wdg_machine::{Timing, narrow};
 
 /// What a call answers that has started the watchdog.
 #[derive(Clone, Copy)]
@@ -39,7 +40,7 @@ impl Body for WdgBody {
     fn next(&self) -> Move {
         match *self {
             WdgBody::Look(_) => Move::Load(TIMEOUT),
-            WdgBody::Start(timing, _) => Move::Write(Reg::WatchdogLoad, timing.load()),
+            WdgBody::Start(timing, _) => Move::Write(Reg::WatchdogLoad, load(&timing)),
             WdgBody::KeepMode(timing, _) => Move::Store(STATE, state_word(timing.mode)),
             WdgBody::KeepTimeout(timing, _) => Move::Store(TIMEOUT, timing.timeout as u32),
         }

@@ -9,8 +9,7 @@ use Rattle.mcal_base.specs.declared.error_name.ErrorName.{ErrorName}
 use Rattle.mcal_base.specs.declared.service.Service.TheVariants.{AdcReadGroup}
 use Rattle.run_model.specs.Frame.{state_by}
 use Rattle.run_model.specs.World.{World, with_at}
-use Rattle.run_model.specs.Machine.{Happening, Acts, Serves, Starts, Aborts, Moves, Restarts, Outcome, outcome, tells_nothing}
-use Rattle.service_outline.specs.Done.{named_with}
+use Rattle.run_model.specs.Machine.{Happening, Acts, Serves, Starts, Aborts, Moves, Restarts, Outcome, outcome, tells_nothing, named_with}
 use Rattle.adc_machine.specs.Checks.{error_by}
 use Rattle.adc_machine.specs.Groups.{Status, Idle, Busy, Completed, StreamCompleted, GroupState, Round, Results, is_idle, newest, values_of, is_continuous, is_full, place_in, samples_of, stored_from, is_same, with_round_of, trigger_input, held_in}
 use Rattle.adc_machine.specs.Machine.{adc_machine, acts, acts_by, circumstances, happens, ready, reads, served, served_round, served_values, after_round, is_unit_line, with_values}

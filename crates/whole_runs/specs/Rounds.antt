@@ -1,8 +1,7 @@
 -- Whole rounds: what a read hands out, and what changes the places of buffers and the newest round of a group.
 use Rattle.std.specs.Prelude.{◌≡◌, ℕ, ◌-◌, ◌/◌, ◌<◌, true, false, ◌||◌, cond, List, [], ◌∷◌, ◌++◌, Contains, length, take, drop, Option, Some, None}
 use Rattle.mcal_base.specs.declared.answer_name.AnswerName.TheVariants.{EOk}
-use Rattle.run_model.specs.Machine.{Happening, Acts}
-use Rattle.service_outline.specs.Done.{named_with}
+use Rattle.run_model.specs.Machine.{Happening, Acts, named_with}
 use Rattle.adc_machine.specs.Groups.{inputs_of, suspends, levels_from, held_in}
 use Rattle.adc_machine.specs.Table.{group_of}
 use Rattle.adc_machine.specs.declared.call.Call.{Call}

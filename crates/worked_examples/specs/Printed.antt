@@ -9,7 +9,7 @@ use Rattle.mcal_base.specs.declared.moves.Move.TheVariants.{Read, Unmask}
 use Rattle.mcal_base.specs.declared.register.Reg.TheVariants.{TimerLow}
 use Rattle.mcal_base.specs.declared.service.Service.TheVariants.{GptGetTimeElapsed}
 use Rattle.run_model.specs.Entry.{Entry, Happens, Begins, Stays, Steps}
-use Rattle.service_outline.specs.Done.{number}
+use Rattle.run_model.specs.Machine.{number}
 
 -- a timer is asked, time goes on, and a line is served that isn't pending
 abbrev pub small_script : List Directive

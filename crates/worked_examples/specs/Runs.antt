@@ -7,32 +7,31 @@ use Rattle.mcal_base.specs.declared.notice.NoticeKind.{NoticeKind}
 use Rattle.run_model.specs.declared.class.Tag.{Tag}
 use Rattle.run_model.specs.Moment.{line_tag, call_tag}
 use Rattle.run_model.specs.World.{World, world_start, world_after}
-use Rattle.run_model.specs.Machine.{Happening, Acts, Serves, Moves, Told, Outcome, no_answer, tells_nothing}
+use Rattle.run_model.specs.Machine.{Happening, Acts, Serves, Moves, Told, Outcome, no_answer, tells_nothing, number}
 use Rattle.run_model.specs.Frame.{state_by}
-use Rattle.service_outline.specs.Done.{number}
 use Rattle.gpt_driver.specs.Refinement.{gpt_setting}
-use Rattle.gpt_driver.specs.Machine.{GptState, gpt_machine, first_state}
-use Rattle.gpt_driver.specs.Table.{driver_of}
-use Rattle.gpt_driver.specs.declared.call.Call.{Call}
-use Rattle.gpt_driver.specs.declared.call.Call.TheVariants.{Init, SetMode, Channel}
-use Rattle.gpt_driver.specs.declared.call.ChannelCall.TheVariants.{GetTimeElapsed, GetTimeRemaining, StartTimer, StopTimer, Change}
-use Rattle.gpt_driver.specs.declared.call.Change.TheVariants.{Notification, Wakeup, Check}
-use Rattle.gpt_driver.specs.declared.call.GptMode.TheVariants as modes
-use Rattle.gpt_driver.specs.declared.driver.GptDriver.{GptDriver}
+use Rattle.gpt_machine.specs.Machine.{GptState, gpt_machine, first_state}
+use Rattle.gpt_machine.specs.Table.{table_of}
+use Rattle.gpt_machine.specs.declared.call.Call.{Call}
+use Rattle.gpt_machine.specs.declared.call.Call.TheVariants.{Init, SetMode, Channel}
+use Rattle.gpt_machine.specs.declared.call.ChannelCall.TheVariants.{GetTimeElapsed, GetTimeRemaining, StartTimer, StopTimer, Change}
+use Rattle.gpt_machine.specs.declared.call.Change.TheVariants.{Notification, Wakeup, Check}
+use Rattle.gpt_machine.specs.declared.call.GptMode.TheVariants as modes
+use Rattle.gpt_machine.specs.declared.table.GptTable.{GptTable}
 
 -- ---- boards
 
 -- one one-shot channel
-abbrev pub plain_board : GptDriver
-plain_board = driver_of (record {
+abbrev pub plain_board : GptTable
+plain_board = table_of (record {
   dev_error_detect = true;
   classification = 1;
   channels = record { id = 0; mode = OneShot; tick_value_max = 4294967295; enable_wakeup = false; notification = false; prescaler = 1; level = 1 } ∷ [];
 })
 
 -- a one-shot channel of small values that notifies, and a continuous one that notifies and wakes
-abbrev pub two_channels : GptDriver
-two_channels = driver_of (record {
+abbrev pub two_channels : GptTable
+two_channels = table_of (record {
   dev_error_detect = true;
   classification = 1;
   channels =
@@ -51,7 +50,7 @@ asking_tag = call_tag (gpt_setting two_channels) (Channel 0 GetTimeElapsed) 0
 -- ---- what is told
 
 -- the outside after a happening
-abbrev pub world_by : GptDriver → World → GptState → Happening Call → World
+abbrev pub world_by : GptTable → World → GptState → Happening Call → World
 world_by d w s (Moves order) = world_after w ((gpt_machine d).rate s) order
 world_by d w s _ = w
 
@@ -60,13 +59,13 @@ told_by None = None
 told_by (Some out) = Some out.told
 
 -- what is told at each happening, and none where one isn't allowed, which changes nothing
-abbrev pub told_from : GptDriver → World → GptState → List (Happening Call) → List (Option Told)
+abbrev pub told_from : GptTable → World → GptState → List (Happening Call) → List (Option Told)
 told_from d w s [] = []
 told_from d w s (h ∷ hs) =
     told_by ((gpt_machine d).happens w s h) ∷ told_from d (world_by d w s h) (state_by s ((gpt_machine d).happens w s h)) hs
 
 -- the same from power on
-abbrev pub told : GptDriver → List (Happening Call) → List (Option Told)
+abbrev pub told : GptTable → List (Happening Call) → List (Option Told)
 told d hs = told_from d (world_start 0) first_state hs
 
 -- nothing is told; a number is answered; an error is found; a notice is given; it isn't allowed

@@ -24,7 +24,7 @@ pub use Rattle.mcal_base.specs.declared.moves.Move.{Move}
 pub use Rattle.mcal_base.specs.declared.notice.Notice.{Notice}
 pub use Rattle.mcal_base.specs.declared.register.Reg.TheVariants.{EnableSet, EnableClear, TimerTarget, TimerPrescaler, TimerOneShot, TimerGateSet, TimerGateClear, TimerFlags, TimerZero, TimerLow, TimerHigh, TimerRun}
 pub use Rattle.run_model.specs.World.{World, world_after}
-pub use Rattle.run_model.specs.Machine.{Told, no_answer, tells_nothing, outcome}
+pub use Rattle.run_model.specs.Machine.{Told, no_answer, tells_nothing, outcome, tells_error}
 pub use Rattle.run_model.specs.Frame.{Origin, Called, Entered, missed_after}
 pub use Rattle.run_model.specs.Outside.{StandsIn}
 pub use Rattle.run_model.proofs.OutsideLaws.{stands-move, stands-event, stands-reset}
@@ -33,30 +33,30 @@ pub use Rattle.service_outline.specs.declared.done.Epilogue.TheVariants.{Nothing
 pub use Rattle.service_outline.specs.declared.done.BodyTaken.{BodyTaken}
 pub use Rattle.service_outline.specs.declared.done.Done.{Done}
 pub use Rattle.service_outline.specs.Acts.{Cleans}
-pub use Rattle.service_outline.specs.Done.{goes, acts as acts_on, ends, owed_error, tells_error}
+pub use Rattle.service_outline.specs.Done.{goes, acts as acts_on, ends, owed_error}
 pub use Rattle.service_outline.specs.laws.Acts.{never_clean}
 pub use Rattle.service_outline.specs.laws.Reports.{error_told}
 pub use Rattle.service_outline.specs.laws.Sweep.{each_but}
 pub use Rattle.service_outline.specs.Fuel.{Shortens}
 pub use Rattle.service_outline.specs.Outline.{Bodies, At, Happens, AreRight, StepsTo, RightAt, TellsAs, error_in, notices_in, Before, Is_before, After, Is_after, Serving, Is_serving, Served, Is_served}
-pub use Rattle.gpt_driver.specs.Checks.{error_by, service_of, allows, takes, answer_refused, has_value}
+pub use Rattle.gpt_machine.specs.Checks.{error_by, service_of, allows, takes, answer_refused, has_value}
 pub use Rattle.gpt_driver.specs.Refinement.{Lag, settled, none, only, open_at, behind, IsSet, TimerAgrees, BlockAgrees, Word, TheState, TargetOf, SwitchesOf, number_of, IsWord, state_word, value_in, WordsAgree, LinesAgree, GptRepresents, gpt_ground, gpt_setting, gpt_may, gpt_owns, is_own_word, has_lines, is_for_lines, is_timer, may_name, may_write, owns_written}
-pub use Rattle.gpt_driver.specs.Machine.{GptState, channel_at, table, fresh_state, first_state, Timing, Course, Never, Running, Stopped, Mode, Off, Normal, Sleep, untouched, is_off, is_asleep, elapsed, remaining, target_of, prescaler_of, runs, runs_at, is_busy, is_marked, started, stopped, unmarked, slept, slept_all, changed, with_channel, with_switches, all_channels, answers_number, notes, acts_by, ready, served, served_by, wakes, notifies, reporting, gpt_machine, switches}
-pub use Rattle.gpt_driver.specs.Table.{channel_of, one_shot_of, is_one_shot, FitsGpt}
+pub use Rattle.gpt_machine.specs.Machine.{GptState, channel_at, table, fresh_state, first_state, Timing, Course, Never, Running, Stopped, Mode, Off, Normal, Sleep, untouched, is_off, is_asleep, elapsed, remaining, target_of, prescaler_of, runs, runs_at, is_busy, is_marked, started, stopped, unmarked, slept, slept_all, changed, with_channel, with_switches, all_channels, answers_number, notes, acts_by, ready, served, served_by, wakes, notifies, reporting, gpt_machine, switches}
+pub use Rattle.gpt_machine.specs.Table.{channel_of, one_shot_of, is_one_shot, FitsGpt}
 pub use Rattle.gpt_driver.specs.Words.{bit, target_word, switches_word, word_of as packed, switches_of}
-pub use Rattle.gpt_driver.specs.declared.call.Call.{Call}
-pub use Rattle.gpt_driver.specs.declared.call.Call.TheVariants.{Init, DeInit, SetMode, Channel as OfChannel}
-pub use Rattle.gpt_driver.specs.declared.call.ChannelCall.{ChannelCall}
-pub use Rattle.gpt_driver.specs.declared.call.ChannelCall.TheVariants.{GetTimeElapsed, GetTimeRemaining, StartTimer, StopTimer, Change as Changes}
-pub use Rattle.gpt_driver.specs.declared.driver.Channel.{Channel}
-pub use Rattle.gpt_driver.specs.declared.driver.GptDriver.{GptDriver}
-pub use Rattle.gpt_driver.specs.declared.switches.Switches.{Switches}
+pub use Rattle.gpt_machine.specs.declared.call.Call.{Call}
+pub use Rattle.gpt_machine.specs.declared.call.Call.TheVariants.{Init, DeInit, SetMode, Channel as OfChannel}
+pub use Rattle.gpt_machine.specs.declared.call.ChannelCall.{ChannelCall}
+pub use Rattle.gpt_machine.specs.declared.call.ChannelCall.TheVariants.{GetTimeElapsed, GetTimeRemaining, StartTimer, StopTimer, Change as Changes}
+pub use Rattle.gpt_machine.specs.declared.table.Channel.{Channel}
+pub use Rattle.gpt_machine.specs.declared.table.GptTable.{GptTable}
+pub use Rattle.gpt_machine.specs.declared.switches.Switches.{Switches}
 pub use Rattle.gpt_driver.specs.declared.words.TheConstants.{STATE, TARGETS, LAST_WORD, LINES}
 pub use Rattle.chip_timers.specs.declared.timer.Act.TheVariants.{Clear as Unflags, Start as Opens, Stop as Shuts, Zero as Zeroes}
 pub use Rattle.gpt_driver.specs.declared.asked.Asked.{Asked}
-pub use Rattle.gpt_driver.specs.declared.call.Change.{Change}
-pub use Rattle.gpt_driver.specs.declared.call.Change.TheVariants.{Check, Notification, Wakeup}
-pub use Rattle.gpt_driver.specs.declared.call.GptMode.TheVariants.{Normal as ToNormal, Sleep as ToSleep}
+pub use Rattle.gpt_machine.specs.declared.call.Change.{Change}
+pub use Rattle.gpt_machine.specs.declared.call.Change.TheVariants.{Check, Notification, Wakeup}
+pub use Rattle.gpt_machine.specs.declared.call.GptMode.TheVariants.{Normal as ToNormal, Sleep as ToSleep}
 pub use Rattle.mcal_base.specs.declared.moves.Move.TheVariants.{Load, Read, Store, Write}
 pub use Rattle.mcal_base.specs.declared.register.Reg.{Reg}
 pub use Rattle.service_outline.specs.WindowHistory.{Plain, WindowHistory, SeesTo, Starts}
@@ -70,11 +70,11 @@ use Rattle.service_outline.specs.Acts.{ActsRight}
 -- ---- what holds of a call about a channel before it acts
 
 -- it shows no error before it looks at a timer
-abbrev pub Passed : GptDriver → GptState → Call → Type 0
+abbrev pub Passed : GptTable → GptState → Call → Type 0
 Passed d s call = error_by d call (is_off s.mode) (is_asleep s.mode) false ≡ None
 
 -- one about a channel has none whatever runs
-pub record MayRun (d : GptDriver) (s : GptState) (c : ℕ) (call : ChannelCall) : Type 0 where
+pub record MayRun (d : GptTable) (s : GptState) (c : ℕ) (call : ChannelCall) : Type 0 where
   pub pass : (busy : Bool) → error_by d (OfChannel c call) (is_off s.mode) (is_asleep s.mode) busy ≡ None
   pub on : is_off s.mode ≡ false
   pub lt : c < 8
@@ -89,7 +89,7 @@ either_way P true a b x y = x
 either_way P false a b x y = y
 
 -- what happens leaves the timer block but for its time, and time goes on
-foot_later : (d : GptDriver) (chip : Chip) (order : Order) → (gpt_ground d).foot (happened chip order) ≡ (gpt_ground d).foot chip
+foot_later : (d : GptTable) (chip : Chip) (order : Order) → (gpt_ground d).foot (happened chip order) ≡ (gpt_ground d).foot chip
 foot_later d chip (Level p v) = level_leaves (λ c. (gpt_ground d).foot c) chip p v refl
 foot_later d chip _ = refl
 
@@ -101,7 +101,7 @@ now_later w rate _ = omega arith
 pub on_later : {P : Type 0} {Q : ℕ → Type 0} (now time : ℕ) → now ≤ time → P × ((n : ℕ) → now ≤ n → Q n) → P × ((n : ℕ) → time ≤ n → Q n)
 on_later now time le h = (h.0, λ n more. h.1 n (omega (arith, le, more)))
 
-module _ (d : GptDriver) where
+module _ (d : GptTable) where
   -- bodies at whose places only what holds of timers and state counts, and bodies with something more that holds at every time from now on
   abbrev pub steady : {Body : Type 0} → (Body → Move) → (Body → ℕ → Body × BodyTaken) → (Body → ℕ) → (Body → Lag) → (Timers → GptState → Body → Origin Call → Option Told → Type 0) → Bodies (gpt_ground d) Body
   steady work takes fuel gap holds = record { work_of = work; takes = takes; fuel = fuel; gap_of = gap; clean = λ k. false; place = λ f w s k o t. holds f s k o t }

@@ -2,8 +2,8 @@
 -- From Base, service_outline: Acts, service_outline: Seen, Courses, RefinementRight and 1 more.
 -- Used by Lawful, service/count/rt.
 use Rattle.std.proofs.Common.{◌≡◌, ℕ, ◌+◌, ◌*◌, ◌-◌, ◌/◌, ◌%◌, ◌<◌, ◌^◌, true, Option, None, refl, sym, ◌∙◌, ap, subst, arith}
-use Rattle.service_outline.specs.Done.{number}
-use Rattle.gpt_driver.specs.laws.Base.{OfChannel as Channel, lt-ltb, Chip, chip_after, Timers, timer_at, counter, Move, TimerLow, TimerHigh, World, Told, outcome, Origin, stands-move, Nothing, BodyTaken, goes, acts_on, ends, never_clean, Shortens, Bodies, AreRight, Before, Is_before, After, Is_after, Lag, settled, TargetOf, GptRepresents, gpt_ground, GptState, channel_at, elapsed, remaining, target_of, runs_at, answers_number, channel_of, target_word, Call, GetTimeElapsed, GetTimeRemaining, GptDriver, Load, Read, Plain, WindowHistory, SeesTo, Starts, MayRun, steady, AllGood, all_right, acts_so}
+use Rattle.run_model.specs.Machine.{number}
+use Rattle.gpt_driver.specs.laws.Base.{OfChannel as Channel, lt-ltb, Chip, chip_after, Timers, timer_at, counter, Move, TimerLow, TimerHigh, World, Told, outcome, Origin, stands-move, Nothing, BodyTaken, goes, acts_on, ends, never_clean, Shortens, Bodies, AreRight, Before, Is_before, After, Is_after, Lag, settled, TargetOf, GptRepresents, gpt_ground, GptState, channel_at, elapsed, remaining, target_of, runs_at, answers_number, channel_of, target_word, Call, GetTimeElapsed, GetTimeRemaining, GptTable, Load, Read, Plain, WindowHistory, SeesTo, Starts, MayRun, steady, AllGood, all_right, acts_so}
 use Rattle.service_outline.specs.WindowHistory.{HasRead}
 use Rattle.service_outline.specs.laws.Seen.{never_after}
 use Rattle.gpt_driver.specs.declared.service.count.CountBody.{CountBody}
@@ -57,21 +57,21 @@ elapsed_call c = Channel c GetTimeElapsed
 abbrev pub remaining_call : ℕ → Call
 remaining_call c = Channel c GetTimeRemaining
 
-abbrev pub count_holds : GptDriver → Timers → GptState → CountBody → Origin Call → Option Told → Type 0
+abbrev pub count_holds : GptTable → Timers → GptState → CountBody → Origin Call → Option Told → Type 0
 count_holds d f s (ElapsedLow c) o t = Before (elapsed_call c) o t × MayRun d s c GetTimeElapsed
 count_holds d f s (ElapsedHigh c low) o t = After (elapsed_call c) (answers_number (joined low f.latch)) o t × (c < 8)
 count_holds d f s (RemainingTarget c) o t = Before (remaining_call c) o t × MayRun d s c GetTimeRemaining
 count_holds d f s (RemainingLow c v) o t = Before (remaining_call c) o t × MayRun d s c GetTimeRemaining × (v ≡ target_of (channel_at s c).course)
 count_holds d f s (RemainingHigh c v low) o t = After (remaining_call c) (answers_number (v - joined low f.latch)) o t × (c < 8)
 
-abbrev pub count_bodies : (d : GptDriver) → Bodies (gpt_ground d) CountBody
+abbrev pub count_bodies : (d : GptTable) → Bodies (gpt_ground d) CountBody
 count_bodies d = steady d count_work count_takes count_left count_gap (count_holds d)
 
 -- the halves of a count make the count
 halves : (n : ℕ) → n < 2 ^ 32 → joined (n % 65536) (n / 65536) ≡ n
 halves n lt = let a : n < 4294967296 = lt in omega arith
 
-module _ (d : GptDriver) where
+module _ (d : GptTable) where
   read_is : (chip : Chip) (w : World) (s : GptState) (c : ℕ) → c < 8 → GptRepresents d settled chip w s → let n = counter (timer_at chip.timers c) chip.timers.time in joined (n % 65536) (n / 65536) ≡ elapsed (channel_of d c) w.now (channel_at s c).course
   read_is chip w s c lt h =
       let e = elapsed_here d chip w s settled h c lt refl in
@@ -109,7 +109,7 @@ count_sees (RemainingTarget c) x = refl
 count_sees (RemainingLow c v) x = (tt, refl)
 count_sees _ x = ((refl, refl), λ e. absurd (cc))
 
-pub count_unseen : (d : GptDriver) (f : Timers) (s : GptState) (k : CountBody) (o : Origin Call) → count_holds d f s k o None → Starts (count_seen k)
+pub count_unseen : (d : GptTable) (f : Timers) (s : GptState) (k : CountBody) (o : Origin Call) → count_holds d f s k o None → Starts (count_seen k)
 count_unseen d f s (ElapsedHigh c low) o h = never_after o None refl h.0
 count_unseen d f s (RemainingHigh c v low) o h = never_after o None refl h.0
 count_unseen d f s _ o h = tt

@@ -7,7 +7,7 @@ use Rattle.mcal_base.specs.Expiry.{expiries, runs_on}
 use Rattle.mcal_base.proofs.ExpiryLaws.{runs_on-later, expiries-one_shot, expiries-later, count_of-within}
 use Rattle.chip_timers.specs.Timers.{count_at}
 use Rattle.gpt_driver.specs.Refinement.{counts}
-use Rattle.gpt_driver.specs.Machine.{expired}
+use Rattle.gpt_machine.specs.Machine.{expired}
 
 -- ---- the counter is the machine's
 

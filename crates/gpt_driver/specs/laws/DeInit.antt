@@ -1,10 +1,10 @@
 -- Gpt_DeInit: its steps, what holds at each, and that they are right.
--- From Base, Parts, Courses, RefinementRight, Init.
+-- From Base, Parts, Courses, RefinementRight, Init and 1 more.
 -- Used by service/deinit/rt, Lawful.
 use Rattle.std.proofs.Common.{◌≡◌, ℕ, zero, suc, add-one, ◌+◌, ◌-◌, ◌<◌, ◌≤◌, ◌≢◌, Bool, true, false, ◌&&◌, ◌==◌, not, nat_lt, Option, Some, None, cond, refl, sym, ◌∙◌, ap, arith}
 use Rattle.std.specs.Prelude.{if◌then◌else◌}
 use Rattle.std.specs.List.{list_any}
-use Rattle.gpt_driver.specs.laws.Base.{Store as Stores, eq-eqb, eqb-true, lt-ltb, true_from_ne_false, nat_tests, Chip, chip_after, Timers, timer_at, counts_on, is_running, expired_between, flag_clear, zero_count, running_of, Still, Since, Timer, timer_at-acted_on, has_bit-running_of, has_bit, bits_of, has_bit-zero, has_bit-without, GptBusy, Act, Move, EnableClear, TimerFlags, TimerZero, TimerRun, World, Told, no_answer, tells_nothing, Origin, Called, missed_after, Epilogue, Nothing, BodyTaken, Cleans, goes, acts_on, ends, owed_error, Shortens, Bodies, AreRight, StepsTo, Before, Is_before, After, Is_after, error_by, Lag, settled, none, TimerAgrees, Word, TheState, number_of, IsWord, GptRepresents, gpt_ground, GptState, channel_at, first_state, untouched, is_off, is_asleep, runs, runs_at, all_channels, reporting, gpt_machine, channel_of, bit, Call, DeInit, Channel, GptDriver, STATE, TARGETS, LAST_WORD, LINES, Unflags, Zeroes, Read, Write, either_way, on_later, timed, AllGood, all_right, acts_so, finds_busy}
+use Rattle.gpt_driver.specs.laws.Base.{Store as Stores, eq-eqb, eqb-true, lt-ltb, true_from_ne_false, nat_tests, Chip, chip_after, Timers, timer_at, counts_on, is_running, expired_between, flag_clear, zero_count, running_of, Still, Since, Timer, timer_at-acted_on, has_bit-running_of, has_bit, bits_of, has_bit-zero, has_bit-without, GptBusy, Act, Move, EnableClear, TimerFlags, TimerZero, TimerRun, World, Told, no_answer, tells_nothing, Origin, Called, missed_after, Epilogue, Nothing, BodyTaken, Cleans, goes, acts_on, ends, owed_error, Shortens, Bodies, AreRight, StepsTo, Before, Is_before, After, Is_after, error_by, Lag, settled, none, TimerAgrees, Word, TheState, number_of, IsWord, GptRepresents, gpt_ground, GptState, channel_at, first_state, untouched, is_off, is_asleep, runs, runs_at, all_channels, reporting, gpt_machine, channel_of, bit, Call, DeInit, Channel, GptTable, STATE, TARGETS, LAST_WORD, LINES, Unflags, Zeroes, Read, Write, either_way, on_later, timed, AllGood, all_right, acts_so, finds_busy}
 use Rattle.chip_timers.specs.declared.timer.Count.{Count}
 use Rattle.mcal_base.proofs.BitLaws.{bits_of-zero, bits_of-clear}
 use Rattle.mcal_base.specs.declared.service.Service.TheVariants.{GptDeInit}
@@ -13,7 +13,8 @@ use Rattle.gpt_driver.specs.declared.service.deinit.DeInitBody.TheVariants as pl
 use Rattle.gpt_driver.specs.laws.Courses.{running_is, rests_later}
 use Rattle.gpt_driver.specs.laws.RefinementRight.{may_word}
 use Rattle.gpt_driver.specs.laws.Init.{all_lines}
-use Rattle.gpt_driver.specs.laws.Parts.{by_eight, word_at, first_value, block_acted, words_stored, moved, runs_here}
+use Rattle.gpt_machine.specs.laws.Channels.{by_eight}
+use Rattle.gpt_driver.specs.laws.Parts.{word_at, first_value, block_acted, words_stored, moved, runs_here}
 
 abbrev pub deinit_work : DeInitBody → Move
 deinit_work (places.Look busy) = Read TimerRun
@@ -74,7 +75,7 @@ deinit_gap _ = record { block = λ c. true; words = from TARGETS; lines = Some t
 pub data IsFirst : GptState → Type 0 where
   Is_first : IsFirst first_state
 
-abbrev pub deinit_holds : GptDriver → Timers → GptState → DeInitBody → Origin Call → Option Told → Type 0
+abbrev pub deinit_holds : GptTable → Timers → GptState → DeInitBody → Origin Call → Option Told → Type 0
 deinit_holds d f s (places.Look busy) o t = Before DeInit o t × ((b : Bool) → error_by d DeInit (is_off s.mode) (is_asleep s.mode) b ≡ cond b (Some GptBusy) None) × (is_off s.mode ≡ false) × (busy ≡ owed_error (reporting d) GptDeInit GptBusy)
 deinit_holds d f s places.Store o t = Before DeInit o t × ((b : Bool) → error_by d DeInit (is_off s.mode) (is_asleep s.mode) b ≡ cond b (Some GptBusy) None) × (is_off s.mode ≡ false)
 deinit_holds d f s places.Flags o t = After DeInit tells_nothing o t × IsFirst s × ((c : ℕ) → c < 8 → (timer_at f c).count ≡ Still 0)
@@ -82,12 +83,12 @@ deinit_holds d f s (places.Forget j) o t = After DeInit tells_nothing o t × IsF
 deinit_holds d f s _ o t = After DeInit tells_nothing o t × IsFirst s
 
 -- no channel runs
-abbrev pub deinit_stays : GptDriver → Timers → GptState → DeInitBody → ℕ → Type 0
+abbrev pub deinit_stays : GptTable → Timers → GptState → DeInitBody → ℕ → Type 0
 deinit_stays d f s places.Store time = (c : ℕ) → c < 8 → runs (channel_of d c) time (channel_at s c).course ≡ false
 deinit_stays d f s places.Zero time = (c : ℕ) → c < 8 → is_running (timer_at f c) time ≡ false
 deinit_stays d f s _ time = Unit {0}
 
-abbrev pub deinit_bodies : (d : GptDriver) → Bodies (gpt_ground d) DeInitBody
+abbrev pub deinit_bodies : (d : GptTable) → Bodies (gpt_ground d) DeInitBody
 deinit_bodies d = timed d deinit_work deinit_takes deinit_left deinit_gap deinit_clean (deinit_holds d) (deinit_stays d)
 
 -- ---- whether any channel runs
@@ -127,7 +128,7 @@ not_from j k ne e = grind (arith, nat_tests)
 off_by : (b c : Bool) → c ≡ true → b && not c ≡ false
 off_by b c e = grind arith
 
-module _ (d : GptDriver) where
+module _ (d : GptTable) where
   some_runs : (chip : Chip) (w : World) (s : GptState) → GptRepresents d settled chip w s → (running_of chip.timers == 0) ≡ false → list_any (λ c. runs_at d w s c) all_channels ≡ true
   some_runs chip w s h i = true_from_ne_false _ (λ e. let no : (running_of chip.timers == 0) ≡ true = eq-eqb (running_of chip.timers) 0 (bits_none (λ c. is_running (timer_at chip.timers c) chip.timers.time) 8 (λ c lt. runs_here d chip w s settled h c lt refl ∙ none_any (λ c. runs_at d w s c) e c lt)) in cc)
 

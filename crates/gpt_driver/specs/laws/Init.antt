@@ -3,7 +3,7 @@
 -- Used by service/init/rt, Lawful, DeInit.
 use Rattle.std.proofs.Common.{◌≡◌, ℕ, ◌<◌, true, false, Option, Some, None, refl, ◌∙◌, ap, subst, arith}
 use Rattle.std.proofs.lemmas.Bool.{agree_below_at, or_right}
-use Rattle.gpt_driver.specs.laws.Base.{Store as Stores, Chip, word_of, Timers, timer_at, has_bit, has_bit-or, Act, Move, EnableSet, World, Told, no_answer, Origin, Nothing, BodyTaken, goes, ends, never_clean, Shortens, Bodies, AreRight, Before, Is_before, error_by, Lag, settled, behind, TimerAgrees, Word, TheState, TargetOf, SwitchesOf, number_of, IsWord, value_in, GptRepresents, gpt_ground, GptState, fresh_state, Normal, is_off, is_asleep, target_of, is_busy, channel_of, packed, Call, Init, GptDriver, STATE, LINES, Write, steady, AllGood, all_right, acts_so}
+use Rattle.gpt_driver.specs.laws.Base.{Store as Stores, Chip, word_of, Timers, timer_at, has_bit, has_bit-or, Act, Move, EnableSet, World, Told, no_answer, Origin, Nothing, BodyTaken, goes, ends, never_clean, Shortens, Bodies, AreRight, Before, Is_before, error_by, Lag, settled, behind, TimerAgrees, Word, TheState, TargetOf, SwitchesOf, number_of, IsWord, value_in, GptRepresents, gpt_ground, GptState, fresh_state, Normal, is_off, is_asleep, target_of, is_busy, channel_of, packed, Call, Init, GptTable, STATE, LINES, Write, steady, AllGood, all_right, acts_so}
 use Rattle.gpt_driver.specs.declared.service.init.InitBody.{InitBody}
 use Rattle.gpt_driver.specs.declared.service.init.InitBody.TheVariants.{Enable, Store}
 use Rattle.gpt_driver.specs.laws.Parts.{caught_up, moved, never_off}
@@ -35,13 +35,13 @@ init_gap Store = armed
 abbrev pub init_holds : Timers → GptState → InitBody → Origin Call → Option Told → Type 0
 init_holds f s k o t = Before Init o t × (is_off s.mode ≡ true)
 
-abbrev pub init_bodies : (d : GptDriver) → Bodies (gpt_ground d) InitBody
+abbrev pub init_bodies : (d : GptTable) → Bodies (gpt_ground d) InitBody
 init_bodies d = steady d init_work init_takes init_left init_gap init_holds
 
 pub all_lines : (c : ℕ) → c < 8 → has_bit LINES c ≡ true
 all_lines c lt = agree_below_at (λ i. has_bit LINES i) (λ i. true) 8 c refl lt
 
-module _ (d : GptDriver) where
+module _ (d : GptTable) where
   turned_on : (chip : Chip) (w : World) (s : GptState) → is_off s.mode ≡ true → GptRepresents d armed chip w s → GptRepresents d (behind STATE) chip w (fresh_state Normal)
   turned_on chip w s off h = record {
     outside = h.outside;

@@ -1,15 +1,15 @@
 -- The driver keeps to its module: registers, words and lines of others are nothing to it.
--- From Lawful, RefinementRight.
+-- From Lawful, gpt_machine: Channels.
 -- Used by mcal_drivers: proofs/Joining.
 use Rattle.std.proofs.Common.{◌≡◌, ℕ, ◌<◌, ◌≤◌, ◌^◌, ◌%◌, true, false, Option, Some, None, refl, arith}
 use Rattle.std.specs.Prelude.{is_some}
 use Rattle.plain_facts.specs.Truths.{and_first}
-use Rattle.gpt_driver.specs.laws.Base.{lt-ltb, le-ltb, nat_tests, has_bit, has_bit-above, Move, EnableSet, EnableClear, TimerTarget, gpt_owns, is_own_word, has_lines, is_for_lines, is_timer, may_name, may_write, owns_written, channel_of, Channel, GptDriver, Asked, Load, Read, Store, Write, Reg, driver_of, names_there}
+use Rattle.gpt_driver.specs.laws.Base.{lt-ltb, le-ltb, nat_tests, has_bit, has_bit-above, Move, EnableSet, EnableClear, TimerTarget, gpt_owns, is_own_word, has_lines, is_for_lines, is_timer, may_name, may_write, owns_written, channel_of, Channel, GptTable, Asked, Load, Read, Store, Write, Reg, driver_of, names_there}
 use Rattle.mcal_base.specs.declared.module_name.ModuleName.TheVariants.{Gpt}
 use Rattle.service_outline.specs.Services.{entering}
 use Rattle.step_runner.specs.Whose.{only, is_of, module_of_register, module_of_line, module_of_word, EnablesWithin, WritesWithin, NamesWithin, EnablesOthers, WritesOthers, NamesOthers, KeepsTo}
 use Rattle.step_runner.proofs.Whose.{not-unless}
-use Rattle.gpt_driver.specs.laws.RefinementRight.{within as within_eight}
+use Rattle.gpt_machine.specs.laws.Channels.{within as within_eight}
 use Rattle.gpt_driver.specs.laws.Lawful.{gpt, body_by}
 
 own_register : (r : Reg) → is_timer r ≡ true → is_of (only Gpt) (module_of_register r) ≡ true
@@ -84,7 +84,7 @@ handled None h = h
 handled (Some k) h = h
 
 -- it is the timers' alone
-pub keeps_timers : (d : GptDriver) → KeepsTo (only Gpt) (driver_of (gpt d))
+pub keeps_timers : (d : GptTable) → KeepsTo (only Gpt) (driver_of (gpt d))
 keeps_timers d = record {
   may = λ o made h. within made (and_first (may_name made) (names_there made) h);
   owns = λ o made h. others made h;

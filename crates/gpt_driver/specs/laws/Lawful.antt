@@ -1,6 +1,6 @@
 -- The timer driver, as the outline and the runner see it, and that it owes nothing.
--- From Look, Count, Mode, Base, DeInit and 10 more.
--- Used by frames/rt, Keeps, mcal_drivers: Laws, request/rt, mcal_system: proofs/Resting and 3 more.
+-- From Look, Count, Mode, Base, DeInit and 11 more.
+-- Used by frames/rt, Keeps, mcal_drivers: proofs/Hosting, mcal_drivers: Laws, caller/rt and 4 more.
 use Rattle.std.proofs.Common.{List, ◌≡◌, ℕ, ◌+◌, ◌<◌, ◌≤◌, ◌^◌, Bool, true, false, ◌&&◌, ◌==◌, not, nat_lt, Option, Some, None, refl, sym, ◌∙◌, ap, subst, arith}
 use Rattle.std.specs.Prelude.{is_some, if◌then◌else◌}
 use Rattle.run_model.specs.Frame.{Open}
@@ -10,13 +10,14 @@ use Rattle.service_outline.specs.Outline.{Outlined, IsOutlined, LooksRight, CanE
 use Rattle.service_outline.specs.WindowHistory.{is_windowed}
 use Rattle.service_outline.specs.laws.Seen.{plain_sees}
 use Rattle.service_outline.specs.laws.Either.{either_right}
-use Rattle.gpt_driver.specs.laws.Base.{nat_tests, Chip, word_of, bits_of-zero, ErrorName, World, tells_nothing, Called, Entered, tells_error, error_told, Bodies, At, AreRight, Is_before, Is_serving, error_by, allows, answer_refused, has_value, settled, TheState, GptRepresents, gpt_ground, GptState, is_off, is_asleep, prescaler_of, is_busy, acts_by, gpt_machine, switches, channel_of, one_shot_of, FitsGpt, Call, Init, DeInit, SetMode, OfChannel, ChannelCall, GetTimeElapsed, GetTimeRemaining, StartTimer, StopTimer, Changes, Channel, GptDriver, STATE, Asked, Check, ToNormal, ToSleep, Plain, WindowHistory, SeesTo, Starts, driver_of, Looked, Goes, First, Second, Passed, MayRun}
+use Rattle.gpt_driver.specs.laws.Base.{nat_tests, Chip, word_of, bits_of-zero, ErrorName, World, tells_nothing, Called, Entered, tells_error, error_told, Bodies, At, AreRight, Is_before, Is_serving, error_by, allows, answer_refused, has_value, settled, TheState, GptRepresents, gpt_ground, GptState, is_off, is_asleep, prescaler_of, is_busy, acts_by, gpt_machine, switches, channel_of, one_shot_of, FitsGpt, Call, Init, DeInit, SetMode, OfChannel, ChannelCall, GetTimeElapsed, GetTimeRemaining, StartTimer, StopTimer, Changes, Channel, GptTable, STATE, Asked, Check, ToNormal, ToSleep, Plain, WindowHistory, SeesTo, Starts, driver_of, Looked, Goes, First, Second, Passed, MayRun}
 use Rattle.gpt_driver.specs.Refinement.{gpt_steps}
 use Rattle.gpt_driver.specs.declared.service.serve.ServeBody.TheVariants.{Look}
 use Rattle.gpt_driver.specs.laws.Bodies.{GptBody}
 use Rattle.gpt_driver.specs.laws.Count.{count_bodies, count_right, count_seen, count_sees, count_unseen}
 use Rattle.gpt_driver.specs.laws.DeInit.{deinit_bodies, deinit_right}
-use Rattle.gpt_driver.specs.laws.RefinementRight.{ground_right, within}
+use Rattle.gpt_machine.specs.laws.Channels.{within}
+use Rattle.gpt_driver.specs.laws.RefinementRight.{ground_right}
 use Rattle.gpt_driver.specs.laws.Init.{init_bodies, init_right}
 use Rattle.gpt_driver.specs.laws.Look.{ElapsedLow, DeInitLook, Enable, Wake, StartLook, OneShot, Continuous, SwitchLoad, gpt_looked, looked_by, begins, begun_on, off_of, on_of, mode_of, allowed, value_of, deinit_busy, start_busy, change_unhindered, early, asked_word}
 use Rattle.gpt_driver.specs.laws.Mode.{mode_bodies, mode_right, sleeps}
@@ -25,7 +26,7 @@ use Rattle.gpt_driver.specs.laws.Start.{start_bodies, start_right}
 use Rattle.gpt_driver.specs.laws.Stop.{stop_bodies, stop_right}
 use Rattle.gpt_driver.specs.laws.Switch.{switch_bodies, switch_right}
 
-abbrev pub gpt_bodies : (d : GptDriver) → Bodies (gpt_ground d) GptBody
+abbrev pub gpt_bodies : (d : GptTable) → Bodies (gpt_ground d) GptBody
 gpt_bodies d = either (either (init_bodies d) (either (deinit_bodies d) (mode_bodies d))) (either (either (either (count_bodies d) (start_bodies d)) (either (stop_bodies d) (switch_bodies d))) (serve_bodies d))
 
 -- no family but one reads a high half
@@ -38,7 +39,7 @@ body_by None = None
 body_by (Some k) = Some (Second (Second (Look k.number)))
 
 -- the driver; any call may be made, and its body has at most 21 steps
-abbrev pub gpt : GptDriver → Outlined GptState Call Asked GptBody
+abbrev pub gpt : GptTable → Outlined GptState Call Asked GptBody
 gpt d = record {
   basis = gpt_ground d;
   bodies = gpt_bodies d;
@@ -52,7 +53,7 @@ gpt d = record {
   body_of = λ line. body_by (channel_of d line);
 }
 
-plain : (d : GptDriver) (k : GptBody) → gpt_seen k ≡ Plain → is_windowed ((gpt_bodies d).work_of k) ≡ false
+plain : (d : GptTable) (k : GptBody) → gpt_seen k ≡ Plain → is_windowed ((gpt_bodies d).work_of k) ≡ false
 plain d (First (First Enable)) e = cc
 plain d (First (Second (First (DeInitLook busy)))) e = cc
 plain d (First (Second (Second Wake))) e = cc
@@ -63,15 +64,15 @@ plain d (Second (First (Second (Second (SwitchLoad c by))))) e = cc
 plain d (Second (Second (Look c))) e = cc
 plain d _ e = cc
 
-sees : (d : GptDriver) (k : GptBody) (x : ℕ) → SeesTo gpt_seen true ((gpt_bodies d).work_of k) k ((gpt_bodies d).takes k x)
+sees : (d : GptTable) (k : GptBody) (x : ℕ) → SeesTo gpt_seen true ((gpt_bodies d).work_of k) k ((gpt_bodies d).takes k x)
 sees d (Second (First (First (First k)))) x = count_sees k x
 sees d k x = let p = (gpt_bodies d).takes k x in plain_sees true ((gpt_bodies d).work_of k) p.1.event p.1.done (plain d k refl)
 
-bodies_right : (d : GptDriver) → AreRight (gpt_ground d) (gpt_bodies d)
+bodies_right : (d : GptTable) → AreRight (gpt_ground d) (gpt_bodies d)
 bodies_right d = let g = gpt_ground d in either_right g _ _ (either_right g _ _ (init_right d) (either_right g _ _ (deinit_right d) (mode_right d))) (either_right g _ _ (either_right g _ _ (either_right g _ _ (count_right d) (start_right d)) (either_right g _ _ (stop_right d) (switch_right d))) (serve_right d))
 
 -- a body that begins has read nothing
-unseen : (d : GptDriver) (chip : Chip) (w : World) (s : GptState) (k : GptBody) (call : Call) → At (gpt_ground d) (gpt_bodies d) chip w s k (Called call) None → Starts (gpt_seen k)
+unseen : (d : GptTable) (chip : Chip) (w : World) (s : GptState) (k : GptBody) (call : Call) → At (gpt_ground d) (gpt_bodies d) chip w s k (Called call) None → Starts (gpt_seen k)
 unseen d chip w s (Second (First (First (First k)))) call h = count_unseen d ((gpt_ground d).foot chip) s k (Called call) h.1
 unseen d chip w s _ call h = tt
 
@@ -80,7 +81,7 @@ unseen d chip w s _ call h = tt
 has_parts : (m v : ℕ) → not (v == 0) && not (nat_lt m v) ≡ true → (0 < v) × (v ≤ m)
 has_parts m v e = (grind (arith, nat_tests), grind (arith, nat_tests))
 
-module _ (d : GptDriver) (fits : FitsGpt d) (chip : Chip) (w : World) (s : GptState) (h : GptRepresents d settled chip w s) where
+module _ (d : GptTable) (fits : FitsGpt d) (chip : Chip) (w : World) (s : GptState) (h : GptRepresents d settled chip w s) where
   abbrev Looks : Call → Looked GptBody → Type 0
   Looks call l = LooksRight (gpt d) chip w s call l
 
@@ -140,7 +141,7 @@ handled_by : (k : Option Channel) → is_some (body_by k) ≡ is_some k
 handled_by None = refl
 handled_by (Some k) = refl
 
-module _ (d : GptDriver) (fits : FitsGpt d) where
+module _ (d : GptTable) (fits : FitsGpt d) where
   -- the body of a line's handler is the look at that line's flag
   entered_by : (line : ℕ) (k : GptBody) (q : Option Channel) → channel_of d line ≡ q → body_by q ≡ Some k → (line < 8) × (Second (Second (Look line)) ≡ k)
   entered_by line k None e is = absurd (cc)
@@ -176,5 +177,5 @@ module _ (d : GptDriver) (fits : FitsGpt d) where
   }
 
 -- it leaves the peripheral rate alone, and has no watchdog
-pub slow_timers : (d : GptDriver) (chip : Chip) (w : World) (ps : List (Short Asked GptBody × Open Call)) (s : GptState) → FitsGpt d → (driver_of (gpt d)).relates chip w ps s → (driver_of (gpt d)).setting.machine.rate s ≤ 16
+pub slow_timers : (d : GptTable) (chip : Chip) (w : World) (ps : List (Short Asked GptBody × Open Call)) (s : GptState) → FitsGpt d → (driver_of (gpt d)).relates chip w ps s → (driver_of (gpt d)).setting.machine.rate s ≤ 16
 slow_timers d chip w ps s fits h = omega arith

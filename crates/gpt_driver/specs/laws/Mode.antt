@@ -1,15 +1,16 @@
 -- Gpt_SetMode: its steps, what holds at each, and that they are right.
--- From Parts, Base, Stop, Courses, service_outline: Acts and 1 more.
+-- From Parts, Base, Stop, Courses, service_outline: Acts and 2 more.
 -- Used by service/mode/rt, Lawful.
 use Rattle.std.proofs.Common.{◌≡◌, ℕ, ◌+◌, ◌-◌, ◌<◌, ◌≤◌, Bool, true, false, not, nat_lt, Option, Some, None, refl, sym, ◌∙◌, ap, subst, arith}
 use Rattle.std.specs.Prelude.{if◌then◌else◌, bit_or}
-use Rattle.gpt_driver.specs.laws.Base.{ltb-true, ltb-false, nat_tests, Chip, word_of, Timers, timer_at, acted, flag_clear, timer_at-acted_on, has_bit, bits_of, has_bit-bits_of, Act, Move, TimerGateClear, TimerFlags, World, Told, no_answer, tells_nothing, Origin, Called, missed_after, Nothing, BodyTaken, goes, acts_on, ends, never_clean, Shortens, Bodies, AreRight, StepsTo, Before, Is_before, After, Is_after, Lag, settled, behind, TimerAgrees, Word, TheState, TargetOf, SwitchesOf, number_of, IsWord, state_word, value_in, GptRepresents, gpt_ground, GptState, channel_at, Timing, Normal, Sleep, is_off, target_of, runs, stopped, unmarked, slept, slept_all, gpt_machine, channel_of, bit, switches_word, packed, switches_of, Call, SetMode, Channel, GptDriver, STATE, Unflags, Shuts, ToNormal, ToSleep, Load, Store, Write, Passed, on_later, timed, AllGood, all_right, acts_so}
+use Rattle.gpt_driver.specs.laws.Base.{ltb-true, ltb-false, nat_tests, Chip, word_of, Timers, timer_at, acted, flag_clear, timer_at-acted_on, has_bit, bits_of, has_bit-bits_of, Act, Move, TimerGateClear, TimerFlags, World, Told, no_answer, tells_nothing, Origin, Called, missed_after, Nothing, BodyTaken, goes, acts_on, ends, never_clean, Shortens, Bodies, AreRight, StepsTo, Before, Is_before, After, Is_after, Lag, settled, behind, TimerAgrees, Word, TheState, TargetOf, SwitchesOf, number_of, IsWord, state_word, value_in, GptRepresents, gpt_ground, GptState, channel_at, Timing, Normal, Sleep, is_off, target_of, runs, stopped, unmarked, slept, slept_all, gpt_machine, channel_of, bit, switches_word, packed, switches_of, Call, SetMode, Channel, GptTable, STATE, Unflags, Shuts, ToNormal, ToSleep, Load, Store, Write, Passed, on_later, timed, AllGood, all_right, acts_so}
 use Rattle.mcal_base.proofs.BitLaws.{bits_of-left, bits_of-marked}
 use Rattle.gpt_driver.specs.declared.service.mode.ModeBody.{ModeBody}
 use Rattle.gpt_driver.specs.declared.service.mode.ModeBody.TheVariants as places
 use Rattle.gpt_driver.specs.laws.Courses.{expired_is, quiet}
 use Rattle.gpt_driver.specs.laws.RefinementRight.{may_words}
-use Rattle.gpt_driver.specs.laws.Parts.{stands_acted, block_acted, caught_up, never_off, bit_shifted, table_at, runs_here, elapsed_here, unpacked}
+use Rattle.gpt_machine.specs.laws.Channels.{table_at}
+use Rattle.gpt_driver.specs.laws.Parts.{stands_acted, block_acted, caught_up, never_off, bit_shifted, runs_here, elapsed_here, unpacked}
 use Rattle.gpt_driver.specs.laws.Stop.{halted, ended_keeps, stop_cleared}
 
 -- the bits, with that of the channel where its switches say that it may not wake
@@ -62,7 +63,7 @@ abbrev pub to_normal : Call
 to_normal = SetMode (Some ToNormal)
 
 -- the bits are those of the channels below c that may not wake, and then of all of them
-abbrev pub mode_holds : GptDriver → Timers → GptState → ModeBody → Origin Call → Option Told → Type 0
+abbrev pub mode_holds : GptTable → Timers → GptState → ModeBody → Origin Call → Option Told → Type 0
 mode_holds d f s places.Wake o t = Before to_normal o t × Passed d s to_normal × (is_off s.mode ≡ false)
 mode_holds d f s (places.Gather c bits) o t = Before to_sleep o t × Passed d s to_sleep × (is_off s.mode ≡ false) × (c < 8) × (bits ≡ bits_of (sleeps s) c)
 mode_holds d f s (places.Gate bits) o t = Before to_sleep o t × Passed d s to_sleep × (is_off s.mode ≡ false) × (bits ≡ bits_of (sleeps s) 8)
@@ -70,11 +71,11 @@ mode_holds d f s (places.Flags bits) o t = After to_sleep tells_nothing o t × (
 mode_holds d f s places.Sleep o t = After to_sleep tells_nothing o t × (s.mode ≡ Sleep)
 
 -- each of these channels is as the machine has it once its flag is cleared
-abbrev pub mode_stays : GptDriver → Timers → GptState → ModeBody → ℕ → Type 0
+abbrev pub mode_stays : GptTable → Timers → GptState → ModeBody → ℕ → Type 0
 mode_stays d f s (places.Flags bits) time = (k : ℕ) → k < 8 → has_bit bits k ≡ true → TimerAgrees (channel_of d k) (has_bit f.one_shot k) (flag_clear time (timer_at f k)) (channel_at s k)
 mode_stays d f s _ time = Unit {0}
 
-abbrev pub mode_bodies : (d : GptDriver) → Bodies (gpt_ground d) ModeBody
+abbrev pub mode_bodies : (d : GptTable) → Bodies (gpt_ground d) ModeBody
 mode_bodies d = timed d mode_work mode_takes mode_left mode_gap (λ k. false) (mode_holds d) (mode_stays d)
 
 -- ---- which channels may not wake
@@ -84,7 +85,7 @@ gathered : (s : GptState) (c bits : ℕ) (b : Bool) → c < 8 → b ≡ (channel
 gathered s c bits true lt e h = bits_of-left (sleeps s) c bits (sym (ap not e)) h
 gathered s c bits false lt e h = ap (λ x. bit_or bits x) (bit_shifted c lt) ∙ bits_of-marked (sleeps s) c bits (omega (arith, lt)) (sym (ap not e)) h
 
-module _ (d : GptDriver) where
+module _ (d : GptTable) where
   woke : (chip : Chip) (w : World) (s : GptState) → is_off s.mode ≡ false → GptRepresents d settled chip w s → GptRepresents d (behind STATE) chip w (record s { mode = Normal })
   woke chip w s on h = record { outside = h.outside; block = h.block; words = words; lines = λ c lt. h.lines c lt ∙ ap (λ q. not q) on; clean = never_off Normal refl }
     where

@@ -1,14 +1,14 @@
 -- The agreement by its parts: what a move leaves of the block, the words and the lines.
--- From Courses, service_outline: Sweep.
--- Used by Mode, Start, DeInit, Stop, Switch and 8 more.
-use Rattle.std.proofs.Common.{◌≡◌, ℕ, zero, suc, ◌*◌, ◌%◌, ◌<◌, ◌≤◌, ◌≢◌, ◌^◌, Bool, true, false, ◌==◌, [], length, refl, sym, ◌∙◌, ap, subst, arith}
-use Rattle.std.specs.Prelude.{if◌then◌else◌, slice_index_or}
-use Rattle.gpt_driver.specs.laws.Base.{lt-ltb, Chip, chip_after, word_of, HasAll, Made, word-left, word-stored, Timers, timer_at, with_timer, acted, acting, counter, is_running, is_flagged, Timer, timer_at-acted_on, timer_at-acted_off, timer_at-with_timer_same, timer_at-with_timer_other, has_bit, Move, TimerGateSet, TimerGateClear, TimerFlags, TimerZero, World, StandsIn, stands-move, each_but, Lag, settled, none, only, behind, TimerAgrees, BlockAgrees, Word, TheState, TargetOf, SwitchesOf, number_of, IsWord, value_in, WordsAgree, LinesAgree, GptRepresents, GptState, channel_at, table, first_state, Timing, Mode, untouched, is_off, elapsed, target_of, runs, is_marked, with_channel, switches, channel_of, bit, target_word, switches_word, packed, switches_of, GptDriver, Switches, STATE, LAST_WORD, Unflags, Opens, Shuts, Zeroes, Store, Write}
+-- From Courses, gpt_machine: Channels, service_outline: Sweep.
+-- Used by Mode, Start, DeInit, Stop, Switch and 5 more.
+use Rattle.std.proofs.Common.{◌≡◌, ℕ, ◌*◌, ◌%◌, ◌<◌, ◌≤◌, ◌≢◌, ◌^◌, Bool, true, false, [], length, refl, sym, ◌∙◌, ap, subst, arith}
+use Rattle.std.specs.Prelude.{if◌then◌else◌}
+use Rattle.gpt_driver.specs.laws.Base.{lt-ltb, Chip, chip_after, word_of, HasAll, Made, word-left, word-stored, Timers, timer_at, with_timer, acted, acting, counter, is_running, is_flagged, Timer, timer_at-acted_on, timer_at-acted_off, timer_at-with_timer_same, timer_at-with_timer_other, has_bit, Move, TimerGateSet, TimerGateClear, TimerFlags, TimerZero, World, StandsIn, stands-move, each_but, Lag, settled, none, only, behind, TimerAgrees, BlockAgrees, Word, TheState, TargetOf, SwitchesOf, number_of, IsWord, value_in, WordsAgree, LinesAgree, GptRepresents, GptState, channel_at, first_state, Timing, Mode, untouched, is_off, elapsed, target_of, runs, is_marked, with_channel, switches, channel_of, bit, target_word, switches_word, packed, switches_of, GptTable, Switches, STATE, LAST_WORD, Unflags, Opens, Shuts, Zeroes, Store, Write}
 use Rattle.std.proofs.lemmas.Bool.{ne_eqb}
-use Rattle.plain_facts.specs.Numbers.{eq_self}
 use Rattle.chip_timers.specs.declared.timer.Act.{Act}
 use Rattle.mcal_base.proofs.BitLaws.{has_bit-pow_same, has_bit-pow_other, one_shifted}
 use Rattle.mcal_base.specs.declared.TheConstants.{WORDS}
+use Rattle.gpt_machine.specs.laws.Channels.{channel_same, channel_other}
 use Rattle.gpt_driver.specs.laws.Courses.{running_is, counter_is, flagged_is}
 
 -- ---- numbers
@@ -25,28 +25,6 @@ has_one c lt = ap (λ x. has_bit x c) (bit_is c lt) ∙ has_bit-pow_same c
 
 pub has_other : (c k : ℕ) → c < 8 → k ≢ c → has_bit (bit c) k ≡ false
 has_other c k lt ne = ap (λ x. has_bit x k) (bit_is c lt) ∙ has_bit-pow_other c k ne
-
--- a fact about each of the eight channels
-pub by_eight : (P : ℕ → Type 0) → P 0 → P 1 → P 2 → P 3 → P 4 → P 5 → P 6 → P 7 → (c : ℕ) → c < 8 → P c
-by_eight P p0 p1 p2 p3 p4 p5 p6 p7 zero lt = p0
-by_eight P p0 p1 p2 p3 p4 p5 p6 p7 (suc zero) lt = p1
-by_eight P p0 p1 p2 p3 p4 p5 p6 p7 (suc (suc zero)) lt = p2
-by_eight P p0 p1 p2 p3 p4 p5 p6 p7 (suc (suc (suc zero))) lt = p3
-by_eight P p0 p1 p2 p3 p4 p5 p6 p7 (suc (suc (suc (suc zero)))) lt = p4
-by_eight P p0 p1 p2 p3 p4 p5 p6 p7 (suc (suc (suc (suc (suc zero))))) lt = p5
-by_eight P p0 p1 p2 p3 p4 p5 p6 p7 (suc (suc (suc (suc (suc (suc zero)))))) lt = p6
-by_eight P p0 p1 p2 p3 p4 p5 p6 p7 (suc (suc (suc (suc (suc (suc (suc zero))))))) lt = p7
-by_eight P p0 p1 p2 p3 p4 p5 p6 p7 (suc (suc (suc (suc (suc (suc (suc (suc c)))))))) lt = absurd (omega (arith, lt))
-
--- a channel of a table, and of a state in which one was changed
-pub table_at : (f : ℕ → Timing) (c : ℕ) → c < 8 → slice_index_or (table f) c untouched ≡ f c
-table_at f c lt = by_eight (λ i. slice_index_or (table f) i untouched ≡ f i) refl refl refl refl refl refl refl refl c lt
-
-pub channel_same : (s : GptState) (c : ℕ) (x : Timing) → c < 8 → channel_at (with_channel s c x) c ≡ x
-channel_same s c x lt = table_at (λ k. if k == c then x else channel_at s k) c lt ∙ ap (λ q. if q then x else channel_at s c) (eq_self c)
-
-pub channel_other : (s : GptState) (c k : ℕ) (x : Timing) → k < 8 → k ≢ c → channel_at (with_channel s c x) k ≡ channel_at s k
-channel_other s c k x lt ne = table_at (λ i. if i == c then x else channel_at s i) k lt ∙ ap (λ q. if q then x else channel_at s k) (ne_eqb k c ne)
 
 -- the switches that stand in a word
 pub unpacked : (x : Switches) → switches_of (packed x) ≡ x
@@ -81,7 +59,7 @@ same_word s _ _ i j e = absurd (omega arith)
 pub never_off : (m : Mode) {A : Type 0} → is_off m ≡ false → is_off m ≡ true → A
 never_off m on off = absurd (cc)
 
-module _ (d : GptDriver) where
+module _ (d : GptTable) where
   -- ---- a channel of the block, at this time
 
   module _ (chip : Chip) (w : World) (s : GptState) (gap : Lag) (h : GptRepresents d gap chip w s) (c : ℕ) (lt : c < 8) (closed : gap.block c ≡ false) where

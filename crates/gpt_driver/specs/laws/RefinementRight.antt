@@ -1,9 +1,9 @@
 -- The ground keeps what it owes: at the start, in time, under moves elsewhere and over a reset.
--- From Parts, service_outline: Words, service_outline: There, Courses.
--- Used by Lawful, Serve, Fits, Mode, DeInit and 6 more.
+-- From Parts, service_outline: Words, gpt_machine: Channels, service_outline: There, Courses.
+-- Used by Serve, Mode, DeInit, Switch, Count and 2 more.
 use Rattle.std.proofs.Common.{◌≡◌, ℕ, ◌/◌, ◌%◌, ◌<◌, ◌≤◌, ◌^◌, Bool, true, false, ◌&&◌, ◌||◌, ◌==◌, not, nat_lt, Option, Some, None, refl, sym, ◌∙◌, ap, subst, arith}
-use Rattle.std.specs.Prelude.{is_some, IsSome, if◌then◌else◌}
-use Rattle.gpt_driver.specs.laws.Base.{lt-ltb, nat_tests, Chip, chip_after, happened, word_of, Made, level_leaves, rate-left, word-left, Timers, timer_at, is_flagged, flags_of, has_bit-flags_of, has_bit, has_bit-or, has_bit-zero, has_bit-above, has_bit-without, Order, Tick, Level, ErrorName, Move, EnableSet, EnableClear, TimerTarget, TimerLow, World, world_after, tells_nothing, outcome, Called, StandsIn, stands-move, stands-event, stands-reset, error_by, service_of, Lag, settled, TimerAgrees, Word, number_of, IsWord, GptRepresents, gpt_ground, gpt_may, gpt_owns, is_own_word, has_lines, is_for_lines, may_name, may_write, owns_written, GptState, channel_at, first_state, Mode, Off, Normal, Sleep, untouched, is_off, is_asleep, is_busy, is_marked, acts_by, ready, switches, channel_of, bit, Call, Init, SetMode, OfChannel, Changes, Channel, GptDriver, Notification, Wakeup, ToSleep, Load, Read, Store, Write, Reg}
+use Rattle.std.specs.Prelude.{is_some, IsSome}
+use Rattle.gpt_driver.specs.laws.Base.{lt-ltb, nat_tests, Chip, chip_after, happened, word_of, Made, level_leaves, rate-left, word-left, Timers, timer_at, is_flagged, flags_of, has_bit-flags_of, has_bit, has_bit-or, has_bit-zero, has_bit-above, has_bit-without, Order, Tick, Level, ErrorName, Move, EnableSet, EnableClear, TimerTarget, TimerLow, World, world_after, tells_nothing, outcome, Called, StandsIn, stands-move, stands-event, stands-reset, error_by, service_of, Lag, settled, TimerAgrees, Word, number_of, IsWord, GptRepresents, gpt_ground, gpt_may, gpt_owns, is_own_word, has_lines, is_for_lines, may_name, may_write, owns_written, GptState, channel_at, first_state, Mode, Off, Normal, Sleep, untouched, is_off, is_asleep, is_busy, is_marked, acts_by, ready, switches, channel_of, bit, Call, Init, SetMode, OfChannel, Changes, Channel, GptTable, Notification, Wakeup, ToSleep, Load, Read, Store, Write, Reg}
 use Rattle.chip_model.specs.Chip.{reset_chip, is_masked, is_pending}
 use Rattle.chip_model.specs.Histories.{LeavesWord, sets_rate}
 use Rattle.chip_model.proofs.PinLaws.{line-timer}
@@ -17,10 +17,11 @@ use Rattle.service_outline.specs.Outline.{IsGround, Comes}
 use Rattle.service_outline.specs.laws.There.{move_there}
 use Rattle.service_outline.specs.laws.Words.{word_later, fills_there}
 use Rattle.gpt_driver.specs.Refinement.{gpt_setting}
-use Rattle.gpt_driver.specs.Machine.{work, happens}
+use Rattle.gpt_machine.specs.Machine.{work, happens}
 use Rattle.run_model.specs.Machine.{Acts, Outcome, ErrorLeaves}
 use Rattle.gpt_driver.specs.laws.Courses.{marked_used}
-use Rattle.gpt_driver.specs.laws.Parts.{by_eight, first_value, word_at, marked_here}
+use Rattle.gpt_machine.specs.laws.Channels.{by_eight, within}
+use Rattle.gpt_driver.specs.laws.Parts.{first_value, word_at, marked_here}
 use Rattle.std.proofs.lemmas.Bool.{and_parts, ltb-true, ltb-false}
 
 -- ---- after a reset, and in time
@@ -32,7 +33,7 @@ idle_agrees : (k : Option Channel) (bit : Bool) → TimerAgrees k bit idle untou
 idle_agrees k bit = record { count = refl; kept = refl; flag = λ n. refl; set = tt }
 
 -- at power on and after each other reset
-reset_agrees : (d : GptDriver) (chip : Chip) (w : World) (reason : Reason) → StandsIn chip w → GptRepresents d settled (reset_chip chip reason) w first_state
+reset_agrees : (d : GptTable) (chip : Chip) (w : World) (reason : Reason) → StandsIn chip w → GptRepresents d settled (reset_chip chip reason) w first_state
 reset_agrees d chip w reason h = record {
   outside = stands-reset chip w reason h;
   block = λ c lt closed. subst (λ t. TimerAgrees (channel_of d c) (has_bit 0 c) t untouched) (sym (fresh_at chip.timers.time c lt)) (idle_agrees (channel_of d c) (has_bit 0 c));
@@ -42,7 +43,7 @@ reset_agrees d chip w reason h = record {
 }
 
 -- a chip with the timers, the module's words and the enable bits of another one agrees with what that one does
-same_agrees : (d : GptDriver) (gap : Lag) (chip chip1 : Chip) (w w1 : World) (s : GptState) → StandsIn chip1 w1 → chip1.timers ≡ chip.timers → ((x : Word) → IsWord x → word_of chip1 (number_of x) ≡ word_of chip (number_of x)) → ((c : ℕ) → c < 8 → has_bit chip1.control.enabled c ≡ has_bit chip.control.enabled c) → GptRepresents d gap chip w s → GptRepresents d gap chip1 w1 s
+same_agrees : (d : GptTable) (gap : Lag) (chip chip1 : Chip) (w w1 : World) (s : GptState) → StandsIn chip1 w1 → chip1.timers ≡ chip.timers → ((x : Word) → IsWord x → word_of chip1 (number_of x) ≡ word_of chip (number_of x)) → ((c : ℕ) → c < 8 → has_bit chip1.control.enabled c ≡ has_bit chip.control.enabled c) → GptRepresents d gap chip w s → GptRepresents d gap chip1 w1 s
 same_agrees d gap chip chip1 w w1 s outside timers words enabled h = record {
   outside = outside;
   block = λ c lt closed. subst (λ (x : Timers). TimerAgrees (channel_of d c) (has_bit x.one_shot c) (timer_at x c) (channel_at s c)) (sym timers) (h.block c lt closed);
@@ -51,7 +52,7 @@ same_agrees d gap chip chip1 w w1 s outside timers words enabled h = record {
   clean = h.clean;
 }
 
-later_agrees : (d : GptDriver) (gap : Lag) (chip : Chip) (w : World) (s : GptState) (order : Order) → Comes (gpt_setting d) chip w s order → GptRepresents d gap chip w s → GptRepresents d gap (happened chip order) (world_after w chip.clock.rate order) s
+later_agrees : (d : GptTable) (gap : Lag) (chip : Chip) (w : World) (s : GptState) (order : Order) → Comes (gpt_setting d) chip w s order → GptRepresents d gap chip w s → GptRepresents d gap (happened chip order) (world_after w chip.clock.rate order) s
 later_agrees d gap chip w s order free h = by_order order (stands-event chip w order (fills_there (gpt_setting d) (is_masked chip) w s free.frames order free.free) h.outside) (λ x there. let at = (word_at x there).1 in word_later chip order (number_of x) h.outside.all.words (omega (arith, at)))
   where
     by_order : (order : Order) → StandsIn (happened chip order) (world_after w chip.clock.rate order) → ((x : Word) → IsWord x → word_of (happened chip order) (number_of x) ≡ word_of chip (number_of x)) → GptRepresents d gap (happened chip order) (world_after w chip.clock.rate order) s
@@ -96,7 +97,7 @@ enabled_apart chip (Write EnableSet v) received c e lt = has_bit-or chip.control
 enabled_apart chip (Write EnableClear v) received c e lt = has_bit-without chip.control.enabled v c (lines_none v e).1 (omega (arith, lt)) ∙ (without_line (has_bit chip.control.enabled c) (has_bit v c) (no_line v c (lines_none v e).0 lt)).1
 enabled_apart chip _ received c e lt = refl
 
-apart_agrees : (d : GptDriver) (gap : Lag) (chip : Chip) (w : World) (s : GptState) (made : Move) (received : ℕ) → gpt_owns made ≡ false → GptRepresents d gap chip w s → GptRepresents d gap (chip_after chip made received) w s
+apart_agrees : (d : GptTable) (gap : Lag) (chip : Chip) (w : World) (s : GptState) (made : Move) (received : ℕ) → gpt_owns made ≡ false → GptRepresents d gap chip w s → GptRepresents d gap (chip_after chip made received) w s
 apart_agrees d gap chip w s made received e h = same_agrees d gap chip (chip_after chip made received) w w s (stands-move chip w made received h.outside) (timers_apart chip made received e) (λ x there. word-left (number_of x) chip (Made made received) (leaves_word made received x there e)) (λ c lt. enabled_apart chip made received c e lt) h
 
 -- ---- what a frame may do
@@ -136,22 +137,14 @@ asks_none _ = refl
 
 -- ---- what is due
 
--- a configured channel is one of the eight
-pub within : (d : GptDriver) (c : ℕ) → is_some (channel_of d c) ≡ true → c < 8
-within d c h = by_test (nat_lt c 8) _ refl h
-  where
-    by_test : (q : Bool) (k : Option Channel) → nat_lt c 8 ≡ q → is_some (if q then k else None) ≡ true → c < 8
-    by_test true k e h = ltb-true c 8 e
-    by_test false k e h = absurd (cc)
-
-pub flag_bit : (d : GptDriver) (chip : Chip) (w : World) (s : GptState) (c : ℕ) → c < 8 → GptRepresents d settled chip w s → has_bit (flags_of chip.timers) c ≡ is_marked (channel_of d c) w.now (channel_at s c)
+pub flag_bit : (d : GptTable) (chip : Chip) (w : World) (s : GptState) (c : ℕ) → c < 8 → GptRepresents d settled chip w s → has_bit (flags_of chip.timers) c ≡ is_marked (channel_of d c) w.now (channel_at s c)
 flag_bit d chip w s c lt h = has_bit-flags_of chip.timers c lt ∙ marked_here d chip w s settled h c lt refl
 
 both_on : (f e m : Bool) → f ≡ m → (e ≡ false → m ≡ false) → (f && e) ≡ m
 both_on f true m a b = grind arith
 both_on f false m a b = grind (arith, b refl)
 
-pends : (d : GptDriver) (chip : Chip) (w : World) (s : GptState) (c : ℕ) → nat_lt c 8 ≡ true → GptRepresents d settled chip w s → is_pending chip c ≡ ready d w s c
+pends : (d : GptTable) (chip : Chip) (w : World) (s : GptState) (c : ℕ) → nat_lt c 8 ≡ true → GptRepresents d settled chip w s → is_pending chip c ≡ ready d w s c
 pends d chip w s c lt h =
     let here = ltb-true c 8 lt in
     line-timer chip c here
@@ -166,7 +159,7 @@ pends d chip w s c lt h =
     unmarked_off : channel_at s c ≡ untouched → is_marked (channel_of d c) w.now (channel_at s c) ≡ false
     unmarked_off e = ap (λ t. is_marked (channel_of d c) w.now t) e
 
-due_used : (d : GptDriver) (chip : Chip) (w : World) (s : GptState) (c : ℕ) → GptRepresents d settled chip w s → ready d w s c ≡ true → is_some (channel_of d c) ≡ true
+due_used : (d : GptTable) (chip : Chip) (w : World) (s : GptState) (c : ℕ) → GptRepresents d settled chip w s → ready d w s c ≡ true → is_some (channel_of d c) ≡ true
 due_used d chip w s c h e = by_test (nat_lt c 8) refl e
   where
     by_test : (q : Bool) → nat_lt c 8 ≡ q → q && is_marked (channel_of d c) w.now (channel_at s c) ≡ true → is_some (channel_of d c) ≡ true
@@ -176,7 +169,7 @@ due_used d chip w s c h e = by_test (nat_lt c 8) refl e
 -- ---- errors
 
 -- what a call without an error does tells none
-work_tells : (d : GptDriver) (w : World) (s : GptState) (call : Call) → (work d w s call).told.error ≡ None
+work_tells : (d : GptTable) (w : World) (s : GptState) (call : Call) → (work d w s call).told.error ≡ None
 work_tells d w s (SetMode (Some ToSleep)) = refl
 work_tells d w s (OfChannel c (Changes by)) = switched (channel_of d c)
   where
@@ -185,17 +178,17 @@ work_tells d w s (OfChannel c (Changes by)) = switched (channel_of d c)
     switched (Some k) = refl
 work_tells d w s _ = refl
 
-acts_leave : (d : GptDriver) (w : World) (s : GptState) (call : Call) (e : Option ErrorName) → ErrorLeaves s (acts_by d w s call e)
+acts_leave : (d : GptTable) (w : World) (s : GptState) (call : Call) (e : Option ErrorName) → ErrorLeaves s (acts_by d w s call e)
 acts_leave d w s call None some = absurd (let k = subst (λ x. IsSome x) (work_tells d w s call) some in cc)
 acts_leave d w s call (Some e) some = (refl, refl)
 
-error_leaves : (d : GptDriver) (w : World) (s : GptState) (call : Call) (times : ℕ → ℕ) (out : Outcome GptState) → happens d w s (Acts call times) ≡ Some out → ErrorLeaves s out
+error_leaves : (d : GptTable) (w : World) (s : GptState) (call : Call) (times : ℕ → ℕ) (out : Outcome GptState) → happens d w s (Acts call times) ≡ Some out → ErrorLeaves s out
 error_leaves d w s call times out is = subst (λ o. ErrorLeaves s o) (given is) (acts_leave d w s call (error_by d call (is_off s.mode) (is_asleep s.mode) (is_busy d w s call)))
   where
     given : {A : Type 0} {x y : A} → Some x ≡ Some y → x ≡ y
     given e = cc
 
-pub ground_right : (d : GptDriver) → IsGround (gpt_ground d)
+pub ground_right : (d : GptTable) → IsGround (gpt_ground d)
 ground_right d = record {
   starts = λ chip w wired h. reset_agrees d chip w PowerOn h;
   moves = λ w s order. refl;

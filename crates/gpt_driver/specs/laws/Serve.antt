@@ -1,17 +1,18 @@
 -- The handler of a channel's line: its steps, what holds at each, and that they are right.
--- From Base, Parts, RefinementRight, Switch, service_outline: Acts and 1 more.
+-- From Base, Parts, RefinementRight, Switch, service_outline: Acts and 2 more.
 -- Used by service/serve/rt, Lawful.
 use Rattle.std.proofs.Common.{◌≡◌, ℕ, ◌<◌, Bool, true, false, ◌&&◌, ◌==◌, not, nat_lt, Option, Some, None, refl, sym, ◌∙◌, ap, subst, arith}
 use Rattle.std.specs.Prelude.{if◌then◌else◌}
 use Rattle.plain_facts.specs.Numbers.{eq_self}
-use Rattle.gpt_driver.specs.laws.Base.{lt-ltb, or_right, false_from_ne_true, Chip, Timers, timer_at, acted, expired_between, flags_of, has_bit, Serve, Move, Notice, TimerFlags, World, Told, no_answer, outcome, Origin, Entered, missed_after, Epilogue, Nothing, One, BodyTaken, Done, goes, ends, never_clean, Shortens, Bodies, Happens, AreRight, StepsTo, Serving, Is_serving, Served, Is_served, Lag, settled, none, only, behind, TheState, SwitchesOf, state_word, GptRepresents, gpt_ground, gpt_setting, GptState, channel_at, Mode, Off, is_off, is_asleep, is_marked, with_channel, notes, served, served_by, wakes, notifies, gpt_machine, channel_of, bit, switches_word, packed, switches_of, Call, GptDriver, Switches, STATE, Unflags, Load, Read, Store, Write, either_way, on_later, timed, AllGood, all_right}
+use Rattle.gpt_driver.specs.laws.Base.{lt-ltb, or_right, false_from_ne_true, Chip, Timers, timer_at, acted, expired_between, flags_of, has_bit, Serve, Move, Notice, TimerFlags, World, Told, no_answer, outcome, Origin, Entered, missed_after, Epilogue, Nothing, One, BodyTaken, Done, goes, ends, never_clean, Shortens, Bodies, Happens, AreRight, StepsTo, Serving, Is_serving, Served, Is_served, Lag, settled, none, only, behind, TheState, SwitchesOf, state_word, GptRepresents, gpt_ground, gpt_setting, GptState, channel_at, Mode, Off, is_off, is_asleep, is_marked, with_channel, notes, served, served_by, wakes, notifies, gpt_machine, channel_of, bit, switches_word, packed, switches_of, Call, GptTable, Switches, STATE, Unflags, Load, Read, Store, Write, either_way, on_later, timed, AllGood, all_right}
 use Rattle.mcal_base.specs.declared.notice.NoticeKind.{NoticeKind}
 use Rattle.mcal_base.specs.declared.notice.NoticeKind.TheVariants.{GptNotification, EcuMCheckWakeup}
 use Rattle.gpt_driver.specs.declared.service.serve.ServeBody.{ServeBody}
 use Rattle.gpt_driver.specs.declared.service.serve.ServeBody.TheVariants as places
 use Rattle.gpt_driver.specs.laws.Courses.{marked_later}
 use Rattle.gpt_driver.specs.laws.RefinementRight.{may_words, flag_bit}
-use Rattle.gpt_driver.specs.laws.Parts.{acted_with, caught_up, channel_same, unpacked}
+use Rattle.gpt_machine.specs.laws.Channels.{channel_same}
+use Rattle.gpt_driver.specs.laws.Parts.{acted_with, caught_up, unpacked}
 use Rattle.gpt_driver.specs.laws.Switch.{owed_if, owes_if}
 
 abbrev pub woken : Switches → Switches
@@ -68,14 +69,14 @@ serve_holds f s (places.Clear c asleep x) o t = Serving c o t × (c < 8) × (asl
 serve_holds f s (places.Mark c x) o t = Served c (notes true EcuMCheckWakeup c) o t × (c < 8) × (woken x ≡ (channel_at s c).switches)
 
 -- the line's mark stands, from the look to the serving
-abbrev pub serve_stays : GptDriver → Timers → GptState → ServeBody → ℕ → Type 0
+abbrev pub serve_stays : GptTable → Timers → GptState → ServeBody → ℕ → Type 0
 serve_stays d f s (places.Look c) time = Unit {0}
 serve_stays d f s (places.Mark c x) time = Unit {0}
 serve_stays d f s (places.Mode c) time = is_marked (channel_of d c) time (channel_at s c) ≡ true
 serve_stays d f s (places.Switches c asleep) time = is_marked (channel_of d c) time (channel_at s c) ≡ true
 serve_stays d f s (places.Clear c asleep x) time = is_marked (channel_of d c) time (channel_at s c) ≡ true
 
-abbrev pub serve_bodies : (d : GptDriver) → Bodies (gpt_ground d) ServeBody
+abbrev pub serve_bodies : (d : GptTable) → Bodies (gpt_ground d) ServeBody
 serve_bodies d = timed d serve_work serve_takes serve_left serve_gap (λ k. false) serve_holds (serve_stays d)
 
 asleep_word : (m : Mode) → (state_word m == 2) ≡ is_asleep m
@@ -85,7 +86,7 @@ asleep_word _ = refl
 not_ready : (a b : Bool) → b ≡ false → not (a && b) ≡ true
 not_ready a b e = grind arith
 
-module _ (d : GptDriver) where
+module _ (d : GptTable) where
   -- a marked channel is one of an initialised module
   ready_on : (chip : Chip) (w : World) (s : GptState) (c : ℕ) → GptRepresents d settled chip w s → is_marked (channel_of d c) w.now (channel_at s c) ≡ true → is_off s.mode ≡ false
   ready_on chip w s c h r = false_from_ne_true _ (λ e. let f : is_marked (channel_of d c) w.now (channel_at s c) ≡ false = ap (λ x. is_marked (channel_of d c) w.now x) (h.clean e c) in cc)

@@ -1,17 +1,18 @@
 -- Gpt_StartTimer: its steps, what holds at each, and that they are right.
--- From Parts, Base, Courses, RefinementRight.
+-- From Base, Parts, Courses, RefinementRight, gpt_machine: Channels.
 -- Used by service/start/rt, Lawful.
 use Rattle.std.proofs.Common.{◌≡◌, ℕ, ◌<◌, ◌≤◌, ◌^◌, Bool, true, false, ◌||◌, ◌==◌, Option, Some, None, cond, refl, sym, ◌∙◌, ap, subst, arith}
 use Rattle.std.specs.Prelude.{if◌then◌else◌}
 use Rattle.plain_facts.specs.Numbers.{eq_self}
-use Rattle.gpt_driver.specs.laws.Base.{ne_eqb, lt-ltb, Chip, Timers, timer_at, is_flagged, expired_between, gate_set, running_of, Since, Timer, timer_at-acted_on, timer_at-with_timer_same, has_bit-running_of, has_bit, bits_of, has_bit-bits_of, GptBusy, Act, Move, TimerTarget, TimerPrescaler, TimerOneShot, TimerGateSet, TimerFlags, TimerRun, World, Told, no_answer, tells_nothing, Origin, Called, missed_after, Nothing, BodyTaken, Cleans, goes, acts_on, ends, owed_error, Shortens, Bodies, AreRight, StepsTo, Before, Is_before, After, Is_after, error_by, Lag, settled, none, only, open_at, behind, IsSet, TimerAgrees, TargetOf, GptRepresents, gpt_ground, GptState, channel_at, Timing, Course, Running, is_off, is_asleep, target_of, prescaler_of, runs, started, reporting, gpt_machine, channel_of, one_shot_of, is_one_shot, bit, target_word, Call, OfChannel, StartTimer, Channel, GptDriver, Unflags, Opens, Read, Store, Write, either_way, on_later, timed, AllGood, all_right, acts_so, finds_busy}
+use Rattle.gpt_driver.specs.laws.Base.{ne_eqb, lt-ltb, Chip, Timers, timer_at, is_flagged, expired_between, gate_set, running_of, Since, Timer, timer_at-acted_on, timer_at-with_timer_same, has_bit-running_of, has_bit, bits_of, has_bit-bits_of, GptBusy, Act, Move, TimerTarget, TimerPrescaler, TimerOneShot, TimerGateSet, TimerFlags, TimerRun, World, Told, no_answer, tells_nothing, Origin, Called, missed_after, Nothing, BodyTaken, Cleans, goes, acts_on, ends, owed_error, Shortens, Bodies, AreRight, StepsTo, Before, Is_before, After, Is_after, error_by, Lag, settled, none, only, open_at, behind, IsSet, TimerAgrees, TargetOf, GptRepresents, gpt_ground, GptState, channel_at, Timing, Course, Running, is_off, is_asleep, target_of, prescaler_of, runs, started, reporting, gpt_machine, channel_of, one_shot_of, is_one_shot, bit, target_word, Call, OfChannel, StartTimer, Channel, GptTable, Unflags, Opens, Read, Store, Write, either_way, on_later, timed, AllGood, all_right, acts_so, finds_busy}
 use Rattle.mcal_base.specs.declared.service.Service.TheVariants.{GptStartTimer}
 use Rattle.gpt_driver.specs.declared.service.start.Start.{Start}
 use Rattle.gpt_driver.specs.declared.service.start.StartBody.{StartBody}
 use Rattle.gpt_driver.specs.declared.service.start.StartBody.TheVariants.{Look, Target, Prescaler, OneShot, Clear, Gate, Keep}
 use Rattle.gpt_driver.specs.laws.Courses.{expired_is, quiet, rests_later}
 use Rattle.gpt_driver.specs.laws.RefinementRight.{may_words}
-use Rattle.gpt_driver.specs.laws.Parts.{acted_with, acted_here, block_set, caught_up, moved, channel_same, has_one, runs_here}
+use Rattle.gpt_machine.specs.laws.Channels.{channel_same}
+use Rattle.gpt_driver.specs.laws.Parts.{acted_with, acted_here, block_set, caught_up, moved, has_one, runs_here}
 
 abbrev pub start_work : StartBody → Move
 start_work (Look r) = Read TimerRun
@@ -63,7 +64,7 @@ start_cleans (Keep r) x = tt
 start_cleans _ x = λ e. absurd (cc)
 
 -- what is to be started may be, and is as the configuration has it
-pub record IsStart (d : GptDriver) (s : GptState) (r : Start) : Type 0 where
+pub record IsStart (d : GptTable) (s : GptState) (r : Start) : Type 0 where
   pub on : is_off s.mode ≡ false
   pub lt : r.channel < 8
   pub checks : (busy : Bool) → error_by d (start_call r) (is_off s.mode) (is_asleep s.mode) busy ≡ cond busy (Some GptBusy) None
@@ -74,7 +75,7 @@ pub record IsStart (d : GptDriver) (s : GptState) (r : Start) : Type 0 where
   pub bits : r.one_shot_bits ≡ bits_of (is_one_shot d) 8
   pub busy : r.busy ≡ owed_error (reporting d) GptStartTimer GptBusy
 
-abbrev pub start_holds : GptDriver → Timers → GptState → StartBody → Origin Call → Option Told → Type 0
+abbrev pub start_holds : GptTable → Timers → GptState → StartBody → Origin Call → Option Told → Type 0
 start_holds d f s (Look r) o t = Before (start_call r) o t × IsStart d s r
 start_holds d f s (Target r) o t = Before (start_call r) o t × IsStart d s r
 start_holds d f s (Prescaler r) o t = Before (start_call r) o t × IsStart d s r × ((timer_at f r.channel).target ≡ r.value)
@@ -84,7 +85,7 @@ start_holds d f s (Gate r) o t = Before (start_call r) o t × IsStart d s r × (
 start_holds d f s (Keep r) o t = After (start_call r) tells_nothing o t × (r.channel < 8) × (r.value ≡ target_of (channel_at s r.channel).course)
 
 -- the channel doesn't run, and once its flag is cleared that stays so too
-abbrev pub start_stays : GptDriver → Timers → GptState → StartBody → ℕ → Type 0
+abbrev pub start_stays : GptTable → Timers → GptState → StartBody → ℕ → Type 0
 start_stays d f s (Look r) time = Unit {0}
 start_stays d f s (Gate r) time = (runs (channel_of d r.channel) time (channel_at s r.channel).course ≡ false) × (is_flagged (timer_at f r.channel) time ≡ false)
 start_stays d f s (Keep r) time = Unit {0}
@@ -93,7 +94,7 @@ start_stays d f s (Prescaler r) time = runs (channel_of d r.channel) time (chann
 start_stays d f s (OneShot r) time = runs (channel_of d r.channel) time (channel_at s r.channel).course ≡ false
 start_stays d f s (Clear r) time = runs (channel_of d r.channel) time (channel_at s r.channel).course ≡ false
 
-abbrev pub start_bodies : (d : GptDriver) → Bodies (gpt_ground d) StartBody
+abbrev pub start_bodies : (d : GptTable) → Bodies (gpt_ground d) StartBody
 start_bodies d = timed d start_work start_takes start_left start_gap start_clean (start_holds d) (start_stays d)
 
 -- ---- the gate
@@ -112,7 +113,7 @@ rebit : (k : Option Channel) (a b : Bool) (x : Course) → b ≡ one_shot_of k �
 rebit k a b (Running s v) e h = (h.0, h.1, h.2, e)
 rebit k a b _ e h = h
 
-module _ (d : GptDriver) where
+module _ (d : GptTable) where
   start_by : (chip : Chip) (w : World) (s : GptState) (m : ℕ → Bool) (r : Start) → IsStart d s r → GptRepresents d settled chip w s → (q : Bool) → q ≡ runs (channel_of d r.channel) w.now (channel_at s r.channel).course → StepsTo (gpt_ground d) (start_bodies d) chip w s (Called (start_call r)) (Read TimerRun) true None m (if q then (Look r, ends (Some Act) no_answer r.busy) else (Target r, goes))
   start_by chip w s m r i h true e = finds_busy d (start_bodies d) chip w s (start_call r) m (Look r) r.busy refl (ap (λ b. error_by d (start_call r) (is_off s.mode) (is_asleep s.mode) b) (sym e) ∙ i.checks true) i.busy h
   start_by chip w s m r i h false e = (h, ((Is_before, i), λ time le. rests_later (channel_of d r.channel) (channel_at s r.channel).course w.now time le (sym e)))

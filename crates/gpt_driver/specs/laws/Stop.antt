@@ -1,14 +1,15 @@
 -- Gpt_StopTimer: its steps, what holds at each, and that they are right.
--- From Parts, Base, Courses, service_outline: Acts.
+-- From Parts, Base, Courses, service_outline: Acts, gpt_machine: Channels.
 -- Used by Mode, service/stop/rt, Lawful.
 use Rattle.std.proofs.Common.{◌≡◌, ℕ, ◌<◌, Bool, true, false, Option, Some, None, refl, sym, ◌∙◌, ap, subst, arith}
 use Rattle.std.specs.Prelude.{if◌then◌else◌}
 use Rattle.plain_facts.specs.Numbers.{eq_self}
-use Rattle.gpt_driver.specs.laws.Base.{ne_eqb, Chip, Timers, timer_at, acted, acting, counter, is_flagged, expired_between, flag_clear, Still, Timer, timer_at-acted_on, has_bit, Act, Move, TimerGateClear, TimerFlags, World, Told, no_answer, tells_nothing, Origin, Nothing, BodyTaken, acts_on, ends, never_clean, Shortens, Bodies, AreRight, Before, Is_before, After, Is_after, Lag, settled, none, only, open_at, TimerAgrees, GptRepresents, gpt_ground, GptState, channel_at, Timing, Stopped, elapsed, target_of, runs, runs_at, is_marked, stopped, with_channel, channel_of, one_shot_of, bit, Call, OfChannel, StopTimer, Channel, GptDriver, Unflags, Shuts, Write, MayRun, steady, AllGood, all_right, acts_so}
+use Rattle.gpt_driver.specs.laws.Base.{ne_eqb, Chip, Timers, timer_at, acted, acting, counter, is_flagged, expired_between, flag_clear, Still, Timer, timer_at-acted_on, has_bit, Act, Move, TimerGateClear, TimerFlags, World, Told, no_answer, tells_nothing, Origin, Nothing, BodyTaken, acts_on, ends, never_clean, Shortens, Bodies, AreRight, Before, Is_before, After, Is_after, Lag, settled, none, only, open_at, TimerAgrees, GptRepresents, gpt_ground, GptState, channel_at, Timing, Stopped, elapsed, target_of, runs, runs_at, is_marked, stopped, with_channel, channel_of, one_shot_of, bit, Call, OfChannel, StopTimer, Channel, GptTable, Unflags, Shuts, Write, MayRun, steady, AllGood, all_right, acts_so}
 use Rattle.gpt_driver.specs.declared.service.stop.StopBody.{StopBody}
 use Rattle.gpt_driver.specs.declared.service.stop.StopBody.TheVariants.{OneShot, Continuous, Flag}
 use Rattle.gpt_driver.specs.laws.Courses.{elapsed_small, unexpired, no_expiries, expired_is}
-use Rattle.gpt_driver.specs.laws.Parts.{acted_with, acted_here, channel_same, has_one, runs_here, elapsed_here, marked_here}
+use Rattle.gpt_machine.specs.laws.Channels.{channel_same}
+use Rattle.gpt_driver.specs.laws.Parts.{acted_with, acted_here, has_one, runs_here, elapsed_here, marked_here}
 
 abbrev pub stop_work : StopBody → Move
 stop_work (OneShot c) = Write TimerGateClear (bit c)
@@ -38,12 +39,12 @@ abbrev pub stop_call : ℕ → Call
 stop_call c = OfChannel c StopTimer
 
 -- at the last step the channel is as the machine has it once its flag is cleared, whenever that is
-abbrev pub stop_holds : GptDriver → Timers → GptState → StopBody → Origin Call → Option Told → Type 0
+abbrev pub stop_holds : GptTable → Timers → GptState → StopBody → Origin Call → Option Told → Type 0
 stop_holds d f s (OneShot c) o t = Before (stop_call c) o t × MayRun d s c StopTimer × (one_shot_of (channel_of d c) ≡ true)
 stop_holds d f s (Continuous c) o t = Before (stop_call c) o t × MayRun d s c StopTimer × (one_shot_of (channel_of d c) ≡ false)
 stop_holds d f s (Flag c) o t = After (stop_call c) tells_nothing o t × (c < 8) × ((time : ℕ) → TimerAgrees (channel_of d c) (has_bit f.one_shot c) (flag_clear time (timer_at f c)) (channel_at s c))
 
-abbrev pub stop_bodies : (d : GptDriver) → Bodies (gpt_ground d) StopBody
+abbrev pub stop_bodies : (d : GptTable) → Bodies (gpt_ground d) StopBody
 stop_bodies d = steady d stop_work stop_takes stop_left stop_gap (stop_holds d)
 
 -- ---- what stopping makes of timer and channel, where it runs and where it doesn't
@@ -66,7 +67,7 @@ pub ended_keeps : (k : Option Channel) (x : Timing) (now : ℕ) (q : Bool) → (
 ended_keeps k x now true = (refl, refl)
 ended_keeps k x now false = (refl, refl)
 
-module _ (d : GptDriver) where
+module _ (d : GptTable) where
   -- the gate is closed
   closed : (chip : Chip) (w : World) (s : GptState) (c : ℕ) (open1 : ℕ → Bool) → MayRun d s c StopTimer → GptRepresents d settled chip w s → (open1 c ≡ false → TimerAgrees (channel_of d c) (has_bit chip.timers.one_shot c) (acting Shuts (has_bit chip.timers.one_shot c) chip.timers.time (timer_at chip.timers c)) (stopped (channel_of d c) w.now (channel_at s c))) → GptRepresents d (record settled { block = open1 }) (record chip { timers = acted Shuts chip.timers (bit c) }) w (with_channel s c (stopped (channel_of d c) w.now (channel_at s c)))
   closed chip w s c open1 i h new =

@@ -1,16 +1,17 @@
 -- The services that change a channel's switches: their steps, what holds at each, and that they are right.
--- From Parts, Base, service_outline: Acts, service_outline: Sweep, RefinementRight.
+-- From Base, Parts, gpt_machine: Channels, service_outline: Acts, service_outline: Sweep and 1 more.
 -- Used by service/switch/rt, Lawful, Serve.
 use Rattle.std.proofs.Common.{◌≡◌, ℕ, ◌<◌, Bool, true, false, List, [], ◌∷◌, Option, Some, None, refl, sym, ◌∙◌, ap, subst, arith}
 use Rattle.std.specs.Prelude.{if◌then◌else◌}
 use Rattle.plain_facts.specs.Numbers.{eq_self}
-use Rattle.gpt_driver.specs.laws.Base.{Load as Loads, Store as Stores, Chip, Timers, timer_at, has_bit, DevError, Act, Move, Notice, World, Told, no_answer, Origin, Epilogue, Nothing, One, BodyTaken, goes, ends, never_clean, each_but, Shortens, Bodies, AreRight, error_in, notices_in, Before, Is_before, Lag, settled, only, behind, TimerAgrees, SwitchesOf, GptRepresents, gpt_ground, GptState, channel_at, is_off, runs_at, changed, with_switches, switches, channel_of, switches_word, packed, switches_of, Call, OfChannel, Changes, GptDriver, Switches, Change, MayRun, steady, AllGood, all_right, acts_so}
+use Rattle.gpt_driver.specs.laws.Base.{Load as Loads, Store as Stores, Chip, Timers, timer_at, has_bit, DevError, Act, Move, Notice, World, Told, no_answer, Origin, Epilogue, Nothing, One, BodyTaken, goes, ends, never_clean, each_but, Shortens, Bodies, AreRight, error_in, notices_in, Before, Is_before, Lag, settled, only, behind, TimerAgrees, SwitchesOf, GptRepresents, gpt_ground, GptState, channel_at, is_off, runs_at, changed, with_switches, switches, channel_of, switches_word, packed, switches_of, Call, OfChannel, Changes, GptTable, Switches, Change, MayRun, steady, AllGood, all_right, acts_so}
 use Rattle.mcal_base.specs.declared.notice.NoticeKind.TheVariants.{EcuMSetWakeupEvent}
-use Rattle.gpt_driver.specs.Machine.{tells_event}
+use Rattle.gpt_machine.specs.Machine.{tells_event}
 use Rattle.gpt_driver.specs.declared.service.switch.SwitchBody.{SwitchBody}
 use Rattle.gpt_driver.specs.declared.service.switch.SwitchBody.TheVariants.{Load, Store}
 use Rattle.gpt_driver.specs.laws.RefinementRight.{may_words}
-use Rattle.gpt_driver.specs.laws.Parts.{caught_up, words_with, channel_same, channel_other, never_off, unpacked}
+use Rattle.gpt_machine.specs.laws.Channels.{channel_same, channel_other}
+use Rattle.gpt_driver.specs.laws.Parts.{caught_up, words_with, never_off, unpacked}
 
 -- what is owed where something is told
 abbrev pub owed_if : Bool → Notice → Epilogue
@@ -38,18 +39,18 @@ switch_shortens _ x = omega arith
 abbrev pub switch_gap : SwitchBody → Lag
 switch_gap k = settled
 
-abbrev pub switch_holds : GptDriver → Timers → GptState → SwitchBody → Origin Call → Option Told → Type 0
+abbrev pub switch_holds : GptTable → Timers → GptState → SwitchBody → Origin Call → Option Told → Type 0
 switch_holds d f s (Load c by) o t = Before (OfChannel c (Changes by)) o t × MayRun d s c (Changes by)
 switch_holds d f s (Store c by x) o t = Before (OfChannel c (Changes by)) o t × MayRun d s c (Changes by) × (x ≡ (channel_at s c).switches)
 
-abbrev pub switch_bodies : (d : GptDriver) → Bodies (gpt_ground d) SwitchBody
+abbrev pub switch_bodies : (d : GptTable) → Bodies (gpt_ground d) SwitchBody
 switch_bodies d = steady d switch_work switch_takes switch_left switch_gap (switch_holds d)
 
 pub owes_if : (q : Bool) (n : Notice) → ◌≡◌ {A = List Notice} (if q then n ∷ [] else []) (notices_in (owed_if q n)) × ◌≡◌ {A = Option DevError} None (error_in (owed_if q n))
 owes_if true n = (refl, refl)
 owes_if false n = (refl, refl)
 
-module _ (d : GptDriver) where
+module _ (d : GptTable) where
   -- a channel's switches changed in the machine, before its word is stored
   reswitched : (chip : Chip) (w : World) (s : GptState) (c : ℕ) (x : Switches) → c < 8 → is_off s.mode ≡ false → GptRepresents d settled chip w s → GptRepresents d (behind (switches_word c)) chip w (with_switches s c x)
   reswitched chip w s c x lt on h = record {

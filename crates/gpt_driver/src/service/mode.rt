@@ -1,7 +1,7 @@
 ghost use Rattle.std.specs.Prelude.{◌≡◌};
 ghost use Rattle.gpt_driver.specs.laws.Mode as spec;
 
-use crate::switches::Switches;
+use crate::switches::unpacked;
 use crate::words::{STATE, bit, switches_word};
 use mcal_base::{Move, Reg};
 use service_outline::{Body, BodyTaken, Epilogue, acts, acts_with, ends, goes, nothing};
@@ -63,7 +63,7 @@ impl Body for ModeBody {
 fn with(bits: u32, channel: u8, word: u32) -> u32
     ensures { result ≡ spec.with_sleeper bits channel word }
 {
-    if Switches::of(word).wakeup {
+    if unpacked(word).wakeup {
         bits
     } else {
         bits | bit(channel)

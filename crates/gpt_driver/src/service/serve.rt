@@ -1,8 +1,9 @@
 ghost use Rattle.std.specs.Prelude.{◌≡◌};
 ghost use Rattle.gpt_driver.specs.laws.Serve as spec;
 
-use crate::switches::Switches;
+use crate::switches::{packed, unpacked};
 use crate::words::{STATE, bit, has, switches_word};
+use gpt_machine::Switches;
 use mcal_base::{Event, Move, Notice, NoticeKind, Reg};
 use service_outline::{Body, BodyTaken, Epilogue, ends, goes, nothing};
 
@@ -39,7 +40,7 @@ impl Body for ServeBody {
                     woken: true,
                     ..switches
                 };
-                Move::Store(switches_word(channel), woken.word())
+                Move::Store(switches_word(channel), packed(woken))
             }
         }
     }
@@ -50,7 +51,7 @@ impl Body for ServeBody {
             ServeBody::Look(_) => (*self, ends(None, nothing(), Epilogue::Nothing)),
             ServeBody::Mode(channel) => (ServeBody::Switches(channel, value == 2), goes()),
             ServeBody::Switches(channel, asleep) => (
-                ServeBody::Clear(channel, asleep, Switches::of(value)),
+                ServeBody::Clear(channel, asleep, unpacked(value)),
                 goes(),
             ),
             ServeBody::Clear(channel, asleep, switches) => served(channel, asleep, switches),

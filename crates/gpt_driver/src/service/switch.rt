@@ -1,10 +1,10 @@
 ghost use Rattle.std.specs.Prelude.{◌≡◌};
-ghost use Rattle.gpt_driver.specs.Machine as machine;
+ghost use Rattle.gpt_machine.specs.Machine as machine;
 ghost use Rattle.gpt_driver.specs.laws.Switch as spec;
 
-use crate::call::Change;
-use crate::switches::Switches;
+use crate::switches::{packed, unpacked};
 use crate::words::switches_word;
+use gpt_machine::{Change, Switches};
 use mcal_base::{Move, Notice, NoticeKind};
 use service_outline::{Body, BodyTaken, Epilogue, acts_with, goes, nothing};
 
@@ -28,7 +28,7 @@ impl Body for SwitchBody {
         match *self {
             SwitchBody::Load(channel, _) => Move::Load(switches_word(channel)),
             SwitchBody::Store(channel, change, switches) => {
-                Move::Store(switches_word(channel), change.over(switches).word())
+                Move::Store(switches_word(channel), packed(changed(change, switches)))
             }
         }
     }
@@ -36,40 +36,38 @@ impl Body for SwitchBody {
     fn took(&mut self, value: u32) -> BodyTaken {
         match *self {
             SwitchBody::Load(channel, change) => {
-                *self = SwitchBody::Store(channel, change, Switches::of(value));
+                *self = SwitchBody::Store(channel, change, unpacked(value));
                 goes()
             }
             SwitchBody::Store(channel, change, switches) => {
-                acts_with(nothing(), change.told(channel, switches))
+                acts_with(nothing(), told(change, channel, switches))
             }
         }
     }
 }
 
-impl Change {
-    /// The switches, changed so.
-    fn over(self, switches: Switches) -> Switches
-        ensures { result ≡ machine.changed self switches }
-    {
-        let mut switches = switches;
-        match self {
-            Change::Notification(on) => switches.notification = on,
-            Change::Wakeup(on) => switches.wakeup = on,
-            Change::Check => switches.woken = false,
-        }
-        switches
+/// The switches, changed so.
+fn changed(change: Change, switches: Switches) -> Switches
+    ensures { result ≡ machine.changed change switches }
+{
+    let mut switches = switches;
+    match change {
+        Change::Notification(on) => switches.notification = on,
+        Change::Wakeup(on) => switches.wakeup = on,
+        Change::Check => switches.woken = false,
     }
+    switches
+}
 
-    /// What is told of the switches as they were.
-    fn told(self, channel: u8, switches: Switches) -> Epilogue
-        ensures { result ≡ spec.event_owed self channel switches }
-    {
-        match self {
-            Change::Check if switches.woken => Epilogue::One(Notice {
-                kind: NoticeKind::EcuMSetWakeupEvent,
-                id: u32::from(channel),
-            }),
-            _ => Epilogue::Nothing,
-        }
+/// What is told of the switches as they were.
+fn told(change: Change, channel: u8, switches: Switches) -> Epilogue
+    ensures { result ≡ spec.event_owed change channel switches }
+{
+    match change {
+        Change::Check if switches.woken => Epilogue::One(Notice {
+            kind: NoticeKind::EcuMSetWakeupEvent,
+            id: u32::from(channel),
+        }),
+        _ => Epilogue::Nothing,
     }
 }

@@ -7,15 +7,15 @@ pub use Rattle.std.proofs.lemmas.Bool.Decides.{nat_tests}
 pub use Rattle.mcal_base.specs.Bits.{has_bit}
 pub use Rattle.mcal_base.specs.declared.moves.Event.TheVariants.{Act, Serve}
 pub use Rattle.mcal_base.specs.declared.moves.Move.{Move}
-pub use Rattle.run_model.specs.Machine.{Told, no_answer, tells_nothing, outcome}
+pub use Rattle.run_model.specs.Machine.{Told, no_answer, tells_nothing, outcome, number, numbers, named}
 pub use Rattle.service_outline.specs.declared.done.Epilogue.{Epilogue}
 pub use Rattle.service_outline.specs.declared.done.Epilogue.TheVariants.{Nothing, One}
 pub use Rattle.service_outline.specs.declared.done.BodyTaken.{BodyTaken}
-pub use Rattle.service_outline.specs.Done.{goes, acts as acts_on, ends, number, numbers, named}
+pub use Rattle.service_outline.specs.Done.{goes, acts as acts_on, ends}
 pub use Rattle.service_outline.specs.Fuel.{Shortens}
 pub use Rattle.icu_driver.specs.Words.{word, line, bit, joined, condition_of, first_condition, mode_of}
-pub use Rattle.icu_driver.specs.declared.driver.Channel.{Channel}
-pub use Rattle.icu_driver.specs.declared.driver.IcuDriver.{IcuDriver}
+pub use Rattle.icu_machine.specs.declared.table.Channel.{Channel}
+pub use Rattle.icu_machine.specs.declared.table.IcuTable.{IcuTable}
 pub use Rattle.icu_driver.specs.declared.words.TheConstants.{STATE, SWITCHES, MARKS, SIZES, INTERVALS, PLACES, VALUES, TIMES, LINES, CHANNELS}
 
 -- ---- families of bodies

@@ -1,20 +1,16 @@
 -- What holds of a call about a channel before it acts, and what an act does to the channel.
--- From One, Steady.
+-- From One, Steady, RefinementRight.
 -- Used by Gate, Stamp, Measure, Count, Keeping and 9 more.
 use Rattle.std.proofs.Common.{◌≡◌, ◌<◌, ◌&&◌, ◌||◌, ◌∙◌}
 use Rattle.icu_driver.specs.Terms
 use Terms.{Acts, acts_by, answers, ap, arith, asked, bare, bare_block, behind, Bool, Capture, capture_at, Captures}
 use Terms.{Channel, channel_answer, channel_of, channel_work, ChannelCall, ChannelWords, chip_capture, closed}
-use Terms.{counts_edges, EdgeCounter, emptying, eq_other, error_by, false, get_or-map, happens, HasPlace, HasTurns}
-use Terms.{IcuDriver, IcuMeasurementMode, IcuState, is_counter, is_detection, is_measurement, is_own_word, is_some}
-use Terms.{is_stamp, is_timestamp, IsCourse, length, ModeWords, nat_lt, nat_tests, None, not, off_on, opening, Option}
-use Terms.{outcome, own_word, refl, SignalEdgeDetect, SignalMeasurement, Some, STATE, subst, suits, switched, sym}
-use Terms.{Timestamp, true, with_capture, word, World, ℕ}
+use Terms.{counts_edges, EdgeCounter, emptying, eq_other, error_by, false, get_or-map, happens, HasPlace, HasTurns, IcuTable, IcuMeasurementMode, IcuState, is_counter, is_detection, is_measurement, is_own_word, is_some, is_stamp, is_timestamp, IsCourse, length, ModeWords, nat_lt, nat_tests, None, not, off_on, opening, Option, outcome, own_word, refl, SignalEdgeDetect, SignalMeasurement, Some, STATE, subst, suits, switched, sym, Timestamp, true, with_capture, word, World, ℕ}
 use Rattle.icu_driver.specs.laws.{One.{IsAt, IsRow, apart_words}, Steady.{without_edges, calm_at}}
-use Rattle.icu_driver.specs.declared.call.Call.TheVariants as calls
+use Rattle.icu_machine.specs.declared.call.Call.TheVariants as calls
 
 -- the call names a channel that is for it, and shows no error while the module is on
-pub record MayCall (d : IcuDriver) (c : ℕ) (call : ChannelCall) : Type 0 where
+pub record MayCall (d : IcuTable) (c : ℕ) (call : ChannelCall) : Type 0 where
   pub lt : c < 8
   pub channel : Channel
   pub known : channel_of d c ≡ Some channel
@@ -22,7 +18,7 @@ pub record MayCall (d : IcuDriver) (c : ℕ) (call : ChannelCall) : Type 0 where
   pub pass : (on : Bool) → error_by d (calls.Channel c call) false on ≡ None
 
 -- what it does when it acts
-pub acts_is : (d : IcuDriver) (w : World) (s : IcuState) (c : ℕ) (call : ChannelCall) (times : ℕ → ℕ) (i : MayCall d c call) → s.initialised ≡ true → happens d w s (Acts (calls.Channel c call) times) ≡ Some (outcome (with_capture s c (channel_work call (capture_at s c))) (answers (channel_answer i.channel call (capture_at s c))))
+pub acts_is : (d : IcuTable) (w : World) (s : IcuState) (c : ℕ) (call : ChannelCall) (times : ℕ → ℕ) (i : MayCall d c call) → s.initialised ≡ true → happens d w s (Acts (calls.Channel c call) times) ≡ Some (outcome (with_capture s c (channel_work call (capture_at s c))) (answers (channel_answer i.channel call (capture_at s c))))
 acts_is d w s c call times i on = ap (λ u. Some (acts_by d s (calls.Channel c call) (error_by d (calls.Channel c call) (not u) (capture_at s c).on))) on ∙ (ap (λ e. Some (acts_by d s (calls.Channel c call) e)) (i.pass (capture_at s c).on) ∙ ap (λ k. Some (asked k s c call)) i.known)
 
 -- ---- the modes of channels
@@ -53,7 +49,7 @@ measures SignalMeasurement e = refl
 
 -- ---- a channel by its mode
 
-module _ (d : IcuDriver) (c : ℕ) (k : Channel) (known : channel_of d c ≡ Some k) where
+module _ (d : IcuTable) (c : ℕ) (k : Channel) (known : channel_of d c ≡ Some k) where
   module _ (m : IcuMeasurementMode) (is : k.mode ≡ m) (at : ℕ → ℕ) (behind : ℕ → Bool) (x : Capture) where
     pub to_mode : ChannelWords (channel_of d c) at behind c x → ModeWords m at behind c k x
     to_mode h = subst (λ z. ModeWords z at behind c k x) is (subst (λ z. ChannelWords z at behind c x) known h)
@@ -107,7 +103,7 @@ pub calm_on : (s : IcuState) (c : ℕ) → c < 8 → (capture_at (without_edges 
 calm_on s c lt = ap (λ x. x.on) (calm_at s c lt)
 
 -- a word of a row may be named
-pub may_row : (d : IcuDriver) (first c : ℕ) → IsRow first → c < 8 → (is_own_word d (word first c) || is_stamp d (word first c)) && nat_lt (word first c) 147456 ≡ true
+pub may_row : (d : IcuTable) (first c : ℕ) → IsRow first → c < 8 → (is_own_word d (word first c) || is_stamp d (word first c)) && nat_lt (word first c) 147456 ≡ true
 may_row d first c row lt =
     let a = row.1 in
     let b = row.2 in

@@ -1,31 +1,25 @@
 -- The services that set or ask for what a channel keeps: their steps, what holds at each, and that they are right.
--- From One, Calls, Steady, Channels.
+-- From One, Calls, Steady, RefinementRight, Channels and 1 more.
 -- Used by Detecting, service/change/rt, Lawful, Windows, Sampling and 2 more.
 use Rattle.std.proofs.Common.{◌≡◌, ◌≢◌, ◌<◌, ◌≤◌, ◌^◌, ◌&&◌, ◌||◌, ◌==◌, ◌∙◌, if◌then◌else◌}
 use Rattle.icu_driver.specs.Terms
 use Terms.{ActiveIs, After, AllByRecursion, answers, ap, AreRight, arith, Before, behind, below_test, bit_of, Bodies}
 use Terms.{Bool, Both, Call, Called, Capture, capture_at, CaptureAgrees, CaptureCondition, Captures, ChangeBody}
 use Terms.{channel_answer, channel_of, channel_work, ChannelCall, Chip, chip_after, chip_capture, Choose, ChoosesAs}
-use Terms.{condition_by, DisableNotification, Edge, EdgeCounter, EnableNotification, eq_other, eq_self, Falling, false}
-use Terms.{GetInputState, halves, has_notification, HasPlace, HasTurns, icu_ground, IcuDriver, IcuMeasurementMode}
-use Terms.{IcuRepresents, IcuStartEdge, IcuState, input_answer, Is_after, Is_before, is_detection, Is_fresh}
-use Terms.{is_measurement, Is_on, Is_stopped, is_timestamp, IsCourse, IsStart, Lag, length, Load, ModeWords, None, none}
-use Terms.{not-true, Notify, off_on, only, OppositeIs, Option, Origin, outcome, owes_nothing, place_of, refl, Rising}
-use Terms.{seen_by, SetActivationCondition, settled, SignalEdgeDetect, SignalMeasurement, Some, stamp_in, Stamped}
-use Terms.{Stamps, stands-move, StandsLow, StartIs, Store, subst, suits, sym, Take, Timestamp, Told, true, ValueIs}
-use Terms.{waiting_value, with_capture, with_condition, word_of, World, Write, ℕ}
-use Rattle.icu_driver.specs.declared.call.Call.TheVariants.{Channel}
+use Terms.{condition_by, DisableNotification, Edge, EdgeCounter, EnableNotification, eq_other, eq_self, Falling, false, GetInputState, halves, has_notification, HasPlace, HasTurns, icu_ground, IcuTable, IcuMeasurementMode, IcuRepresents, IcuStartEdge, IcuState, input_answer, Is_after, Is_before, is_detection, Is_fresh, is_measurement, Is_on, Is_stopped, is_timestamp, IsCourse, IsStart, Lag, length, Load, ModeWords, None, none, not-true, Notify, off_on, only, OppositeIs, Option, Origin, outcome, owes_nothing, place_of, refl, Rising, seen_by, SetActivationCondition, settled, SignalEdgeDetect, SignalMeasurement, Some, stamp_in, Stamped, Stamps, stands-move, StandsLow, StartIs, Store, subst, suits, sym, Take, Timestamp, Told, true, ValueIs, waiting_value, with_capture, with_condition, word_of, World, Write, ℕ}
+use Rattle.icu_machine.specs.declared.call.Call.TheVariants.{Channel}
 use Rattle.icu_driver.specs.declared.service.change.ChangeBody.TheVariants.{Drop, Ask}
 use Rattle.icu_driver.specs.laws.{Base.{Move, Act, no_answer, BodyTaken, acts_on, ends, Nothing, Shortens, word}}
 use Rattle.icu_driver.specs.laws.{Base.{condition_of, SWITCHES, MARKS, SIZES, INTERVALS, PLACES, VALUES, TIMES}}
 use Rattle.icu_driver.specs.laws.{Calls.{MayCall, acts_is, to_mode, from_mode, is_there, behind_at, may_row}}
 use Rattle.icu_driver.specs.laws.{Channels.{block_as}, One.{IsAt, IsRow, ChipLeft, ChannelAgrees, channel_agrees}}
-use Rattle.icu_driver.specs.laws.{One.{one_agrees, settled_at, apart_rows, same_state, with_same, with_state}}
+use Rattle.icu_machine.specs.laws.{Channels.{with_same}}
+use Rattle.icu_driver.specs.laws.{One.{one_agrees, settled_at, apart_rows, same_state, with_state}}
 use Rattle.icu_driver.specs.laws.{One.{left_same, left_channel, left_word, channel_new, word_new, word_old, stamps_old}}
 use Rattle.icu_driver.specs.laws.{Steady.{without_edges, calm_at, Good, AllGood, steady, steady_right}}
 use Rattle.chip_captures.specs.declared.capture.Capture as chips
 use Rattle.chip_captures.specs.declared.capture.Condition.TheVariants as conditions
-use Rattle.icu_driver.specs.declared.driver.Channel as configured
+use Rattle.icu_machine.specs.declared.table.Channel as configured
 
 abbrev pub change_work : ChangeBody → Move
 change_work (Notify c on) = Store (word SWITCHES c) (bit_of on)
@@ -74,17 +68,17 @@ abbrev pub chosen_call : IcuStartEdge → ChannelCall
 chosen_call e = SetActivationCondition (Some e)
 
 -- what it answers stands; the mark that the machine has dropped is of a detection, or of a measurement
-abbrev pub Dropped : IcuDriver → IcuState → ℕ → Type 0
+abbrev pub Dropped : IcuTable → IcuState → ℕ → Type 0
 Dropped d s c = (k : configured.Channel) × (channel_of d c ≡ Some k) × (is_detection k.mode || is_measurement k.mode ≡ true) × (c < 8) × (s.initialised ≡ true) × ((capture_at s c).active ≡ false)
 
-abbrev pub change_holds : IcuDriver → Captures → IcuState → ChangeBody → Origin Call → Option Told → Type 0
+abbrev pub change_holds : IcuTable → Captures → IcuState → ChangeBody → Origin Call → Option Told → Type 0
 change_holds d f s (Notify c on) o t = Before (Channel c (notifying on)) o t × MayCall d c (notifying on) × (s.initialised ≡ true)
 change_holds d f s (Choose c e q) o t = Before (Channel c (chosen_call e)) o t × (i : MayCall d c (chosen_call e)) × (s.initialised ≡ true) × (q ≡ is_detection i.channel.mode)
 change_holds d f s (Drop c) o t = (call : Call) × After call (answers no_answer) o t × Dropped d s c
 change_holds d f s (Ask c) o t = Before (Channel c GetInputState) o t × MayCall d c GetInputState × (s.initialised ≡ true)
 change_holds d f s (Take c m) o t = After (Channel c GetInputState) (answers (input_answer (m == 1))) o t × Dropped d s c
 
-abbrev pub change_bodies : (d : IcuDriver) → Bodies (icu_ground d) ChangeBody
+abbrev pub change_bodies : (d : IcuTable) → Bodies (icu_ground d) ChangeBody
 change_bodies d = steady d change_work change_takes change_left change_gap (change_holds d)
 
 pub row_switches : IsRow SWITCHES
@@ -243,7 +237,7 @@ words_stored SignalMeasurement at at1 c k x new old off e h = record {
   time = λ f. subst (λ v. ActiveIs v (waiting_value k x)) (sym (old TIMES (omega arith))) (h.time (beside TIMES c (omega arith)));
 }
 
-module _ (d : IcuDriver) where
+module _ (d : IcuTable) where
   -- what a machine with another mark, notification or choice is behind with
   module _ (gap1 : Lag) (chip chip1 : Chip) (w : World) (s : IcuState) (c : ℕ) (i : (k : configured.Channel) × (channel_of d c ≡ Some k)) (lt : c < 8) (on : s.initialised ≡ true) (h : IcuRepresents d settled chip w s) (at : IsAt c gap1) (left : ChipLeft c w chip chip1) where
     other : (y : Capture) → CaptureAgrees (channel_of d c) (gap1.gates c) (gap1.queues c) (gap1.counts c) s.initialised (s.initialised || gap1.moded) (chip_capture chip1.captures c) y → ModeWords i.0.mode (λ j. word_of chip1 j) gap1.words c i.0 y → IsCourse (channel_of d c) y → HasPlace (channel_of d c) y → HasTurns (channel_of d c) w y → ((j : ℕ) → j < 64 → word_of chip1 (place_of (Stamps c) j) ≡ stamp_in y.stored j) → IcuRepresents d gap1 chip1 w (with_capture s c y)

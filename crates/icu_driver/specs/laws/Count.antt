@@ -1,26 +1,23 @@
 -- The services of an edge counter: their steps, what holds at each, and that they are right.
--- From One, Calls, Steady, Channels.
+-- From One, Calls, Steady, Channels, RefinementRight and 1 more.
 -- Used by service/count/rt, Lawful, Windows, Sampling, Keeping.
 use Rattle.std.proofs.Common.{◌≡◌, ◌/◌, ◌%◌, ◌<◌, ◌^◌, ◌||◌, ◌∙◌}
 use Rattle.icu_driver.specs.Terms
 use Terms.{acted, acting, After, answers, ap, AreRight, arith, Before, below_test, Bodies, Bool, Call, Capture}
 use Terms.{capture_at, CaptureAgrees, CaptureCountHigh, CaptureCountLow, CaptureGateClear, CaptureGateSet, Captures}
-use Terms.{CaptureZero, channel_of, Chip, chip_after, chip_capture, CountBody, DisableEdgeCount, EdgeCounter}
-use Terms.{EnableEdgeCount, false, GetEdgeNumbers, icu_ground, IcuDriver, IcuRepresents, IcuState, Is_after, Is_before}
-use Terms.{is_counter, is_measurement, is_timestamp, IsCourse, Lag, None, none, off_on, Option, Origin, outcome}
-use Terms.{place_of, Read, refl, ResetEdgeCount, settled, Some, stamp_in, Stamps, stands-move, StandsIn, subst}
-use Terms.{switched, sym, Told, true, Turn, with_capture, word_of, World, Write, zeroed, ℕ}
-use Rattle.icu_driver.specs.declared.call.Call.TheVariants.{Channel}
+use Terms.{CaptureZero, channel_of, Chip, chip_after, chip_capture, CountBody, DisableEdgeCount, EdgeCounter, EnableEdgeCount, false, GetEdgeNumbers, icu_ground, IcuTable, IcuRepresents, IcuState, Is_after, Is_before, is_counter, is_measurement, is_timestamp, IsCourse, Lag, None, none, off_on, Option, Origin, outcome, place_of, Read, refl, ResetEdgeCount, settled, Some, stamp_in, Stamps, stands-move, StandsIn, subst, switched, sym, Told, true, Turn, with_capture, word_of, World, Write, zeroed, ℕ}
+use Rattle.icu_machine.specs.declared.call.Call.TheVariants.{Channel}
 use Rattle.icu_driver.specs.declared.service.count.CountBody.TheVariants.{Open, Close, Zero, Low, High}
 use Rattle.icu_driver.specs.laws.{Base.{Move, Act, no_answer, BodyTaken, acts_on, ends, number, Nothing, Shortens, bit}}
 use Rattle.icu_driver.specs.laws.{Base.{joined}, Calls.{MayCall, acts_is, counts, from_mode, is_there, counting}}
 use Rattle.icu_driver.specs.laws.{Calls.{place_by, turns_by, switched_course}, Channels.{gated_agrees, zeroed_agrees}}
-use Rattle.icu_driver.specs.laws.{One.{ChipLeft, ChannelAgrees, channel_agrees, one_agrees, settled_at, with_same}}
+use Rattle.icu_machine.specs.laws.{Channels.{with_same}}
+use Rattle.icu_driver.specs.laws.{One.{ChipLeft, ChannelAgrees, channel_agrees, one_agrees, settled_at}}
 use Rattle.icu_driver.specs.laws.{One.{with_state, left_latched, left_channel, left_gate, channel_new, gate_new}}
 use Rattle.icu_driver.specs.laws.{Steady.{AllGood, steady, steady_right}}
 use Rattle.chip_captures.specs.declared.capture.Act.TheVariants as turns
 use Rattle.chip_captures.specs.declared.capture.Capture as chips
-use Rattle.icu_driver.specs.declared.driver.Channel as configured
+use Rattle.icu_machine.specs.declared.table.Channel as configured
 
 abbrev pub count_work : CountBody → Move
 count_work (Open c) = Write CaptureGateSet (bit c)
@@ -55,21 +52,21 @@ count_shortens (High c low) x = omega arith
 abbrev pub count_gap : CountBody → Lag
 count_gap k = settled
 
-abbrev pub count_holds : IcuDriver → Captures → IcuState → CountBody → Origin Call → Option Told → Type 0
+abbrev pub count_holds : IcuTable → Captures → IcuState → CountBody → Origin Call → Option Told → Type 0
 count_holds d f s (Open c) o t = Before (Channel c EnableEdgeCount) o t × MayCall d c EnableEdgeCount × (s.initialised ≡ true)
 count_holds d f s (Close c) o t = Before (Channel c DisableEdgeCount) o t × MayCall d c DisableEdgeCount × (s.initialised ≡ true)
 count_holds d f s (Zero c) o t = Before (Channel c ResetEdgeCount) o t × MayCall d c ResetEdgeCount × (s.initialised ≡ true)
 count_holds d f s (Low c) o t = Before (Channel c GetEdgeNumbers) o t × MayCall d c GetEdgeNumbers × (s.initialised ≡ true)
 count_holds d f s (High c low) o t = After (Channel c GetEdgeNumbers) (answers (number (joined low f.latch))) o t × (c < 8)
 
-abbrev pub count_bodies : (d : IcuDriver) → Bodies (icu_ground d) CountBody
+abbrev pub count_bodies : (d : IcuTable) → Bodies (icu_ground d) CountBody
 count_bodies d = steady d count_work count_takes count_left count_gap (count_holds d)
 
 -- the halves of a number make the number
 pub halves_join : (n : ℕ) → n < 2 ^ 32 → joined (n % 65536) (n / 65536) ≡ n
 halves_join n lt = let a : n < 4294967296 = lt in omega arith
 
-module _ (d : IcuDriver) where
+module _ (d : IcuTable) where
   -- a counter's state changes, and its gate or its count
   module _ (chip : Chip) (w : World) (s : IcuState) (c : ℕ) (k : configured.Channel) (lt : c < 8) (known : channel_of d c ≡ Some k) (mode : k.mode ≡ EdgeCounter) (on : s.initialised ≡ true) (h : IcuRepresents d settled chip w s) where
     counted : (chip1 : Chip) (y : Capture) → ChipLeft c w chip chip1 → CaptureAgrees (channel_of d c) false false false s.initialised (s.initialised || false) (chip_capture chip1.captures c) y → IsCourse (channel_of d c) y → ((i : ℕ) → i < 64 → word_of chip1 (place_of (Stamps c) i) ≡ stamp_in y.stored i) → IcuRepresents d settled chip1 w (with_capture s c y)

@@ -1,5 +1,5 @@
 -- What an edge leaves of a channel beside its queue and count: its words, its course and its place for a stamp.
--- From Parts, Tables.
+-- From icu_machine: Edges, icu_machine: Channels.
 -- Used by Levels.
 use Rattle.std.proofs.Common.{◌≡◌, ℕ, ◌+◌, ◌%◌, ◌<◌, ◌≤◌, ◌^◌, Bool, true, false, ◌&&◌, ◌||◌, ◌==◌, not, nat_lt, [], ◌∷◌, ◌++◌, length, List, Option, Some, None, refl, sym, ◌∙◌, ap, subst, arith, length-append}
 use Rattle.std.specs.Prelude.{if◌then◌else◌}
@@ -7,13 +7,13 @@ use Rattle.std.specs.List.{AllByRecursion}
 use Rattle.std.proofs.lemmas.Bool.Decides.{nat_tests}
 use Rattle.mcal_base.specs.declared.config.icu.IcuMeasurementMode.{IcuMeasurementMode}
 use Rattle.mcal_base.specs.declared.config.icu.IcuMeasurementMode.TheVariants.{SignalEdgeDetect, EdgeCounter, Timestamp, SignalMeasurement}
-use Rattle.icu_driver.specs.Edges.{Edge}
+use Rattle.icu_machine.specs.Edges.{Edge}
 use Rattle.icu_driver.specs.Refinement.{ChannelWords, ModeWords, IsCourse, IsStart, HasPlace, Stamped, Is_on, Is_stopped, Is_fresh}
-use Rattle.icu_driver.specs.Machine.{Capture, edge_taken, edge_queued, is_taken, edge_at_pin}
-use Rattle.icu_driver.specs.Table.{is_counter, is_measurement, chooses}
-use Rattle.icu_driver.specs.declared.driver.Channel.{Channel}
-use Rattle.icu_driver.specs.laws.Parts.{still, taken-still}
-use Rattle.icu_driver.specs.laws.Tables.{by_if}
+use Rattle.icu_machine.specs.Machine.{Capture, edge_taken, edge_queued, is_taken, edge_at_pin}
+use Rattle.icu_machine.specs.Table.{is_counter, is_measurement, chooses}
+use Rattle.icu_machine.specs.declared.table.Channel.{Channel}
+use Rattle.icu_machine.specs.laws.Channels.{by_if}
+use Rattle.icu_machine.specs.laws.Edges.{still, taken-still}
 
 -- ---- words
 
@@ -45,10 +45,6 @@ words_still None at behind c x y e h = tt
 words_still (Some k) at behind c x y e h = words_from k.mode at behind c k y (subst (λ z. ModeWords k.mode at behind c k z) (sym e) (words_to k.mode at behind c k x h))
 
 -- ---- an edge at a pin
-
-pub pin_still : (k : Option Channel) (now pin : ℕ) (rising : Bool) (x : Capture) → still (edge_at_pin k now pin rising x) ≡ still x
-pin_still None now pin rising x = refl
-pin_still (Some k) now pin rising x = by_if (λ y. still y ≡ still x) (k.pin == pin) (edge_taken k now rising x) x (taken-still k now rising x) refl
 
 -- a channel that is off takes none
 pub off_same : (k : Channel) (now : ℕ) (rising : Bool) (x : Capture) → x.on ≡ false → edge_taken k now rising x ≡ x

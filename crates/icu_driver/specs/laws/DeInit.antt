@@ -1,5 +1,5 @@
 -- Icu_DeInit: its steps, what holds at each, and that they are right.
--- From One, Rows, Calls, Init, Stamp and 2 more.
+-- From One, Rows, Calls, Init, Stamp and 5 more.
 -- Used by service/deinit/rt, Lawful, Windows.
 use Rattle.std.proofs.Common.{◌≡◌, ◌≢◌, ◌+◌, ◌-◌, ◌*◌, ◌%◌, ◌<◌, ◌≤◌, ◌&&◌, ◌||◌, ◌==◌, [], ◌∷◌, ◌∙◌, if◌then◌else◌}
 use Rattle.icu_driver.specs.Terms
@@ -20,14 +20,14 @@ use Rattle.icu_driver.specs.laws.{One.{left_word, channel_new, acted_at, word_ne
 use Rattle.icu_driver.specs.laws.{Rows.{rows_behind, behind_row, grows, New_waits, measure_closed}}
 use Rattle.icu_driver.specs.laws.{Stamp.{row_switches, row_marks, row_places}, Steady.{AllGood, steady, steady_right}}
 use Rattle.icu_driver.specs.laws.{Base.{nat_tests, Move, tells_nothing, no_answer, BodyTaken, goes, acts_on, ends}}
-use Rattle.icu_driver.specs.laws.{Base.{Nothing, Shortens, word, Channel, IcuDriver, STATE, LINES, CHANNELS, SWITCHES}}
+use Rattle.icu_driver.specs.laws.{Base.{Nothing, Shortens, word, Channel, IcuTable, STATE, LINES, CHANNELS, SWITCHES}}
 use Rattle.icu_driver.specs.laws.{Base.{MARKS, SIZES, PLACES, VALUES, TIMES}}
 use Rattle.icu_driver.specs.declared.service.deinit.DeInitBody.TheVariants.{Store, Close, Switch, Mark}
 use Rattle.chip_captures.specs.declared.capture.Act.TheVariants as turns
 use Rattle.chip_captures.specs.declared.capture.Capture as chips
 
 -- the channel is an edge counter
-abbrev pub counts : IcuDriver → ℕ → Bool
+abbrev pub counts : IcuTable → ℕ → Bool
 counts d c = counts_edges (channel_of d c)
 
 abbrev pub deinit_work : DeInitBody → Move
@@ -40,10 +40,10 @@ deinit_work (Switch d c) = Stores (word SWITCHES c) 0
 deinit_work (Mark d c) = Stores (word MARKS c) 0
 
 -- where the work on a channel begins, and what follows it
-abbrev pub deinit_at : IcuDriver → ℕ → DeInitBody
+abbrev pub deinit_at : IcuTable → ℕ → DeInitBody
 deinit_at d c = if counts d c then Zero d c else Flush d c
 
-abbrev pub deinit_past : DeInitBody → IcuDriver → ℕ → DeInitBody × BodyTaken
+abbrev pub deinit_past : DeInitBody → IcuTable → ℕ → DeInitBody × BodyTaken
 deinit_past k d c = if nat_lt c 7 then (deinit_at d (c + 1), goes) else (k, ends None no_answer Nothing)
 
 abbrev pub deinit_takes : DeInitBody → ℕ → DeInitBody × BodyTaken
@@ -64,14 +64,14 @@ deinit_left (Flush d c) = 3 + 3 * (7 - c)
 deinit_left (Switch d c) = 2 + 3 * (7 - c)
 deinit_left (Mark d c) = 1 + 3 * (7 - c)
 
-deinit_at_left : (d : IcuDriver) (c n : ℕ) → 3 + 3 * (7 - c) < n → deinit_left (deinit_at d c) < n
+deinit_at_left : (d : IcuTable) (c n : ℕ) → 3 + 3 * (7 - c) < n → deinit_left (deinit_at d c) < n
 deinit_at_left d c n lt = by_kind (counts d c)
   where
     by_kind : (q : Bool) → deinit_left (if q then Zero d c else Flush d c) < n
     by_kind true = lt
     by_kind false = lt
 
-past_shortens : (k : DeInitBody) (d : IcuDriver) (c : ℕ) (q : Bool) → nat_lt c 7 ≡ q → 1 + 3 * (7 - c) ≤ deinit_left k → Shortens deinit_left k (if q then (deinit_at d (c + 1), goes) else (k, ends None no_answer Nothing))
+past_shortens : (k : DeInitBody) (d : IcuTable) (c : ℕ) (q : Bool) → nat_lt c 7 ≡ q → 1 + 3 * (7 - c) ≤ deinit_left k → Shortens deinit_left k (if q then (deinit_at d (c + 1), goes) else (k, ends None no_answer Nothing))
 past_shortens k d c true e h = let less : c < 7 = grind (arith, nat_tests) in deinit_at_left d (c + 1) (deinit_left k) (omega (arith, h, less))
 past_shortens k d c false e h = omega (arith, h)
 
@@ -95,7 +95,7 @@ abbrev pub behind_from : (switches marks : ℕ) → ℕ → Bool
 behind_from i m j = from SWITCHES i j || (from MARKS m j || from PLACES m j)
 
 -- what waits or was counted is still there from a channel on
-abbrev pub dropping : IcuDriver → (edges switches marks : ℕ) → Lag
+abbrev pub dropping : IcuTable → (edges switches marks : ℕ) → Lag
 dropping d e i m = record settled {
   queues = λ c. not (nat_lt c e) && not (counts d c);
   counts = λ c. not (nat_lt c e) && counts d c;
@@ -103,10 +103,10 @@ dropping d e i m = record settled {
 }
 
 -- the gates are still as they were
-abbrev pub closing : IcuDriver → Option Bool → Lag
+abbrev pub closing : IcuTable → Option Bool → Lag
 closing d lines = record (dropping d 0 0 0) { gates = λ c. true; moded = true; lines = lines }
 
-abbrev pub deinit_gap : IcuDriver → DeInitBody → Lag
+abbrev pub deinit_gap : IcuTable → DeInitBody → Lag
 deinit_gap d (Store e) = settled
 deinit_gap d (Disable e) = closing d (Some true)
 deinit_gap d (Close e) = closing d None
@@ -115,7 +115,7 @@ deinit_gap d (Flush e c) = dropping d c c c
 deinit_gap d (Switch e c) = dropping d (c + 1) c c
 deinit_gap d (Mark e c) = dropping d (c + 1) (c + 1) c
 
-abbrev pub deinit_holds : IcuDriver → Captures → IcuState → DeInitBody → Origin Call → Option Told → Type 0
+abbrev pub deinit_holds : IcuTable → Captures → IcuState → DeInitBody → Origin Call → Option Told → Type 0
 deinit_holds d f s (Store e) o t = Before DeInit o t × (e ≡ d) × (s.initialised ≡ true)
 deinit_holds d f s (Disable e) o t = After DeInit tells_nothing o t × (e ≡ d) × (s.initialised ≡ false)
 deinit_holds d f s (Close e) o t = After DeInit tells_nothing o t × (e ≡ d) × (s.initialised ≡ false)
@@ -124,7 +124,7 @@ deinit_holds d f s (Flush e c) o t = After DeInit tells_nothing o t × (e ≡ d)
 deinit_holds d f s (Switch e c) o t = After DeInit tells_nothing o t × (e ≡ d) × (s.initialised ≡ false) × (c < 8) × (counts d c ≡ false)
 deinit_holds d f s (Mark e c) o t = After DeInit tells_nothing o t × (e ≡ d) × (s.initialised ≡ false) × (c < 8) × (counts d c ≡ false)
 
-abbrev pub deinit_bodies : (d : IcuDriver) → Bodies (icu_ground d) DeInitBody
+abbrev pub deinit_bodies : (d : IcuTable) → Bodies (icu_ground d) DeInitBody
 deinit_bodies d = steady d deinit_work deinit_takes deinit_left (deinit_gap d) (deinit_holds d)
 
 -- ---- the words of rows from a channel on
@@ -288,7 +288,7 @@ mark_words (Some k) at c x z new h = mark_mode k.mode at c k x (z refl) new h
 not_yet : (k c : ℕ) → k ≢ c → nat_lt k c ≡ nat_lt k (c + 1)
 not_yet k c ne = grind (arith, nat_tests)
 
-module _ (d : IcuDriver) where
+module _ (d : IcuTable) where
   -- the gap of one channel is closed
   dropping_left : (c e i m e1 i1 m1 : ℕ) → ((k : ℕ) → k ≢ c → nat_lt k e ≡ nat_lt k e1) → ((k : ℕ) → k ≢ c → nat_lt k i ≡ nat_lt k i1) → ((k : ℕ) → k ≢ c → nat_lt k m ≡ nat_lt k m1) → GapLeft c (dropping d e i m) (dropping d e1 i1 m1)
   dropping_left c e i m e1 i1 m1 edges switches marks = record {
@@ -365,7 +365,7 @@ module _ (d : IcuDriver) where
   abbrev Here : Chip → World → IcuState → DeInitBody → Type 0
   Here chip w s k = At (icu_ground d) (deinit_bodies d) chip w s k (Called DeInit) (Some tells_nothing)
 
-  at_channel : (chip : Chip) (w : World) (s : IcuState) (e : IcuDriver) (c : ℕ) → e ≡ d → s.initialised ≡ false → c < 8 → IcuRepresents d (dropping d c c c) chip w s → Here chip w s (deinit_at e c)
+  at_channel : (chip : Chip) (w : World) (s : IcuState) (e : IcuTable) (c : ℕ) → e ≡ d → s.initialised ≡ false → c < 8 → IcuRepresents d (dropping d c c c) chip w s → Here chip w s (deinit_at e c)
   at_channel chip w s e c is off lt h = by (counts e c) refl
     where
       same : (q : Bool) → counts e c ≡ q → counts d c ≡ q
@@ -375,7 +375,7 @@ module _ (d : IcuDriver) where
       by true i = (h, ((Is_after, is, off, lt, same true i), tt))
       by false i = (h, ((Is_after, is, off, lt, same false i), tt))
 
-  past_channel : (chip : Chip) (w : World) (s : IcuState) (made : Move) (m : ℕ → Bool) (k : DeInitBody) (e : IcuDriver) (c : ℕ) → e ≡ d → s.initialised ≡ false → c < 8 → IcuRepresents d (dropping d (c + 1) (c + 1) (c + 1)) chip w s → StepsTo (icu_ground d) (deinit_bodies d) chip w s (Called DeInit) made false (Some tells_nothing) m (deinit_past k e c)
+  past_channel : (chip : Chip) (w : World) (s : IcuState) (made : Move) (m : ℕ → Bool) (k : DeInitBody) (e : IcuTable) (c : ℕ) → e ≡ d → s.initialised ≡ false → c < 8 → IcuRepresents d (dropping d (c + 1) (c + 1) (c + 1)) chip w s → StepsTo (icu_ground d) (deinit_bodies d) chip w s (Called DeInit) made false (Some tells_nothing) m (deinit_past k e c)
   past_channel chip w s made m k e c is off lt h = by (nat_lt c 7) refl
     where
       more : nat_lt c 7 ≡ true → c + 1 < 8

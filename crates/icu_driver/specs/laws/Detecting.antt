@@ -1,22 +1,17 @@
 -- The handler of an edge detection: what holds at each of its places, and that it is right.
--- From One, Serve, Rows, Calls, Steady and 4 more.
+-- From Serve, One, Rows, Calls, Steady and 7 more.
 -- Used by Lawful.
 use Rattle.std.proofs.Common.{◌≡◌, ◌/◌, ◌<◌, ◌||◌, ◌==◌, [], ◌∷◌, ◌∙◌, if◌then◌else◌}
 use Rattle.icu_driver.specs.Terms
 use Terms.{ap, AreRight, below_test, bit_of, Bodies, Bool, Call, capture_at, CaptureAgrees, CaptureInfo, CapturePop}
-use Terms.{Captures, Channel, channel_of, Chip, chip_after, chip_capture, counts_edges, DetectBody, Edge, EdgeCounter}
-use Terms.{Entered, false, icu_ground, icu_machine, IcuDriver, IcuMeasurementMode, IcuRepresents, IcuSignalNotification}
-use Terms.{IcuState, info_of, is_counter, is_detection, is_measurement, Is_served, Is_serving, is_timestamp, kept}
-use Terms.{kinds_by, Lag, List, map, missed_after, ModeWords, never_clean, None, none, notices_of, off_on, Option}
-use Terms.{Origin, outcome, popped, Read, refl, Served, served_by, Serving, settled, SignalEdgeDetect}
-use Terms.{SignalMeasurement, Some, stands-move, StepsTo, Store, subst, sym, Timestamp, Told, true, with_capture}
-use Terms.{word_of, World, Write, ℕ}
+use Terms.{Captures, Channel, channel_of, Chip, chip_after, chip_capture, counts_edges, DetectBody, Edge, EdgeCounter, Entered, false, icu_ground, icu_machine, IcuTable, IcuMeasurementMode, IcuRepresents, IcuSignalNotification, IcuState, info_of, is_counter, is_detection, is_measurement, Is_served, Is_serving, is_timestamp, kept, kinds_by, Lag, List, map, missed_after, ModeWords, never_clean, None, none, notices_of, off_on, Option, Origin, outcome, popped, Read, refl, Served, served_by, Serving, settled, SignalEdgeDetect, SignalMeasurement, Some, stands-move, StepsTo, Store, subst, sym, Timestamp, Told, true, with_capture, word_of, World, Write, ℕ}
 use Rattle.icu_driver.specs.declared.service.detect.DetectBody.TheVariants.{Look, Switch, Pop, Mark}
 use Rattle.icu_driver.specs.laws.{Base.{no_answer, goes, ends, Nothing, word, line, SWITCHES, MARKS}, Calls.{to_mode}}
 use Rattle.icu_driver.specs.laws.{Calls.{from_mode, place_by, turns_by, may_row}, Change.{as_course, row_switches}}
 use Rattle.icu_driver.specs.laws.{Change.{row_marks}, Channels.{popped_agrees, block_as}, Detect.{detect_work}}
 use Rattle.icu_driver.specs.laws.{Detect.{detect_takes, detect_left, detect_shortens}, Measure.{one_is}}
-use Rattle.icu_driver.specs.laws.{One.{ChannelAgrees, channel_agrees, one_agrees, settled_at, with_same, with_state}}
+use Rattle.icu_machine.specs.laws.{Channels.{with_same}}
+use Rattle.icu_driver.specs.laws.{One.{ChannelAgrees, channel_agrees, one_agrees, settled_at, with_state}}
 use Rattle.icu_driver.specs.laws.{One.{left_channel, channel_new, word_new}, Rows.{rows_of, rows_behind, behind_row}}
 use Rattle.icu_driver.specs.laws.{Rows.{rows_at, row_others, row_stored, still_not}, Serve.{missed_here, info_empty}}
 use Rattle.icu_driver.specs.laws.{Serve.{waiting_on, split, served_here, popped_course, told_of, owes_notice}}
@@ -27,10 +22,10 @@ detect_gap (Mark c on) = rows_of (MARKS ∷ []) c
 detect_gap _ = settled
 
 -- a detection; a counter is looked at too, on which no edge waits
-abbrev pub IsDetection : IcuDriver → ℕ → Type 0
+abbrev pub IsDetection : IcuTable → ℕ → Type 0
 IsDetection d c = (k : Channel) × (channel_of d c ≡ Some k) × (k.mode ≡ SignalEdgeDetect) × (c < 8)
 
-abbrev pub detect_holds : IcuDriver → Captures × List ℕ → IcuState → DetectBody → Origin Call → Option Told → Type 0
+abbrev pub detect_holds : IcuTable → Captures × List ℕ → IcuState → DetectBody → Origin Call → Option Told → Type 0
 detect_holds d f s (Look c) o t = Serving (line c) o t × (k : Channel) × (channel_of d c ≡ Some k) × (is_detection k.mode || is_counter k.mode ≡ true) × (c < 8)
 detect_holds d f s (Switch c) o t = Serving (line c) o t × IsDetection d c
 detect_holds d f s (Pop c on) o t = Serving (line c) o t × IsDetection d c × (on ≡ (capture_at s c).notification)
@@ -43,7 +38,7 @@ detect_front (Switch c) = Some c
 detect_front (Pop c on) = Some c
 detect_front (Mark c on) = None
 
-abbrev pub detect_bodies : (d : IcuDriver) → Bodies (icu_ground d) DetectBody
+abbrev pub detect_bodies : (d : IcuTable) → Bodies (icu_ground d) DetectBody
 detect_bodies d = fronted d detect_work detect_takes detect_left detect_gap (λ k. false) (detect_holds d) detect_front (λ f k e. Unit {0})
 
 detection_by : (m : IcuMeasurementMode) → is_detection m || is_counter m ≡ true → is_counter m ≡ false → m ≡ SignalEdgeDetect
@@ -52,7 +47,7 @@ detection_by EdgeCounter e f = off_on (sym f)
 detection_by Timestamp e f = off_on e
 detection_by SignalMeasurement e f = off_on e
 
-module _ (d : IcuDriver) where
+module _ (d : IcuTable) where
   look_by : (chip : Chip) (w : World) (s : IcuState) (m : ℕ → Bool) (c : ℕ) (k : Channel) → channel_of d c ≡ Some k → is_detection k.mode || is_counter k.mode ≡ true → c < 8 → IcuRepresents d settled chip w s → (es : List Edge) → (capture_at s c).waiting ≡ es → StepsTo (icu_ground d) (detect_bodies d) chip w s (Entered (line c)) (Read (CaptureInfo c)) false None (missed_after (icu_machine d) w s m) (if info_of (map kept es) / 4 == 0 then (Look c, ends None no_answer Nothing) else (Switch c, goes))
   look_by chip w s m c k known mode lt h [] is = (h, missed_here d w s c m is, refl)
   look_by chip w s m c k known mode lt h (e ∷ es) is =

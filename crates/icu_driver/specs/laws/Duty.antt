@@ -1,21 +1,18 @@
 -- Icu_GetDutyCycleValues: its steps, what holds at each, and that they are right.
--- From Measure, Calls, Steady, One, Rows.
+-- From Measure, Calls, Steady, icu_machine: Channels, One and 1 more.
 -- Used by service/duty/rt, Lawful, Windows.
 use Rattle.std.proofs.Common.{◌≡◌, ◌==◌, [], ◌∷◌, ◌∙◌}
 use Rattle.icu_driver.specs.Terms
-use Terms.{ActiveIs, After, and_parts, answers, ap, AreRight, arith, Before, Bodies, Bool, Call, Called, capture_at}
-use Terms.{Captures, Chip, DutyBody, false, GetDutyCycleValues, icu_ground, IcuDriver, IcuRepresents, IcuState}
-use Terms.{Is_after, Is_before, is_duty_cycle, is_measurement, is_some, Lag, List, Load, None, none, off_on, Option}
-use Terms.{Origin, outcome, Period, refl, settled, SignalMeasurement, Some, Store, subst, sym, Told, true, value_or}
-use Terms.{ValueIs, waiting_value, with_capture, word_of, World, ℕ}
-use Rattle.icu_driver.specs.declared.call.Call.TheVariants.{Channel}
+use Terms.{ActiveIs, After, and_parts, answers, ap, AreRight, arith, Before, Bodies, Bool, Call, Called, capture_at, Captures, Chip, DutyBody, false, GetDutyCycleValues, icu_ground, IcuTable, IcuRepresents, IcuState, Is_after, Is_before, is_duty_cycle, is_measurement, is_some, Lag, List, Load, None, none, off_on, Option, Origin, outcome, Period, refl, settled, SignalMeasurement, Some, Store, subst, sym, Told, true, value_or, ValueIs, waiting_value, with_capture, word_of, World, ℕ}
+use Rattle.icu_machine.specs.declared.call.Call.TheVariants.{Channel}
 use Rattle.icu_driver.specs.declared.service.duty.DutyBody.TheVariants.{Waits, Active, Hand}
 use Rattle.icu_driver.specs.laws.{Base.{Move, BodyTaken, goes, acts_on, ends, numbers, Nothing, Shortens, word}}
 use Rattle.icu_driver.specs.laws.{Base.{SWITCHES, VALUES, TIMES}, Calls.{MayCall, acts_is, measures, to_mode, may_row}}
 use Rattle.icu_driver.specs.laws.{Measure.{Held, IsPair, IsMeasured, waits_double, handed_waits, one_is, row_switches}}
-use Rattle.icu_driver.specs.laws.{Measure.{row_values, all_handed, unwaiting, handing}, One.{IsRow, with_same}}
+use Rattle.icu_machine.specs.laws.{Channels.{with_same}}
+use Rattle.icu_driver.specs.laws.{Measure.{row_values, all_handed, unwaiting, handing}, One.{IsRow}}
 use Rattle.icu_driver.specs.laws.{Rows.{rows_of}, Steady.{calm_at, Good, AllGood, steady, steady_right}}
-use Rattle.icu_driver.specs.declared.driver.Channel as configured
+use Rattle.icu_machine.specs.declared.table.Channel as configured
 
 abbrev pub duty_work : DutyBody → Move
 duty_work (Waits c) = Load (word SWITCHES c)
@@ -51,13 +48,13 @@ duty_gap (Period c q) = settled
 duty_gap (Active c q v) = settled
 duty_gap (Hand c a v) = rows_of (SWITCHES ∷ []) c
 
-abbrev pub duty_holds : IcuDriver → Captures → IcuState → DutyBody → Origin Call → Option Told → Type 0
+abbrev pub duty_holds : IcuTable → Captures → IcuState → DutyBody → Origin Call → Option Told → Type 0
 duty_holds d f s (Waits c) o t = Before (Channel c GetDutyCycleValues) o t × MayCall d c GetDutyCycleValues × (s.initialised ≡ true)
 duty_holds d f s (Period c q) o t = Before (Channel c GetDutyCycleValues) o t × (i : MayCall d c GetDutyCycleValues) × (s.initialised ≡ true) × (q ≡ is_some (waiting_value i.channel (capture_at s c)))
 duty_holds d f s (Active c q v) o t = Before (Channel c GetDutyCycleValues) o t × (i : MayCall d c GetDutyCycleValues) × (s.initialised ≡ true) × (q ≡ is_some (waiting_value i.channel (capture_at s c))) × ValueIs v (waiting_value i.channel (capture_at s c))
 duty_holds d f s (Hand c a v) o t = After (Channel c GetDutyCycleValues) (answers (numbers (a ∷ v ∷ []))) o t × (k : configured.Channel) × IsMeasured d s c k × ((capture_at s c).handed_out ≡ true)
 
-abbrev pub duty_bodies : (d : IcuDriver) → Bodies (icu_ground d) DutyBody
+abbrev pub duty_bodies : (d : IcuTable) → Bodies (icu_ground d) DutyBody
 duty_bodies d = steady d duty_work duty_takes duty_left duty_gap (duty_holds d)
 
 told_pair : (t v : ℕ) (o : Option (List ℕ)) → is_some o ≡ true → Held IsPair o → ValueIs v o → ActiveIs t o → value_or (0 ∷ 0 ∷ []) o ≡ t ∷ v ∷ []
@@ -74,7 +71,7 @@ told_none (Some v) e = off_on (sym e)
 row_times : IsRow TIMES
 row_times = (refl, omega arith, omega arith)
 
-module _ (d : IcuDriver) where
+module _ (d : IcuTable) where
   mode_of : (c : ℕ) (i : MayCall d c GetDutyCycleValues) → i.channel.mode ≡ SignalMeasurement
   mode_of c i = measures i.channel.mode (and_parts (is_measurement i.channel.mode) (is_duty_cycle i.channel.measured) i.suited).0
 

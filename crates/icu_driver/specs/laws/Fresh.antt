@@ -1,6 +1,6 @@
 -- At power on, and after each other reset, words and registers stand for the machine's first state.
--- From Tables.
--- Used by RefinementRight.
+-- From icu_machine: Channels.
+-- Used by RefinementRight, Measure.
 use Rattle.std.proofs.Common.{◌≡◌, ℕ, ◌+◌, ◌<◌, false, List, [], Option, Some, None, refl, sym, ◌∙◌, ap, subst, arith}
 use Rattle.std.specs.Prelude.{is_some}
 use Rattle.plain_facts.specs.Truths.{off_on}
@@ -17,15 +17,15 @@ use Rattle.mcal_base.specs.declared.directive.Reason.{Reason}
 use Rattle.run_model.specs.World.{World}
 use Rattle.run_model.specs.Outside.{StandsIn}
 use Rattle.run_model.proofs.OutsideLaws.{stands-reset}
-use Rattle.icu_driver.specs.Edges.{values_by, newest}
+use Rattle.icu_machine.specs.Edges.{values_by, newest}
 use Rattle.icu_driver.specs.Refinement.{settled, none, CaptureAgrees, WiredAs, ChannelWords, ModeWords, Stamped, Is_fresh, ValueIs, ActiveIs, waiting_value, HasPlace, HasTurns, IcuRepresents}
-use Rattle.icu_driver.specs.Machine.{untouched, first_state}
-use Rattle.icu_driver.specs.Table.{channel_of}
+use Rattle.icu_machine.specs.Machine.{untouched, first_state}
+use Rattle.icu_machine.specs.Table.{channel_of}
 use Rattle.icu_driver.specs.Words.{word}
 use Rattle.icu_driver.specs.declared.words.TheConstants.{VALUES, TIMES}
-use Rattle.icu_driver.specs.declared.driver.Channel.{Channel}
-use Rattle.icu_driver.specs.declared.driver.IcuDriver.{IcuDriver}
-use Rattle.icu_driver.specs.laws.Tables.{by_eight}
+use Rattle.icu_machine.specs.declared.table.Channel.{Channel}
+use Rattle.icu_machine.specs.declared.table.IcuTable.{IcuTable}
+use Rattle.icu_machine.specs.laws.Channels.{by_eight}
 
 closed_at : (pins : List (Option ℕ)) (time c : ℕ) → c < 8 → chip_capture (captures_fresh pins time) c ≡ closed
 closed_at pins time c lt = by_eight (λ i. chip_capture (captures_fresh pins time) i ≡ closed) refl refl refl refl refl refl refl refl c lt
@@ -90,7 +90,7 @@ has_turns : (k : Option Channel) (w : World) → HasTurns k w untouched
 has_turns None w = tt
 has_turns (Some k) w = λ m f. off_on f
 
-pub reset_agrees : (d : IcuDriver) (chip : Chip) (w : World) (reason : Reason) → StandsIn chip w → WiredAs d chip.captures → IcuRepresents d settled (reset_chip chip reason) w first_state
+pub reset_agrees : (d : IcuTable) (chip : Chip) (w : World) (reason : Reason) → StandsIn chip w → WiredAs d chip.captures → IcuRepresents d settled (reset_chip chip reason) w first_state
 reset_agrees d chip w reason h wired = record {
   outside = stands-reset chip w reason h;
   size = refl;

@@ -1,28 +1,24 @@
 -- The services that only switch a channel on or off: their steps, what holds at each, and that they are right.
--- From Calls, One, Channels, Steady.
+-- From Calls, One, Channels, Steady, RefinementRight and 1 more.
 -- Used by service/gate/rt, Lawful, Windows, Measure, Stamp.
 use Rattle.std.proofs.Common.{◌≡◌, ◌<◌, ◌||◌, ◌==◌, ◌∙◌}
 use Rattle.icu_driver.specs.Terms
 use Terms.{acted, acting, After, answers, ap, AreRight, arith, bare, Before, below_test, Bodies, Bool, Call, Capture}
 use Terms.{capture_at, CaptureAgrees, CaptureFlush, CaptureGateClear, CaptureGateSet, Captures, channel_answer}
 use Terms.{channel_of, channel_work, ChannelCall, ChannelWords, Chip, chip_after, chip_capture, counts_edges}
-use Terms.{DisableEdgeDetection, EdgeCounter, emptying, EnableEdgeDetection, eq_self, false, flushed, GateBody, halves}
-use Terms.{icu_ground, IcuDriver, IcuMeasurementMode, IcuRepresents, IcuState, Is_after, Is_before, is_counter}
-use Terms.{is_measurement, is_timestamp, Lag, length-at_bits, ModeWords, None, none, off_on, opening, Option, Origin}
-use Terms.{outcome, refl, settled, SignalEdgeDetect, SignalMeasurement, Some, stands-move, StandsLow}
-use Terms.{StopSignalMeasurement, subst, suits, switched, sym, Timestamp, Told, true, with_capture, word_of, World}
-use Terms.{Write, ℕ}
-use Rattle.icu_driver.specs.declared.call.Call.TheVariants.{Channel}
+use Terms.{DisableEdgeDetection, EdgeCounter, emptying, EnableEdgeDetection, eq_self, false, flushed, GateBody, halves, icu_ground, IcuTable, IcuMeasurementMode, IcuRepresents, IcuState, Is_after, Is_before, is_counter, is_measurement, is_timestamp, Lag, length-at_bits, ModeWords, None, none, off_on, opening, Option, Origin, outcome, refl, settled, SignalEdgeDetect, SignalMeasurement, Some, stands-move, StandsLow, StopSignalMeasurement, subst, suits, switched, sym, Timestamp, Told, true, with_capture, word_of, World, Write, ℕ}
+use Rattle.icu_machine.specs.declared.call.Call.TheVariants.{Channel}
 use Rattle.icu_driver.specs.declared.service.gate.GateBody.TheVariants.{Open, Empty, Close, Drop}
 use Rattle.icu_driver.specs.laws.{Calls.{MayCall, acts_is, detects, measures, to_mode, from_mode, is_there, counting}}
 use Rattle.icu_driver.specs.laws.{Calls.{place_by, turns_by, switched_course, off_place, off_turns, opening_at}}
 use Rattle.icu_driver.specs.laws.{Calls.{emptying_at, bare_at, calm_on}, Channels.{opened_agrees, emptied_agrees}}
 use Rattle.icu_driver.specs.laws.{Channels.{closed_agrees, dropped_agrees}, One.{ChannelAgrees, channel_agrees}}
-use Rattle.icu_driver.specs.laws.{One.{one_agrees, settled_at, same_state, with_same, with_state, left_channel}}
+use Rattle.icu_machine.specs.laws.{Channels.{with_same}}
+use Rattle.icu_driver.specs.laws.{One.{one_agrees, settled_at, same_state, with_state, left_channel}}
 use Rattle.icu_driver.specs.laws.{One.{left_gate, channel_new, gate_new}, Steady.{AllGood, steady, steady_right}}
 use Rattle.icu_driver.specs.laws.{Base.{Move, Act, no_answer, BodyTaken, goes, acts_on, ends, Nothing, Shortens, bit}}
 use Rattle.chip_captures.specs.declared.capture.Act.TheVariants as acts
-use Rattle.icu_driver.specs.declared.driver.Channel as configured
+use Rattle.icu_machine.specs.declared.table.Channel as configured
 
 abbrev pub gate_work : GateBody → Move
 gate_work (Open c) = Write CaptureGateSet (bit c)
@@ -62,13 +58,13 @@ closes DisableEdgeDetection = true
 closes StopSignalMeasurement = true
 closes _ = false
 
-abbrev pub gate_holds : IcuDriver → Captures → IcuState → GateBody → Origin Call → Option Told → Type 0
+abbrev pub gate_holds : IcuTable → Captures → IcuState → GateBody → Origin Call → Option Told → Type 0
 gate_holds d f s (Open c) o t = Before (Channel c EnableEdgeDetection) o t × MayCall d c EnableEdgeDetection × (s.initialised ≡ true)
 gate_holds d f s (Empty c) o t = Before (Channel c EnableEdgeDetection) o t × MayCall d c EnableEdgeDetection × (s.initialised ≡ true) × ((chip_capture f c).gate ≡ true)
 gate_holds d f s (Close c) o t = (call : ChannelCall) × Before (Channel c call) o t × MayCall d c call × (s.initialised ≡ true) × (closes call ≡ true)
 gate_holds d f s (Drop c) o t = (call : ChannelCall) × After (Channel c call) (answers no_answer) o t × (c < 8) × (s.initialised ≡ true) × ((capture_at s c).on ≡ false)
 
-abbrev pub gate_bodies : (d : IcuDriver) → Bodies (icu_ground d) GateBody
+abbrev pub gate_bodies : (d : IcuTable) → Bodies (icu_ground d) GateBody
 gate_bodies d = steady d gate_work gate_takes gate_left gate_gap (gate_holds d)
 
 -- a call that closes stops its channel, and answers nothing
@@ -99,7 +95,7 @@ words_off EdgeCounter at behind c k x e h = tt
 words_off Timestamp at behind c k x e h = off_on (sym e)
 words_off SignalMeasurement at behind c k x e h = record { waits = h.waits; mark = h.mark; seen = λ f g. off_on g; start = λ f g. off_on g; opposite = λ f g. off_on g; value = h.value; time = h.time }
 
-module _ (d : IcuDriver) where
+module _ (d : IcuTable) where
   -- the gate is opened
   pub opened : (chip : Chip) (w : World) (s : IcuState) (c : ℕ) → c < 8 → s.initialised ≡ true → counts_edges (channel_of d c) ≡ false → IcuRepresents d settled chip w s → IcuRepresents d (opening c) (chip_after chip (Write CaptureGateSet (bit c)) 0) w s
   opened chip w s c lt on counter h =

@@ -1,5 +1,5 @@
 -- Icu_Init: its steps, what holds at each, and that they are right.
--- From Calls, One, Steady, Measure.
+-- From Calls, One, Steady, RefinementRight, icu_machine: Channels and 3 more.
 -- Used by DeInit, service/init/rt, Lawful, Windows.
 use Rattle.std.proofs.Common.{◌≡◌, ◌≢◌, ◌+◌, ◌-◌, ◌*◌, ◌<◌, ◌&&◌, ◌||◌, ◌∙◌, if◌then◌else◌}
 use Rattle.icu_driver.specs.Terms
@@ -15,7 +15,7 @@ use Terms.{or_right, Origin, outcome, own_word, place_of, refl, Rising, settled,
 use Terms.{Some, stamp_in, Stamped, Stamps, stands-move, StandsIn, StepsTo, stored_other, stored_same, Stores, subst}
 use Terms.{sym, tells_nothing, Timestamp, Told, true, ValueIs, with_condition, with_mode, word_of, World, Write, ℕ}
 use Rattle.icu_driver.specs.laws.{Base.{nat_tests, Move, Act, no_answer, BodyTaken, goes, ends, Nothing, Shortens}}
-use Rattle.icu_driver.specs.laws.{Base.{word, condition_of, first_condition, mode_of, Channel, IcuDriver, STATE, LINES}}
+use Rattle.icu_driver.specs.laws.{Base.{word, condition_of, first_condition, mode_of, Channel, IcuTable, STATE, LINES}}
 use Rattle.icu_driver.specs.laws.{Base.{MARKS, VALUES, TIMES}, Calls.{bare_at, off_place, off_turns}}
 use Rattle.icu_driver.specs.laws.{Measure.{none_served}, One.{channel_new, words_left, off_channel}, Steady.{AllGood}}
 use Rattle.icu_driver.specs.laws.{Steady.{steady, steady_right}}
@@ -41,7 +41,7 @@ init_left (Mode d c) = 3 + 2 * (7 - c)
 init_left Enable = 2
 init_left Store = 1
 
-init_next : (d : IcuDriver) (c : ℕ) (q : Bool) → nat_lt c 7 ≡ q → Shortens init_left (Mode d c) (if q then (Condition d (c + 1), goes) else (Enable, goes))
+init_next : (d : IcuTable) (c : ℕ) (q : Bool) → nat_lt c 7 ≡ q → Shortens init_left (Mode d c) (if q then (Condition d (c + 1), goes) else (Enable, goes))
 init_next d c true e = let k : c < 7 = grind (arith, nat_tests) in omega (arith, k)
 init_next d c false e = omega arith
 
@@ -62,16 +62,16 @@ ChoosesFirst None b = Unit {0}
 ChoosesFirst (Some k) b = b.condition ≡ (if is_measurement k.mode then conditions.Both else condition_by k.start_edge)
 
 -- the channels below this one have their conditions and modes
-abbrev pub SetUp : IcuDriver → Captures → ℕ → Type 0
+abbrev pub SetUp : IcuTable → Captures → ℕ → Type 0
 SetUp d f c = (j : ℕ) → j < c → ChoosesFirst (channel_of d j) (chip_capture f j) × ((chip_capture f j).mode ≡ mode_by (counts_edges (channel_of d j)))
 
-abbrev pub init_holds : IcuDriver → Captures → IcuState → InitBody → Origin Call → Option Told → Type 0
+abbrev pub init_holds : IcuTable → Captures → IcuState → InitBody → Origin Call → Option Told → Type 0
 init_holds d f s (Condition e c) o t = Before Init o t × (s.initialised ≡ false) × (e ≡ d) × (c < 8) × SetUp d f c
 init_holds d f s (Mode e c) o t = Before Init o t × (s.initialised ≡ false) × (e ≡ d) × (c < 8) × SetUp d f c × ChoosesFirst (channel_of d c) (chip_capture f c)
 init_holds d f s Enable o t = Before Init o t × (s.initialised ≡ false) × SetUp d f 8
 init_holds d f s Store o t = Before Init o t × (s.initialised ≡ false) × SetUp d f 8
 
-abbrev pub init_bodies : (d : IcuDriver) → Bodies (icu_ground d) InitBody
+abbrev pub init_bodies : (d : IcuTable) → Bodies (icu_ground d) InitBody
 init_bodies d = steady d init_work init_takes init_left init_gap (init_holds d)
 
 -- what is written to the registers
@@ -123,7 +123,7 @@ pub all_lines : (c : ℕ) → c < 8 → has_bit LINES (16 + c) ≡ true
 all_lines c lt = by_eight (λ i. has_bit LINES (16 + i) ≡ true) refl refl refl refl refl refl refl refl c lt
 
 -- the state word may be stored
-pub may_state : (d : IcuDriver) → (is_own_word d STATE || is_stamp d STATE) && nat_lt STATE 147456 ≡ true
+pub may_state : (d : IcuTable) → (is_own_word d STATE || is_stamp d STATE) && nat_lt STATE 147456 ≡ true
 may_state d = ap (λ q. (q || is_stamp d STATE) && nat_lt STATE 147456) (own_word d STATE (omega arith) (omega arith))
 
 -- ---- a channel that is cleared
@@ -140,7 +140,7 @@ pub cleared_stored : (k : Option Channel) (x : Capture) → (cleared k x).stored
 cleared_stored None x = refl
 cleared_stored (Some k) x = refl
 
-module _ (d : IcuDriver) where
+module _ (d : IcuTable) where
   -- a channel's condition or mode is written while the module is off
   written : (chip : Chip) (w : World) (s : IcuState) (c : ℕ) (y : chips.Capture) → c < 8 → s.initialised ≡ false → Kept (chip_capture chip.captures c) y → StandsIn (record chip { captures = chip_with chip.captures c y }) w → IcuRepresents d settled chip w s → IcuRepresents d settled (record chip { captures = chip_with chip.captures c y }) w s
   written chip w s c y lt off same outside h = record {

@@ -1,21 +1,12 @@
 -- The handler of a timestamp channel: what holds at each of its places, and that it is right.
--- From One, Stamp, Serve, Calls, Keep and 7 more.
+-- From One, Stamp, Serve, Calls, Keep and 11 more.
 -- Used by Lawful.
 use Rattle.std.proofs.Common.{◌≡◌, ◌≢◌, ◌+◌, ◌*◌, ◌/◌, ◌%◌, ◌<◌, ◌≤◌, ◌^◌, ◌&&◌, ◌||◌, ◌==◌, [], ◌∷◌, ◌++◌, ◌∙◌}
 use Rattle.std.proofs.Common.{if◌then◌else◌}
 use Rattle.icu_driver.specs.Terms
 use Terms.{AllByRecursion, ap, AreRight, arith, At, below_test, Bodies, Bool, Call, Capture, capture_at, CaptureAgrees}
 use Terms.{CaptureFlush, CaptureGateClear, CaptureInfo, CapturePop, Captures, CaptureTimeLow, Channel, channel_of}
-use Terms.{ChannelWords, Chip, chip_after, chip_capture, Close, Drop, Edge, Entered, eq_other, eq_self, false, flushed}
-use Terms.{happens, HasPlace, icu_ground, icu_machine, IcuDriver, IcuRepresents, IcuState, IcuTimestampNotification}
-use Terms.{Index, index, index_by, info_of, Interval, interval_by, Is_fresh, is_full, is_linear, is_measurement}
-use Terms.{is_notified, Is_on, is_own_word, Is_served, Is_serving, is_some, is_stamp, Is_stopped, IsStart, KeepBody}
-use Terms.{Kept, kept, kinds_by, Lag, Left, left_by, length, length-append, List, Load, map, missed_after, ModeWords}
-use Terms.{nat_lt, nat_tests, never_clean, Next, None, none, notices_of, Off, off_on, oldest_time, only, Option, Origin}
-use Terms.{outcome, own_stamp, place_of, popped, Read, refl, Rest, Served, served_by, Serves, Serving, settled, Size}
-use Terms.{size_word, Some, stamp_in, stamp_word, Stamped, Stamps, StampWords, stands-move, StandsIn, Start, StepsTo}
-use Terms.{stored_other, stored_same, Stores, subst, Switch, switched, sym, Timestamp, Told, true, with_capture}
-use Terms.{word_of, WORDS, World, Write, ℕ}
+use Terms.{ChannelWords, Chip, chip_after, chip_capture, Close, Drop, Edge, Entered, eq_other, eq_self, false, flushed, happens, HasPlace, icu_ground, icu_machine, IcuTable, IcuRepresents, IcuState, IcuTimestampNotification, Index, index, index_by, info_of, Interval, interval_by, Is_fresh, is_full, is_linear, is_measurement, is_notified, Is_on, is_own_word, Is_served, Is_serving, is_some, is_stamp, Is_stopped, IsStart, KeepBody, Kept, kept, kinds_by, Lag, Left, left_by, length, length-append, List, Load, map, missed_after, ModeWords, nat_lt, nat_tests, never_clean, Next, None, none, notices_of, Off, off_on, oldest_time, only, Option, Origin, outcome, own_stamp, place_of, popped, Read, refl, Rest, Served, served_by, Serves, Serving, settled, Size, size_word, Some, stamp_in, stamp_word, Stamped, Stamps, StampWords, stands-move, StandsIn, Start, StepsTo, stored_other, stored_same, Stores, subst, Switch, switched, sym, Timestamp, Told, true, with_capture, word_of, WORDS, World, Write, ℕ}
 use Rattle.icu_driver.specs.declared.service.keep.KeepBody.TheVariants.{Look, Low, High, Pop, Store}
 use Rattle.icu_driver.specs.laws.{Base.{no_answer, goes, ends, Nothing, word, line, bit, joined, STATE, SWITCHES}}
 use Rattle.icu_driver.specs.laws.{Base.{MARKS, SIZES, INTERVALS, PLACES, VALUES}, Calls.{to_mode, from_mode, is_there}}
@@ -24,7 +15,8 @@ use Rattle.icu_driver.specs.laws.{Channels.{popped_agrees, closed_agrees, droppe
 use Rattle.icu_driver.specs.laws.{Count.{halves_join}, Indices.{HasRead, fills_is, next_is, left_is, notified_is}}
 use Rattle.icu_driver.specs.laws.{Indices.{place_next}, Keep.{fills, next_index, left_now, keep_read, keep_work}}
 use Rattle.icu_driver.specs.laws.{Keep.{keep_takes, keep_left, keep_shortens}, Measure.{one_is}, One.{IsAt, ChipLeft}}
-use Rattle.icu_driver.specs.laws.{One.{ChannelAgrees, channel_agrees, one_agrees, settled_at, same_state, with_same}}
+use Rattle.icu_machine.specs.laws.{Channels.{with_same}}
+use Rattle.icu_driver.specs.laws.{One.{ChannelAgrees, channel_agrees, one_agrees, settled_at, same_state}}
 use Rattle.icu_driver.specs.laws.{One.{with_state, left_latched, left_channel, left_gate, left_word, channel_new}}
 use Rattle.icu_driver.specs.laws.{One.{gate_new, word_new, word_old, stamps_old, mode_left, words_left}, Rows.{rows_of}}
 use Rattle.icu_driver.specs.laws.{Rows.{rows_behind, behind_row, rows_at, row_others, row_stored, grows}}
@@ -54,7 +46,7 @@ keep_gap _ = settled
 -- ---- what it knows
 
 -- the channel stamps
-pub record Stamper (d : IcuDriver) (r : Kept) : Type 0 where
+pub record Stamper (d : IcuTable) (r : Kept) : Type 0 where
   pub k : Channel
   pub known : channel_of d r.channel ≡ Some k
   pub mode : k.mode ≡ Timestamp
@@ -82,7 +74,7 @@ pub record Left_over (k : Channel) (r : Kept) (x : Capture) : Type 0 where
 abbrev pub keep_told : Kept → Told
 keep_told r = told_of (r.left == 1 && r.notified) IcuTimestampNotification r.channel
 
-abbrev pub keep_holds : IcuDriver → Captures × List ℕ → IcuState → KeepBody → Origin Call → Option Told → Type 0
+abbrev pub keep_holds : IcuTable → Captures × List ℕ → IcuState → KeepBody → Origin Call → Option Told → Type 0
 keep_holds d f s (Look r) o t = Serving (line r.channel) o t × Stamper d r
 keep_holds d f s (Low r) o t = Serving (line r.channel) o t × Stamper d r
 keep_holds d f s (High r) o t = Serving (line r.channel) o t × Stamper d r
@@ -125,7 +117,7 @@ keep_knows f (Close r) e = r.time ≡ e.time
 keep_knows f (Pop r) e = r.time ≡ e.time
 keep_knows f _ e = Unit {0}
 
-abbrev pub keep_bodies : (d : IcuDriver) → Bodies (icu_ground d) KeepBody
+abbrev pub keep_bodies : (d : IcuTable) → Bodies (icu_ground d) KeepBody
 keep_bodies d = fronted d keep_work keep_takes keep_left keep_gap (λ k. false) (keep_holds d) keep_front keep_knows
 
 -- ---- gaps of one channel
@@ -214,7 +206,7 @@ index_of k x = index k x
 
 -- ---- its steps
 
-module _ (d : IcuDriver) where
+module _ (d : IcuTable) where
   words_of : (chip : Chip) (w : World) (s : IcuState) (gap : Lag) (r : Kept) (a : Stamper d r) → IcuRepresents d gap chip w s → StampWords (λ j. word_of chip j) gap.words r.channel a.k (capture_at s r.channel)
   words_of chip w s gap r a h = to_mode d r.channel a.k a.known Timestamp a.mode (λ j. word_of chip j) gap.words (capture_at s r.channel) (h.words r.channel a.lt)
 

@@ -6,11 +6,7 @@ use Rattle.icu_driver.specs.Terms
 use Terms.{and_first, and_parts, arith, Asked, bit_of, Bool, CaptureCondition, CaptureCountHigh, CaptureCountLow}
 use Terms.{CaptureFlush, CaptureGateClear, CaptureGateSet, CaptureInfo, CaptureMode, CapturePop, CaptureTimeHigh}
 use Terms.{CaptureTimeLow, CaptureZero, Channel, channel_count, channel_of, channel_of_line, counted, driver_of}
-use Terms.{EnableClear, EnableSet, EnablesOthers, EnablesWithin, entering, false, has_bit, has_lines, Icu, icu_owns}
-use Terms.{IcuDriver, is_capture, is_for_lines, is_of, is_own_word, is_some, is_stamp, KeepsTo, lines_parts, Load}
-use Terms.{may_name, may_write, module_of_line, module_of_register, module_of_word, Move, names_there, NamesOthers}
-use Terms.{NamesWithin, nat_lt, nat_tests, None, not, not-unless, Option, other_line, owns_written, Read, refl, Reg}
-use Terms.{Some, Store, true, within_eight, Write, WritesOthers, WritesWithin, ℕ}
+use Terms.{EnableClear, EnableSet, EnablesOthers, EnablesWithin, entering, false, has_bit, has_lines, Icu, icu_owns, IcuTable, is_capture, is_for_lines, is_of, is_own_word, is_some, is_stamp, KeepsTo, lines_parts, Load, may_name, may_write, module_of_line, module_of_register, module_of_word, Move, names_there, NamesOthers, NamesWithin, nat_lt, nat_tests, None, not, not-unless, Option, other_line, owns_written, Read, refl, Reg, Some, Store, true, within_eight, Write, WritesOthers, WritesWithin, ℕ}
 use Rattle.step_runner.specs.Whose.{only}
 use Rattle.icu_driver.specs.laws.{Handler.{body_by}, Lawful.{icu}}
 
@@ -59,7 +55,7 @@ bit_few : (q : Bool) → bit_of q ≤ 1
 bit_few true = omega arith
 bit_few false = omega arith
 
-count_few : (d : IcuDriver) → channel_count d ≤ 8
+count_few : (d : IcuTable) → channel_count d ≤ 8
 count_few d =
     let one = λ (c : ℕ). bit_few (is_some (channel_of d c)) in
     let b0 = one 0 in
@@ -87,10 +83,10 @@ within_words n k few e = (low, high)
     high : k < 40960
     high = let less = below (and_parts (not (nat_lt k 32768)) (nat_lt k (32768 + (64 + 32 * n))) e).1 in omega (arith, few, less)
 
-own_word : (d : IcuDriver) (k : ℕ) → is_own_word d k ≡ true → is_of (only Icu) (module_of_word k) ≡ true
+own_word : (d : IcuTable) (k : ℕ) → is_own_word d k ≡ true → is_of (only Icu) (module_of_word k) ≡ true
 own_word d k e = let p = within_words (channel_count d) k (count_few d) e in driver_word k p.0 p.1
 
-own_stamp : (d : IcuDriver) (k : ℕ) → is_stamp d k ≡ true → is_of (only Icu) (module_of_word k) ≡ true
+own_stamp : (d : IcuTable) (k : ℕ) → is_stamp d k ≡ true → is_of (only Icu) (module_of_word k) ≡ true
 own_stamp d k e =
     let p = and_parts (not (nat_lt k 139264)) (is_some (channel_of d ((k - 139264) / 64))) e in
     let low = high_word k p.0 in
@@ -100,7 +96,7 @@ own_stamp d k e =
     high_word : (k : ℕ) → not (nat_lt k 139264) ≡ true → 139264 ≤ k
     high_word k i = grind (arith, nat_tests)
 
-own_place : (d : IcuDriver) (k : ℕ) → is_own_word d k || is_stamp d k ≡ true → is_of (only Icu) (module_of_word k) ≡ true
+own_place : (d : IcuTable) (k : ℕ) → is_own_word d k || is_stamp d k ≡ true → is_of (only Icu) (module_of_word k) ≡ true
 own_place d k e = by (is_own_word d k) (is_stamp d k) e (own_word d k) (own_stamp d k)
   where
     by : (a b : Bool) → a || b ≡ true → (a ≡ true → is_of (only Icu) (module_of_word k) ≡ true) → (b ≡ true → is_of (only Icu) (module_of_word k) ≡ true) → is_of (only Icu) (module_of_word k) ≡ true
@@ -160,7 +156,7 @@ writes EnableSet v e = enables v e
 writes EnableClear v e = enables v e
 writes r v e = own_register r e
 
-within : (d : IcuDriver) (made : Move) → may_name d made ≡ true → NamesWithin (only Icu) made
+within : (d : IcuTable) (made : Move) → may_name d made ≡ true → NamesWithin (only Icu) made
 within d (Read r) e = own_register r e
 within d (Write r v) e = writes r v e
 within d (Load k) e = own_place d k e
@@ -172,7 +168,7 @@ others_write EnableSet v h = enables_none v h
 others_write EnableClear v h = enables_none v h
 others_write r v h = not-unless (is_capture r) (is_of (only Icu) (module_of_register r)) (own_register r) h
 
-others : (d : IcuDriver) (made : Move) → NamesOthers (only Icu) made → icu_owns d made ≡ false
+others : (d : IcuTable) (made : Move) → NamesOthers (only Icu) made → icu_owns d made ≡ false
 others d (Read r) h = not-unless (is_capture r) (is_of (only Icu) (module_of_register r)) (own_register r) h
 others d (Write r v) h = others_write r v h
 others d (Load k) h = not-unless (is_own_word d k || is_stamp d k) (is_of (only Icu) (module_of_word k)) (own_place d k) h
@@ -185,7 +181,7 @@ handled : (k : Option Channel) → is_some (entering {Asked = Asked} (body_by k)
 handled None h = cc
 handled (Some k) h = refl
 
-line_of : (d : IcuDriver) (l : ℕ) → is_some (channel_of_line d l) ≡ true → is_of (only Icu) (module_of_line l) ≡ true
+line_of : (d : IcuTable) (l : ℕ) → is_some (channel_of_line d l) ≡ true → is_of (only Icu) (module_of_line l) ≡ true
 line_of d l h = by (nat_lt l 16) refl h
   where
     by : (q : Bool) → nat_lt l 16 ≡ q → is_some (if q then None else channel_of d (l - 16)) ≡ true → is_of (only Icu) (module_of_line l) ≡ true
@@ -196,7 +192,7 @@ line_of d l h = by (nat_lt l 16) refl h
         own_line l le (omega (arith, few, le))
 
 -- it is the captures' alone
-pub keeps_captures : (d : IcuDriver) → KeepsTo (only Icu) (driver_of (icu d))
+pub keeps_captures : (d : IcuTable) → KeepsTo (only Icu) (driver_of (icu d))
 keeps_captures d = record {
   may = λ o made h. within d made (and_first (may_name d made) (names_there made) h);
   owns = λ o made h. others d made h;

@@ -1,5 +1,5 @@
 -- The block in time: a level that comes from outside reaches block and machine alike, whatever is under work.
--- From Parts, Tables.
+-- From Parts, icu_machine: Channels.
 -- Used by Levels.
 use Rattle.std.proofs.Common.{◌≡◌, ℕ, ◌<◌, Bool, true, false, ◌||◌, ◌==◌, not, nat_lt, length, Option, Some, None, refl, sym, ◌∙◌, ap, subst, arith}
 use Rattle.std.specs.Prelude.{if◌then◌else◌, slice_set}
@@ -12,14 +12,14 @@ use Rattle.mcal_base.proofs.BitLaws.{get_or-at_bits, has_bit-bits_of}
 use Rattle.mcal_base.specs.declared.directive.Order.TheVariants.{Level}
 use Rattle.run_model.specs.World.{World}
 use Rattle.run_model.specs.Outside.{StandsIn}
-use Rattle.icu_driver.specs.Edges.{is_same}
+use Rattle.icu_machine.specs.Edges.{is_same}
 use Rattle.icu_driver.specs.Refinement.{Lag, CaptureAgrees, BlockAgrees, WiredAs, FitsIcu, pin_by}
-use Rattle.icu_driver.specs.Machine.{IcuState, Capture, capture_at, by_channel, edge_at_pin, edge_taken, moved}
-use Rattle.icu_driver.specs.Table.{channel_of}
-use Rattle.icu_driver.specs.declared.driver.Channel.{Channel}
-use Rattle.icu_driver.specs.declared.driver.IcuDriver.{IcuDriver}
+use Rattle.icu_machine.specs.Machine.{IcuState, Capture, capture_at, by_channel, edge_at_pin, edge_taken, moved}
+use Rattle.icu_machine.specs.Table.{channel_of}
+use Rattle.icu_machine.specs.declared.table.Channel.{Channel}
+use Rattle.icu_machine.specs.declared.table.IcuTable.{IcuTable}
 use Rattle.icu_driver.specs.laws.Parts.{edge_agrees}
-use Rattle.icu_driver.specs.laws.Tables.{by_channel_at}
+use Rattle.icu_machine.specs.laws.Channels.{by_channel_at}
 
 -- a channel of the block after an edge
 caught_at : (b : Captures) (pin c : ℕ) (rising : Bool) → length b.captures ≡ 8 → c < 8 → chip_capture (after_edge b pin rising) c ≡ (if is_pin (pin_of b c) pin then caught b.time rising (chip_capture b c) else chip_capture b c)
@@ -37,7 +37,7 @@ pin_agrees (Some k) g q n on moded time pin rising b x h = by_pin (k.pin == pin)
     by_pin false = h
 
 -- all channels
-pub edge_block : (d : IcuDriver) (gap : Lag) (b : Captures) (s : IcuState) (pin : ℕ) (rising : Bool) → length b.captures ≡ 8 → WiredAs d b → BlockAgrees d gap b s → BlockAgrees d gap (after_edge b pin rising) (record s { channels = by_channel (λ c. edge_at_pin (channel_of d c) b.time pin rising (capture_at s c)) })
+pub edge_block : (d : IcuTable) (gap : Lag) (b : Captures) (s : IcuState) (pin : ℕ) (rising : Bool) → length b.captures ≡ 8 → WiredAs d b → BlockAgrees d gap b s → BlockAgrees d gap (after_edge b pin rising) (record s { channels = by_channel (λ c. edge_at_pin (channel_of d c) b.time pin rising (capture_at s c)) })
 edge_block d gap b s pin rising size wired h c lt =
     let on = s.initialised in
     let after = λ (y : chips.Capture) (z : Capture). CaptureAgrees (channel_of d c) (gap.gates c) (gap.queues c) (gap.counts c) on (on || gap.moded) y z in
@@ -57,7 +57,7 @@ below : (q : ℕ) → nat_lt q 64 ≡ true → q < 64
 below q e = grind (arith, nat_tests)
 
 -- a level at a pin of the chip, and at one that it doesn't have
-module _ (d : IcuDriver) (fits : FitsIcu d) (gap : Lag) (chip : Chip) (w : World) (s : IcuState) (pin : ℕ) (v : Bool) (outside : StandsIn chip w) (size : length chip.captures.captures ≡ 8) (wired : WiredAs d chip.captures) (h : BlockAgrees d gap chip.captures s) where
+module _ (d : IcuTable) (fits : FitsIcu d) (gap : Lag) (chip : Chip) (w : World) (s : IcuState) (pin : ℕ) (v : Bool) (outside : StandsIn chip w) (size : length chip.captures.captures ≡ 8) (wired : WiredAs d chip.captures) (h : BlockAgrees d gap chip.captures s) where
   abbrev edged_state : IcuState
   edged_state = record s { channels = by_channel (λ c. edge_at_pin (channel_of d c) w.now pin v (capture_at s c)) }
 

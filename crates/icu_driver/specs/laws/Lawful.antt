@@ -1,20 +1,13 @@
 -- The capture driver, as the outline and the runner see it, and that it owes nothing.
--- From Look, Handler, Calls, Change, Count and 11 more.
--- Used by frames/rt, mcal_drivers: Laws, caller/rt, Keeps, mcal_system: proofs/Resting and 2 more.
+-- From Look, Handler, RefinementRight, service_outline: Seen, Calls and 15 more.
+-- Used by frames/rt, mcal_drivers: proofs/Hosting, mcal_drivers: Laws, caller/rt, Keeps and 3 more.
 use Rattle.std.proofs.Common.{◌≡◌, ◌+◌, ◌-◌, ◌<◌, ◌≤◌, ◌&&◌, ◌||◌, ◌∙◌, if◌then◌else◌}
 use Rattle.icu_driver.specs.Terms
 use Terms.{acts_by, allows, answer_refused, ap, AreRight, arith, Asked, At, begins_rising, Bodies, Bool, Call, Called}
 use Terms.{CanEnter, Channel, channel_of, channel_of_line, ChannelCall, Chip, DisableEdgeCount, DisableEdgeDetection}
 use Terms.{DisableNotification, driver_of, DutyCycle, EdgeCounter, either, either_right, EnableEdgeCount}
 use Terms.{EnableEdgeDetection, EnableNotification, Entered, error_by, error_told, ErrorName, false, First, first_of}
-use Terms.{FitsIcu, GetDutyCycleValues, GetEdgeNumbers, GetInputState, GetTimeElapsed, GetTimestampIndex, ground_right}
-use Terms.{HighTime, icu_ground, icu_machine, IcuDriver, IcuMeasurementMode, IcuRepresents}
-use Terms.{IcuSignalMeasurementProperty, IcuState, Is_before, is_counter, is_detection, is_duty_cycle, is_measurement}
-use Terms.{is_on, Is_serving, is_some, is_stamp, IsOutlined, IsSmall, List, Looked, LooksRight, LowTime, nat_lt}
-use Terms.{nat_tests, never_after, never_serving, None, not, Open, Option, Outlined, own_word, PeriodTime, refl}
-use Terms.{ResetEdgeCount, Second, SetActivationCondition, settled, Short, SignalEdgeDetect, SignalMeasurement, Some}
-use Terms.{Starts, StartSignalMeasurement, StartTimestamp, STATE, steps_of, StopSignalMeasurement, StopTimestamp, subst}
-use Terms.{suits, sym, tells_error, Timestamp, true, within, word_of, World, ℕ}
+use Terms.{FitsIcu, GetDutyCycleValues, GetEdgeNumbers, GetInputState, GetTimeElapsed, GetTimestampIndex, ground_right, HighTime, icu_ground, icu_machine, IcuTable, IcuMeasurementMode, IcuRepresents, IcuSignalMeasurementProperty, IcuState, Is_before, is_counter, is_detection, is_duty_cycle, is_measurement, is_on, Is_serving, is_some, is_stamp, IsOutlined, IsSmall, List, Looked, LooksRight, LowTime, nat_lt, nat_tests, never_after, never_serving, None, not, Open, Option, Outlined, own_word, PeriodTime, refl, ResetEdgeCount, Second, SetActivationCondition, settled, Short, SignalEdgeDetect, SignalMeasurement, Some, Starts, StartSignalMeasurement, StartTimestamp, STATE, steps_of, StopSignalMeasurement, StopTimestamp, subst, suits, sym, tells_error, Timestamp, true, within, word_of, World, ℕ}
 use Rattle.icu_driver.specs.laws.{Bodies.{IcuBody}, Calls.{MayCall, stamps}, Change.{change_bodies, change_right}}
 use Rattle.icu_driver.specs.laws.{Count.{count_bodies, count_right}, DeInit.{deinit_bodies, deinit_right}}
 use Rattle.icu_driver.specs.laws.{Detecting.{detect_bodies, detect_right}, Duty.{duty_bodies, duty_right}}
@@ -25,16 +18,16 @@ use Rattle.icu_driver.specs.laws.{Look.{allowed, sizes_of, edges_of, is_stop, un
 use Rattle.icu_driver.specs.laws.{Look.{asked_word}, Measure.{measure_bodies, measure_right}, Sampling.{sample_bodies}}
 use Rattle.icu_driver.specs.laws.{Sampling.{sample_right}, Stamp.{stamp_bodies, stamp_right}, Windows.{icu_seen}}
 use Rattle.icu_driver.specs.laws.{Windows.{icu_sees}}
-use Rattle.icu_driver.specs.declared.call.Call.TheVariants as calls
+use Rattle.icu_machine.specs.declared.call.Call.TheVariants as calls
 use Rattle.icu_driver.specs.declared.service.count.CountBody.TheVariants as counts
 use Rattle.icu_driver.specs.declared.service.keep.KeepBody.TheVariants as keeps
 use Rattle.icu_driver.specs.declared.service.sample.SampleBody.TheVariants as samples
 
-abbrev pub icu_bodies : (d : IcuDriver) → Bodies (icu_ground d) IcuBody
+abbrev pub icu_bodies : (d : IcuTable) → Bodies (icu_ground d) IcuBody
 icu_bodies d = either (either (either (init_bodies d) (deinit_bodies d)) (either (detect_bodies d) (either (keep_bodies d) (sample_bodies d)))) (either (either (change_bodies d) (either (count_bodies d) (gate_bodies d))) (either (stamp_bodies d) (either (measure_bodies d) (duty_bodies d))))
 
 -- the driver; a call's body has at most 27 steps
-abbrev pub icu : IcuDriver → Outlined IcuState Call Asked IcuBody
+abbrev pub icu : IcuTable → Outlined IcuState Call Asked IcuBody
 icu d = record {
   basis = icu_ground d;
   bodies = icu_bodies d;
@@ -48,7 +41,7 @@ icu d = record {
   body_of = λ line. body_by (channel_of_line d line);
 }
 
-bodies_right : (d : IcuDriver) → AreRight (icu_ground d) (icu_bodies d)
+bodies_right : (d : IcuTable) → AreRight (icu_ground d) (icu_bodies d)
 bodies_right d =
     let g = icu_ground d in
     either_right g _ _
@@ -56,7 +49,7 @@ bodies_right d =
     (either_right g _ _ (either_right g _ _ (change_right d) (either_right g _ _ (count_right d) (gate_right d))) (either_right g _ _ (stamp_right d) (either_right g _ _ (measure_right d) (duty_right d))))
 
 -- a body that begins has read nothing
-unseen : (d : IcuDriver) (chip : Chip) (w : World) (s : IcuState) (k : IcuBody) (call : Call) → At (icu_ground d) (icu_bodies d) chip w s k (Called call) None → Starts (icu_seen k)
+unseen : (d : IcuTable) (chip : Chip) (w : World) (s : IcuState) (k : IcuBody) (call : Call) → At (icu_ground d) (icu_bodies d) chip w s k (Called call) None → Starts (icu_seen k)
 unseen d chip w s (First (Second (Second (First (keeps.High r))))) call h = never_serving call (Called call) None refl h.1.0.0
 unseen d chip w s (First (Second (Second (Second (samples.High r))))) call h = never_serving call (Called call) None refl h.1.0.0
 unseen d chip w s (Second (First (Second (First (counts.High c low))))) call h = never_after (Called call) None refl h.1.0.0
@@ -71,7 +64,7 @@ some_allowed : (call : ChannelCall) (k : Option Channel) → allows call k ≡ t
 some_allowed call None e = absurd (cc)
 some_allowed call (Some k) e = refl
 
-module _ (d : IcuDriver) (fits : FitsIcu d) (chip : Chip) (w : World) (s : IcuState) (h : IcuRepresents d settled chip w s) where
+module _ (d : IcuTable) (fits : FitsIcu d) (chip : Chip) (w : World) (s : IcuState) (h : IcuRepresents d settled chip w s) where
   abbrev Looks : Call → Looked IcuBody → Type 0
   Looks call l = LooksRight (icu d) chip w s call l
 
@@ -144,14 +137,14 @@ first_is PeriodTime k c = refl
 first_is DutyCycle k c = refl
 
 -- the body is that of the handler of a configured channel, whose line this is
-pub record Handles (d : IcuDriver) (line : ℕ) (k : IcuBody) : Type 0 where
+pub record Handles (d : IcuTable) (line : ℕ) (k : IcuBody) : Type 0 where
   pub number : ℕ
   pub at : line ≡ 16 + number
   pub channel : Channel
   pub known : channel_of d number ≡ Some channel
   pub is : handler_of (record channel { number = number }) ≡ k
 
-module _ (d : IcuDriver) (fits : FitsIcu d) where
+module _ (d : IcuTable) (fits : FitsIcu d) where
   entered_by : (line : ℕ) (k : IcuBody) (q : Option Channel) → channel_of_line d line ≡ q → body_by q ≡ Some k → Handles d line k
   entered_by line k None e is = absurd (cc)
   entered_by line k (Some x) e is = by (nat_lt line 16) refl e
@@ -215,5 +208,5 @@ module _ (d : IcuDriver) (fits : FitsIcu d) where
   }
 
 -- it leaves the peripheral rate alone, and has no watchdog
-pub slow_captures : (d : IcuDriver) (chip : Chip) (w : World) (ps : List (Short Asked IcuBody × Open Call)) (s : IcuState) → FitsIcu d → (driver_of (icu d)).relates chip w ps s → (driver_of (icu d)).setting.machine.rate s ≤ 16
+pub slow_captures : (d : IcuTable) (chip : Chip) (w : World) (ps : List (Short Asked IcuBody × Open Call)) (s : IcuState) → FitsIcu d → (driver_of (icu d)).relates chip w ps s → (driver_of (icu d)).setting.machine.rate s ≤ 16
 slow_captures d chip w ps s fits h = omega arith

@@ -1,5 +1,5 @@
 -- An outside level is set: words and registers agree with the machine as before.
--- From Course, Turns, Later, Parts, Tables.
+-- From Course, icu_machine: Edges, Turns, Later, icu_machine: Channels.
 -- Used by Over.
 use Rattle.std.proofs.Common.{◌≡◌, ℕ, ◌+◌, ◌<◌, Bool, true, false, length, refl, sym, ◌∙◌, ap, subst}
 use Rattle.std.specs.Prelude.{if◌then◌else◌, is_some}
@@ -12,18 +12,18 @@ use Rattle.mcal_base.proofs.BitLaws.{length-at_bits}
 use Rattle.mcal_base.specs.declared.directive.Order.TheVariants.{Level}
 use Rattle.run_model.specs.World.{World, world_after}
 use Rattle.run_model.proofs.OutsideLaws.{stands-event}
-use Rattle.icu_driver.specs.Edges.{is_same}
+use Rattle.icu_machine.specs.Edges.{is_same}
 use Rattle.icu_driver.specs.Refinement.{Lag, FitsIcu, IcuRepresents, ChannelWords, IsCourse, HasTurns, IsClean, all_are, state_word}
-use Rattle.icu_driver.specs.Machine.{IcuState, Capture, capture_at, by_channel, edge_at_pin, moved, stamp_in}
-use Rattle.icu_driver.specs.Table.{channel_of}
-use Rattle.icu_driver.specs.declared.driver.IcuDriver.{IcuDriver}
-use Rattle.icu_driver.specs.laws.Course.{words_still, pin_still, pin_off_same, pin_course, place_still}
+use Rattle.icu_machine.specs.Machine.{IcuState, Capture, capture_at, by_channel, edge_at_pin, moved, stamp_in}
+use Rattle.icu_machine.specs.Table.{channel_of}
+use Rattle.icu_machine.specs.declared.table.IcuTable.{IcuTable}
+use Rattle.icu_driver.specs.laws.Course.{words_still, pin_off_same, pin_course, place_still}
 use Rattle.icu_driver.specs.laws.Later.{level_block}
-use Rattle.icu_driver.specs.laws.Parts.{still}
-use Rattle.icu_driver.specs.laws.Tables.{by_channel_at}
+use Rattle.icu_machine.specs.laws.Edges.{still, pin_still}
+use Rattle.icu_machine.specs.laws.Channels.{by_channel_at}
 use Rattle.icu_driver.specs.laws.Turns.{pin_turns, pin_kept}
 
-module _ (d : IcuDriver) (fits : FitsIcu d) (gap : Lag) (chip : Chip) (w : World) (s : IcuState) (pin : ℕ) (v : Bool) (h : IcuRepresents d gap chip w s) where
+module _ (d : IcuTable) (fits : FitsIcu d) (gap : Lag) (chip : Chip) (w : World) (s : IcuState) (pin : ℕ) (v : Bool) (h : IcuRepresents d gap chip w s) where
   abbrev after : Bool → IcuState
   after r = if r then s else record s { channels = by_channel (λ c. edge_at_pin (channel_of d c) w.now pin v (capture_at s c)) }
 

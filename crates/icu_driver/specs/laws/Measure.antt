@@ -1,31 +1,25 @@
 -- Icu_StartSignalMeasurement and Icu_GetTimeElapsed: their steps, what holds at each, and that they are right.
--- From Calls, One, Rows, Steady, Channels and 2 more.
+-- From Calls, One, Rows, Steady, Channels and 5 more.
 -- Used by Duty, Sampling, service/measure/rt, Lawful, Windows and 4 more.
 use Rattle.std.proofs.Common.{◌≡◌, ◌<◌, ◌||◌, ◌==◌, [], ◌∷◌, ◌∙◌, if◌then◌else◌}
 use Rattle.icu_driver.specs.Terms
 use Terms.{acted, acting, ActiveIs, After, AllByRecursion, and_parts, answers, ap, AreRight, arith, bare, Before}
 use Terms.{begins_rising, below_test, bit_of, Bodies, Bool, Call, Capture, capture_at, CaptureAgrees, CaptureFlush}
 use Terms.{CaptureGateSet, Captures, channel_of, Chip, chip_after, chip_capture, cons_option, DutyCycle, Edge}
-use Terms.{ends_rising, eq_self, false, filter_map, flushed, GetTimeElapsed, Hand, handed, HasTurns, HighTime}
-use Terms.{icu_ground, IcuDriver, IcuRepresents, IcuSignalMeasurementProperty, IcuState, Is_after, Is_before}
-use Terms.{is_counter, is_duty_cycle, is_measurement, is_some, is_timestamp, Lag, length-at_bits, List, Load, LowTime}
-use Terms.{MeasureBody, measured_edges, ModeWords, newest, None, none, not, not-true, numbers, off_on, opening, Option}
-use Terms.{or_true, Origin, outcome, PeriodTime, refl, seen_by, seen_number, settled, SignalMeasurement, Some}
-use Terms.{stands-move, started, StartSignalMeasurement, Store, subst, switched, sym, Told, true, Unhand, Unsee}
-use Terms.{value_of, value_or, ValueIs, values, values_by, values_none, waiting_value, with_capture, word_of, World}
-use Terms.{Write, ℕ}
-use Rattle.icu_driver.specs.declared.call.Call.TheVariants.{Channel}
+use Terms.{ends_rising, eq_self, false, filter_map, flushed, GetTimeElapsed, Hand, handed, HasTurns, HighTime, icu_ground, IcuTable, IcuRepresents, IcuSignalMeasurementProperty, IcuState, Is_after, Is_before, is_counter, is_duty_cycle, is_measurement, is_some, is_timestamp, Lag, length-at_bits, List, Load, LowTime, MeasureBody, measured_edges, ModeWords, newest, None, none, not, not-true, numbers, off_on, opening, Option, or_true, Origin, outcome, PeriodTime, refl, seen_by, seen_number, settled, SignalMeasurement, Some, stands-move, started, StartSignalMeasurement, Store, subst, switched, sym, Told, true, Unhand, Unsee, value_of, value_or, ValueIs, values, values_by, values_none, waiting_value, with_capture, word_of, World, Write, ℕ}
+use Rattle.icu_machine.specs.declared.call.Call.TheVariants.{Channel}
 use Rattle.icu_driver.specs.declared.service.measure.MeasureBody.TheVariants.{Open, Empty, Waits, Value}
 use Rattle.icu_driver.specs.laws.{Base.{Move, no_answer, BodyTaken, goes, acts_on, ends, number, Nothing, Shortens}}
 use Rattle.icu_driver.specs.laws.{Base.{word, bit, SWITCHES, SIZES, VALUES, TIMES}, Calls.{MayCall, acts_is, measures}}
 use Rattle.icu_driver.specs.laws.{Calls.{to_mode, from_mode, is_there, counting, place_by, switched_course, opening_at}}
 use Rattle.icu_driver.specs.laws.{Calls.{bare_at, may_row}, Change.{as_course}, Channels.{emptied_agrees, block_as}}
 use Rattle.icu_driver.specs.laws.{Gate.{opened}, One.{IsRow, ChannelAgrees, channel_agrees, one_agrees, settled_at}}
-use Rattle.icu_driver.specs.laws.{One.{with_same, with_state, left_same, left_channel, channel_new, gate_new, word_new}}
+use Rattle.icu_machine.specs.laws.{Channels.{with_same}}
+use Rattle.icu_driver.specs.laws.{One.{with_state, left_same, left_channel, channel_new, gate_new, word_new}}
 use Rattle.icu_driver.specs.laws.{Rows.{rows_of, rows_behind, rows_at, row_others, row_stored, New_waits, New_seen}}
 use Rattle.icu_driver.specs.laws.{Rows.{measure_closed}, Steady.{calm_at, AllGood, steady, steady_right}}
 use Rattle.chip_captures.specs.declared.capture.Act.TheVariants as turns
-use Rattle.icu_driver.specs.declared.driver.Channel as configured
+use Rattle.icu_machine.specs.declared.table.Channel as configured
 
 abbrev pub measure_work : MeasureBody → Move
 measure_work (Open c) = Write CaptureGateSet (bit c)
@@ -162,10 +156,10 @@ measure_gap (Value c q) = settled
 measure_gap (Hand c v) = rows_of (SWITCHES ∷ []) c
 
 -- a measurement under way, of which nothing was served, or whose values were handed out
-abbrev pub IsMeasured : IcuDriver → IcuState → ℕ → configured.Channel → Type 0
+abbrev pub IsMeasured : IcuTable → IcuState → ℕ → configured.Channel → Type 0
 IsMeasured d s c k = (channel_of d c ≡ Some k) × (k.mode ≡ SignalMeasurement) × (c < 8) × (s.initialised ≡ true)
 
-abbrev pub measure_holds : IcuDriver → Captures → IcuState → MeasureBody → Origin Call → Option Told → Type 0
+abbrev pub measure_holds : IcuTable → Captures → IcuState → MeasureBody → Origin Call → Option Told → Type 0
 measure_holds d f s (Open c) o t = Before (Channel c StartSignalMeasurement) o t × MayCall d c StartSignalMeasurement × (s.initialised ≡ true)
 measure_holds d f s (Empty c) o t = Before (Channel c StartSignalMeasurement) o t × MayCall d c StartSignalMeasurement × (s.initialised ≡ true) × ((chip_capture f c).gate ≡ true)
 measure_holds d f s (Unhand c) o t = After (Channel c StartSignalMeasurement) (answers no_answer) o t × (k : configured.Channel) × IsMeasured d s c k × ((capture_at s c).served ≡ [])
@@ -174,7 +168,7 @@ measure_holds d f s (Waits c) o t = Before (Channel c GetTimeElapsed) o t × May
 measure_holds d f s (Value c q) o t = Before (Channel c GetTimeElapsed) o t × (i : MayCall d c GetTimeElapsed) × (s.initialised ≡ true) × (q ≡ is_some (waiting_value i.channel (capture_at s c)))
 measure_holds d f s (Hand c v) o t = After (Channel c GetTimeElapsed) (answers (number v)) o t × (k : configured.Channel) × IsMeasured d s c k × ((capture_at s c).handed_out ≡ true)
 
-abbrev pub measure_bodies : (d : IcuDriver) → Bodies (icu_ground d) MeasureBody
+abbrev pub measure_bodies : (d : IcuTable) → Bodies (icu_ground d) MeasureBody
 measure_bodies d = steady d measure_work measure_takes measure_left measure_gap (measure_holds d)
 
 pub row_switches : IsRow SWITCHES
@@ -205,7 +199,7 @@ begun_turns : (k : Option configured.Channel) (w : World) (x : Capture) → HasT
 begun_turns None w x = tt
 begun_turns (Some k) w x = λ m o. (tt, tt)
 
-module _ (d : IcuDriver) where
+module _ (d : IcuTable) where
   -- that a value waits is stored: none does
   pub unwaiting : (rs : List ℕ) → AllByRecursion IsRow rs → (chip : Chip) (w : World) (s : IcuState) (c : ℕ) (k : configured.Channel) → IsMeasured d s c k → waiting_value k (capture_at s c) ≡ None → IcuRepresents d (rows_of (SWITCHES ∷ rs) c) chip w s → IcuRepresents d (rows_of rs c) (chip_after chip (Store (word SWITCHES c) 0) 0) w s
   unwaiting rs all chip w s c k (known, mode, lt, on) e h =

@@ -1,16 +1,12 @@
 -- One channel under a step: the other ones are as they were.
--- Used by Keeping, Change, Stamp, DeInit, Sampling and 8 more.
-use Rattle.std.proofs.Common.{◌≡◌, ◌≢◌, ◌+◌, ◌%◌, ◌<◌, ◌≤◌, ◌^◌, ◌||◌, ◌==◌, ◌∙◌, if◌then◌else◌}
+-- From service_outline: Words, icu_machine: Channels, service_outline: Sweep.
+-- Used by Keeping, Change, DeInit, Stamp, Sampling and 8 more.
+use Rattle.std.proofs.Common.{◌≡◌, ◌≢◌, ◌+◌, ◌%◌, ◌<◌, ◌≤◌, ◌^◌, ◌||◌, ◌∙◌, if◌then◌else◌}
+use Rattle.icu_machine.specs.laws.Channels.{with_other}
 use Rattle.icu_driver.specs.Terms
-use Terms.{Act, acted, acting, ActiveIs, all_are, ap, arith, bit, Bool, by_channel_at, Capture, capture_at}
+use Terms.{Act, acted, acting, ActiveIs, all_are, ap, arith, bit, Bool, Capture, capture_at}
 use Terms.{CaptureAgrees, Captures, Channel, channel_of, ChannelWords, Chip, chip_after, chip_capture, chip_with}
-use Terms.{closed, each_but, EdgeCounter, eq_other, eq_self, false, get_or-at_bits, get_or-set_other, get_or-set_same}
-use Terms.{has_bit, has_bit-pow_other, has_bit-pow_same, HasPlace, HasTurns, IcuDriver, IcuMeasurementMode}
-use Terms.{IcuRepresents, IcuState, INTERVALS, is_some, IsClean, IsCourse, Lag, length, length-at_bits, length-set}
-use Terms.{MARKS, ModeWords, nat_lt, nat_tests, None, off_on, OppositeIs, Option, place_of, PLACES, refl, seen_by}
-use Terms.{settled, SignalEdgeDetect, SignalMeasurement, SIZES, slice_index_or, Some, stamp_in, Stamped, Stamps}
-use Terms.{stands-move, StandsIn, StartIs, STATE, state_word, Store, stored_other, stored_same, subst, SWITCHES, sym}
-use Terms.{TIMES, Timestamp, true, ValueIs, VALUES, waiting_value, with_capture, word, word_of, WORDS, World, ℕ}
+use Terms.{closed, each_but, EdgeCounter, false, get_or-at_bits, get_or-set_other, get_or-set_same, has_bit, has_bit-pow_other, has_bit-pow_same, HasPlace, HasTurns, IcuTable, IcuMeasurementMode, IcuRepresents, IcuState, INTERVALS, is_some, IsClean, IsCourse, Lag, length, length-at_bits, length-set, MARKS, ModeWords, nat_lt, nat_tests, None, off_on, OppositeIs, Option, place_of, PLACES, refl, seen_by, settled, SignalEdgeDetect, SignalMeasurement, SIZES, slice_index_or, Some, stamp_in, Stamped, Stamps, stands-move, StandsIn, StartIs, STATE, state_word, Store, stored_other, stored_same, subst, SWITCHES, sym, TIMES, Timestamp, true, ValueIs, VALUES, waiting_value, with_capture, word, word_of, WORDS, World, ℕ}
 use Rattle.chip_captures.specs.declared.capture.Capture as chips
 
 -- ---- rows of words
@@ -64,7 +60,7 @@ gap_left c gap gap1 was is = record {
 }
 
 -- what the agreement says of a channel
-pub record ChannelAgrees (d : IcuDriver) (gap : Lag) (chip : Chip) (w : World) (on : Bool) (c : ℕ) (x : Capture) : Type 0 where
+pub record ChannelAgrees (d : IcuTable) (gap : Lag) (chip : Chip) (w : World) (on : Bool) (c : ℕ) (x : Capture) : Type 0 where
   pub block : CaptureAgrees (channel_of d c) (gap.gates c) (gap.queues c) (gap.counts c) on (on || gap.moded) (chip_capture chip.captures c) x
   pub words : ChannelWords (channel_of d c) (λ k. word_of chip k) gap.words c x
   pub course : IsCourse (channel_of d c) x
@@ -72,11 +68,11 @@ pub record ChannelAgrees (d : IcuDriver) (gap : Lag) (chip : Chip) (w : World) (
   pub turns : HasTurns (channel_of d c) w x
   pub stamps : is_some (channel_of d c) ≡ true → (i : ℕ) → i < 64 → gap.stamps c i ≡ false → word_of chip (place_of (Stamps c) i) ≡ stamp_in x.stored i
 
-pub channel_agrees : (d : IcuDriver) (gap : Lag) (chip : Chip) (w : World) (s : IcuState) (c : ℕ) → c < 8 → IcuRepresents d gap chip w s → ChannelAgrees d gap chip w s.initialised c (capture_at s c)
+pub channel_agrees : (d : IcuTable) (gap : Lag) (chip : Chip) (w : World) (s : IcuState) (c : ℕ) → c < 8 → IcuRepresents d gap chip w s → ChannelAgrees d gap chip w s.initialised c (capture_at s c)
 channel_agrees d gap chip w s c lt h = record { block = h.block c lt; words = h.words c lt; course = (h.course c lt).0; place = (h.course c lt).1; turns = h.turns c lt; stamps = λ some i few g. h.stamps c lt some i few g }
 
 -- no channel of a module that is off is on
-pub off_channel : (d : IcuDriver) (gap : Lag) (chip : Chip) (w : World) (s : IcuState) (c : ℕ) → c < 8 → s.initialised ≡ false → IcuRepresents d gap chip w s → (capture_at s c).on ≡ false
+pub off_channel : (d : IcuTable) (gap : Lag) (chip : Chip) (w : World) (s : IcuState) (c : ℕ) → c < 8 → s.initialised ≡ false → IcuRepresents d gap chip w s → (capture_at s c).on ≡ false
 off_channel d gap chip w s c lt off h = by (capture_at s c).on refl
   where
     by : (q : Bool) → (capture_at s c).on ≡ q → (capture_at s c).on ≡ false
@@ -101,12 +97,6 @@ pub record StateLeft (c : ℕ) (s s1 : IcuState) : Type 0 where
 
 pub same_state : (c : ℕ) (s : IcuState) → StateLeft c s s
 same_state c s = record { on = refl; others = λ k lt ne. refl }
-
-pub with_same : (s : IcuState) (c : ℕ) (x : Capture) → c < 8 → capture_at (with_capture s c x) c ≡ x
-with_same s c x lt = by_channel_at (λ k. if k == c then x else capture_at s k) c lt ∙ ap (λ q. if q then x else capture_at s c) (eq_self c)
-
-pub with_other : (s : IcuState) (c k : ℕ) (x : Capture) → k < 8 → k ≢ c → capture_at (with_capture s c x) k ≡ capture_at s k
-with_other s c k x lt ne = by_channel_at (λ i. if i == c then x else capture_at s i) k lt ∙ ap (λ q. if q then x else capture_at s k) (eq_other k c ne)
 
 pub with_state : (s : IcuState) (c : ℕ) (x : Capture) → StateLeft c s (with_capture s c x)
 with_state s c x = record { on = refl; others = λ k lt ne. with_other s c k x lt ne }
@@ -141,7 +131,7 @@ module _ (at at1 : ℕ → ℕ) (behind behind1 : ℕ → Bool) (c : ℕ) (same 
 
 -- ---- the whole agreement after a step at one channel
 
-module _ (d : IcuDriver) (c : ℕ) (lt : c < 8) (gap gap1 : Lag) (same : GapLeft c gap gap1) (chip chip1 : Chip) (w : World) (s s1 : IcuState) (h : IcuRepresents d gap chip w s) (left : ChipLeft c w chip chip1) (stays : StateLeft c s s1) (clean : s1.initialised ≡ false → (k : ℕ) → k < 8 → is_some (channel_of d k) ≡ true → IsClean (capture_at s1 k)) (here : ChannelAgrees d gap1 chip1 w s.initialised c (capture_at s1 c)) where
+module _ (d : IcuTable) (c : ℕ) (lt : c < 8) (gap gap1 : Lag) (same : GapLeft c gap gap1) (chip chip1 : Chip) (w : World) (s s1 : IcuState) (h : IcuRepresents d gap chip w s) (left : ChipLeft c w chip chip1) (stays : StateLeft c s s1) (clean : s1.initialised ≡ false → (k : ℕ) → k < 8 → is_some (channel_of d k) ≡ true → IsClean (capture_at s1 k)) (here : ChannelAgrees d gap1 chip1 w s.initialised c (capture_at s1 c)) where
   block_other : (k : ℕ) → k < 8 → k ≢ c → CaptureAgrees (channel_of d k) (gap1.gates k) (gap1.queues k) (gap1.counts k) s1.initialised (s1.initialised || gap1.moded) (chip_capture chip1.captures k) (capture_at s1 k)
   block_other k few ne =
       let a = h.block k few in
@@ -179,7 +169,7 @@ module _ (d : IcuDriver) (c : ℕ) (lt : c < 8) (gap gap1 : Lag) (same : GapLeft
   }
 
 -- the same of an initialised module
-pub one_agrees : (d : IcuDriver) (c : ℕ) → c < 8 → (gap gap1 : Lag) → IsAt c gap → IsAt c gap1 → (chip chip1 : Chip) (w : World) (s s1 : IcuState) → s.initialised ≡ true → IcuRepresents d gap chip w s → ChipLeft c w chip chip1 → StateLeft c s s1 → ChannelAgrees d gap1 chip1 w s.initialised c (capture_at s1 c) → IcuRepresents d gap1 chip1 w s1
+pub one_agrees : (d : IcuTable) (c : ℕ) → c < 8 → (gap gap1 : Lag) → IsAt c gap → IsAt c gap1 → (chip chip1 : Chip) (w : World) (s s1 : IcuState) → s.initialised ≡ true → IcuRepresents d gap chip w s → ChipLeft c w chip chip1 → StateLeft c s s1 → ChannelAgrees d gap1 chip1 w s.initialised c (capture_at s1 c) → IcuRepresents d gap1 chip1 w s1
 one_agrees d c lt gap gap1 was is chip chip1 w s s1 on h left stays here = step_agrees d c lt gap gap1 (gap_left c gap gap1 was is) chip chip1 w s s1 h left stays (λ off. off_on (sym off ∙ (stays.on ∙ on))) here
 
 -- ---- what steps at a channel leave of the chip

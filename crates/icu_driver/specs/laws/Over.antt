@@ -21,11 +21,11 @@ use Rattle.service_outline.specs.Outline.{Comes}
 use Rattle.service_outline.specs.laws.Words.{word_later, fills_there}
 use Rattle.icu_driver.specs.Bounds.{icu_setting}
 use Rattle.icu_driver.specs.Refinement.{Lag, FitsIcu, IcuRepresents, CaptureAgrees, ChannelWords, ModeWords, Stamped, ValueIs, ActiveIs, StartIs, OppositeIs, HasTurns, Alternate, EndsAt, waiting_value, seen_by}
-use Rattle.icu_driver.specs.Machine.{IcuState, Capture, capture_at, moved}
-use Rattle.icu_driver.specs.Table.{channel_of}
+use Rattle.icu_machine.specs.Machine.{IcuState, Capture, capture_at, moved}
+use Rattle.icu_machine.specs.Table.{channel_of}
 use Rattle.icu_driver.specs.Words.{word}
-use Rattle.icu_driver.specs.declared.driver.Channel.{Channel}
-use Rattle.icu_driver.specs.declared.driver.IcuDriver.{IcuDriver}
+use Rattle.icu_machine.specs.declared.table.Channel.{Channel}
+use Rattle.icu_machine.specs.declared.table.IcuTable.{IcuTable}
 use Rattle.icu_driver.specs.declared.words.TheConstants.{STATE, MARKS, INTERVALS, PLACES, VALUES, TIMES}
 use Rattle.icu_driver.specs.laws.Levels.{level_agrees}
 
@@ -63,7 +63,7 @@ turns_over None w w1 x e h = tt
 turns_over (Some k) w w1 x e h = λ m o. subst (λ (f : ℕ → Bool). Alternate (x.served ++ x.waiting) × EndsAt x.lost (f k.pin) (x.served ++ x.waiting)) (sym e) (h m o)
 
 -- a chip with the channels, the words and the enable bits of another one, under the same levels, agrees with what that one does
-pub same_agrees : (d : IcuDriver) (gap : Lag) (chip chip1 : Chip) (w w1 : World) (s : IcuState) → StandsIn chip1 w1 → chip1.captures.captures ≡ chip.captures.captures → chip1.captures.pins ≡ chip.captures.pins → ((j : ℕ) → STATE ≤ j → j < 32832 → word_of chip1 j ≡ word_of chip j) → ((c : ℕ) → c < 8 → is_some (channel_of d c) ≡ true → (i : ℕ) → i < 64 → word_of chip1 (place_of (Stamps c) i) ≡ word_of chip (place_of (Stamps c) i)) → ((c : ℕ) → c < 8 → has_bit chip1.control.enabled (16 + c) ≡ has_bit chip.control.enabled (16 + c)) → w1.levels ≡ w.levels → IcuRepresents d gap chip w s → IcuRepresents d gap chip1 w1 s
+pub same_agrees : (d : IcuTable) (gap : Lag) (chip chip1 : Chip) (w w1 : World) (s : IcuState) → StandsIn chip1 w1 → chip1.captures.captures ≡ chip.captures.captures → chip1.captures.pins ≡ chip.captures.pins → ((j : ℕ) → STATE ≤ j → j < 32832 → word_of chip1 j ≡ word_of chip j) → ((c : ℕ) → c < 8 → is_some (channel_of d c) ≡ true → (i : ℕ) → i < 64 → word_of chip1 (place_of (Stamps c) i) ≡ word_of chip (place_of (Stamps c) i)) → ((c : ℕ) → c < 8 → has_bit chip1.control.enabled (16 + c) ≡ has_bit chip.control.enabled (16 + c)) → w1.levels ≡ w.levels → IcuRepresents d gap chip w s → IcuRepresents d gap chip1 w1 s
 same_agrees d gap chip chip1 w w1 s outside channels pins words stamps enabled levels h = record {
   outside = outside;
   size = ap (λ xs. length xs) channels ∙ h.size;
@@ -78,7 +78,7 @@ same_agrees d gap chip chip1 w w1 s outside channels pins words stamps enabled l
   clean = h.clean;
 }
 
-pub later_agrees : (d : IcuDriver) → FitsIcu d → (gap : Lag) (chip : Chip) (w : World) (s : IcuState) (order : Order) → Comes (icu_setting d) chip w s order → IcuRepresents d gap chip w s → IcuRepresents d gap (happened chip order) (world_after w chip.clock.rate order) (moved d w s order)
+pub later_agrees : (d : IcuTable) → FitsIcu d → (gap : Lag) (chip : Chip) (w : World) (s : IcuState) (order : Order) → Comes (icu_setting d) chip w s order → IcuRepresents d gap chip w s → IcuRepresents d gap (happened chip order) (world_after w chip.clock.rate order) (moved d w s order)
 later_agrees d fits gap chip w s order free h = by_order order (stands-event chip w order (fills_there (icu_setting d) (is_masked chip) w s free.frames order free.free) h.outside) (λ j lt. word_later chip order j h.outside.all.words lt)
   where
     by_order : (order : Order) → StandsIn (happened chip order) (world_after w chip.clock.rate order) → ((j : ℕ) → j < SOURCES → word_of (happened chip order) j ≡ word_of chip j) → IcuRepresents d gap (happened chip order) (world_after w chip.clock.rate order) (moved d w s order)

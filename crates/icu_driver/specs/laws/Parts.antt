@@ -1,5 +1,6 @@
 -- An edge, and what a frame writes to gates, queues and counts: block and machine do the same.
--- Used by Course, Turns, Levels, Later.
+-- From icu_machine: Edges.
+-- Used by Steady, Later.
 use Rattle.std.proofs.Common.{◌≡◌, ℕ, suc, ◌+◌, ◌%◌, ◌^◌, Bool, true, false, ◌&&◌, ◌||◌, not, nat_lt, List, [], ◌∷◌, ◌++◌, length, Some, refl, sym, ◌∙◌, ap, subst}
 use Rattle.std.specs.Prelude.{if◌then◌else◌, map}
 use Rattle.chip_captures.specs.Captures.{take_edge, caught, chooses as chip_chooses}
@@ -9,11 +10,12 @@ use Rattle.chip_captures.specs.declared.capture.Mode.{Mode}
 use Rattle.chip_captures.specs.declared.capture.Mode.TheVariants.{Keeps, Counts}
 use Rattle.mcal_base.specs.declared.config.icu.IcuStartEdge.{IcuStartEdge}
 use Rattle.mcal_base.specs.declared.config.icu.IcuStartEdge.TheVariants.{Rising, Falling, Both}
-use Rattle.icu_driver.specs.Edges.{Edge}
+use Rattle.icu_machine.specs.Edges.{Edge}
 use Rattle.icu_driver.specs.Refinement.{CaptureAgrees, kept, chosen, condition_by, mode_by, bare}
-use Rattle.icu_driver.specs.Machine.{Capture, edge_queued, is_taken, edge_taken}
-use Rattle.icu_driver.specs.Table.{is_counter, is_measurement, chooses}
-use Rattle.icu_driver.specs.declared.driver.Channel.{Channel}
+use Rattle.icu_machine.specs.Machine.{Capture, edge_queued, is_taken, edge_taken}
+use Rattle.icu_machine.specs.Table.{is_counter, is_measurement, chooses}
+use Rattle.icu_machine.specs.declared.table.Channel.{Channel}
+use Rattle.icu_machine.specs.laws.Edges.{see_if, taken-still}
 
 -- ---- lists of edges
 
@@ -41,10 +43,6 @@ pub chooses_as : (k : Channel) (x : Capture) (rising : Bool) → chip_chooses (c
 chooses_as k x rising = chooses_by (is_measurement k.mode) k x rising refl
 
 -- ---- one channel, by whether the edge is taken
-
-see_if : {A B : Type 0} (see : A → B) (q : Bool) (a b : A) (v : B) → see a ≡ v → see b ≡ v → see (if q then a else b) ≡ v
-see_if see true a b v h i = h
-see_if see false a b v h i = i
 
 -- a channel that has taken the edge or not
 abbrev block_by : (taken counter : Bool) → ℕ → (rising : Bool) → chips.Capture → chips.Capture
@@ -82,18 +80,12 @@ count_same true false time rising b x h = see_if (λ (y : chips.Capture). y.coun
 
 -- ---- what an edge leaves
 
-abbrev pub still : Capture → Capture
-still x = record x { waiting = []; lost = false; count = 0 }
-
 take-bare : (m : Mode) (time : ℕ) (rising : Bool) (b : chips.Capture) → bare (take_edge m time rising b) ≡ bare b
 take-bare Counts time rising b = refl
 take-bare Keeps time rising b = see_if (λ (y : chips.Capture). bare y) (nat_lt (length b.queue) 4) _ _ (bare b) refl refl
 
 pub caught-bare : (time : ℕ) (rising : Bool) (b : chips.Capture) → bare (caught time rising b) ≡ bare b
 caught-bare time rising b = see_if (λ (y : chips.Capture). bare y) (b.gate && chip_chooses b.condition rising) _ _ (bare b) (take-bare b.mode time rising b) refl
-
-pub taken-still : (k : Channel) (now : ℕ) (rising : Bool) (x : Capture) → still (edge_taken k now rising x) ≡ still x
-taken-still k now rising x = see_if (λ (y : Capture). still y) (not (is_taken k rising x)) _ _ (still x) refl (see_if (λ (y : Capture). still y) (is_counter k.mode) _ _ (still x) refl (see_if (λ (y : Capture). still y) (nat_lt (length x.waiting) 4) _ _ (still x) refl refl))
 
 -- ---- an edge that comes to a channel of the block comes to the machine's
 

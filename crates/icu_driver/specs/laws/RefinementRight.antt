@@ -1,6 +1,6 @@
 -- The ground keeps what it owes: under moves elsewhere, at rest, at notices and errors.
--- From service_outline: Words, Over, service_outline: There, Fresh, Tables.
--- Used by Fits, Keeps.
+-- From service_outline: Words, Over, service_outline: There, Fresh, icu_machine: Channels.
+-- Used by Lawful, Keeps, Keeping, Init, Fits and 9 more.
 use Rattle.std.proofs.Common.{◌≡◌, ℕ, suc, ◌+◌, ◌-◌, ◌/◌, ◌%◌, ◌*◌, ◌<◌, ◌≤◌, ◌^◌, Bool, true, false, ◌&&◌, ◌||◌, ◌==◌, not, nat_lt, List, [], ◌∷◌, length, map, Option, Some, None, refl, sym, ◌∙◌, ap, subst, arith}
 use Rattle.std.specs.Prelude.{is_some, IsSome, if◌then◌else◌}
 use Rattle.std.proofs.lemmas.Bool.Decides.{nat_tests}
@@ -31,22 +31,22 @@ use Rattle.service_outline.specs.There.{names_there}
 use Rattle.service_outline.specs.laws.There.{move_there}
 use Rattle.service_outline.specs.laws.Words.{stores_in, word_apart}
 use Rattle.icu_driver.specs.Bounds.{is_capture, is_for_lines, may_write, is_own_word, is_stamp, may_name, icu_may, channel_count}
-use Rattle.icu_driver.specs.Checks.{error_by, service_of, channel_service}
-use Rattle.icu_driver.specs.Edges.{Edge}
+use Rattle.icu_machine.specs.Checks.{error_by, service_of, channel_service}
+use Rattle.icu_machine.specs.Edges.{Edge}
 use Rattle.icu_driver.specs.Refinement.{has_lines, owns_written, icu_owns, FitsIcu, Lag, settled, kept, IcuRepresents, icu_ground}
-use Rattle.icu_driver.specs.Machine.{IcuState, first_state, capture_at, work, asked, acts_by, happens, ready, ready_by, waits, is_on}
-use Rattle.icu_driver.specs.Table.{channel_of, channel_of_line, channel_number}
-use Rattle.icu_driver.specs.declared.call.Call.{Call}
-use Rattle.icu_driver.specs.declared.call.Call.TheVariants.{Init, DeInit}
-use Rattle.icu_driver.specs.declared.call.Call.TheVariants as calls
-use Rattle.icu_driver.specs.declared.call.ChannelCall.{ChannelCall}
-use Rattle.icu_driver.specs.declared.call.ChannelCall.TheVariants.{SetActivationCondition}
-use Rattle.icu_driver.specs.declared.driver.Channel.{Channel}
-use Rattle.icu_driver.specs.declared.driver.IcuDriver.{IcuDriver}
+use Rattle.icu_machine.specs.Machine.{IcuState, first_state, capture_at, work, asked, acts_by, happens, ready, ready_by, waits, is_on}
+use Rattle.icu_machine.specs.Table.{channel_of, channel_of_line, channel_number}
+use Rattle.icu_machine.specs.declared.call.Call.{Call}
+use Rattle.icu_machine.specs.declared.call.Call.TheVariants.{Init, DeInit}
+use Rattle.icu_machine.specs.declared.call.Call.TheVariants as calls
+use Rattle.icu_machine.specs.declared.call.ChannelCall.{ChannelCall}
+use Rattle.icu_machine.specs.declared.call.ChannelCall.TheVariants.{SetActivationCondition}
+use Rattle.icu_machine.specs.declared.table.Channel.{Channel}
+use Rattle.icu_machine.specs.declared.table.IcuTable.{IcuTable}
 use Rattle.icu_driver.specs.declared.words.TheConstants.{STATE}
 use Rattle.icu_driver.specs.laws.Fresh.{reset_agrees}
 use Rattle.icu_driver.specs.laws.Over.{same_agrees, later_agrees}
-use Rattle.icu_driver.specs.laws.Tables.{by_eight}
+use Rattle.icu_machine.specs.laws.Channels.{by_eight}
 
 -- ---- channels and lines by number
 
@@ -57,7 +57,7 @@ pub below_test : (c : ℕ) → c < 8 → nat_lt c 8 ≡ true
 below_test c lt = grind (arith, nat_tests)
 
 -- a configured channel is one of the eight
-pub within : (d : IcuDriver) (c : ℕ) → is_some (channel_of d c) ≡ true → c < 8
+pub within : (d : IcuTable) (c : ℕ) → is_some (channel_of d c) ≡ true → c < 8
 within d c h = by_test (nat_lt c 8) _ refl h
   where
     by_test : (q : Bool) (k : Option Channel) → nat_lt c 8 ≡ q → is_some (if q then k else None) ≡ true → c < 8
@@ -81,22 +81,22 @@ written_apart chip (CapturePop c) v received e = absurd (cc)
 written_apart chip (CaptureFlush c) v received e = absurd (cc)
 written_apart chip _ v received e = refl
 
-captures_apart : (d : IcuDriver) (chip : Chip) (made : Move) (received : ℕ) → icu_owns d made ≡ false → (chip_after chip made received).captures ≡ chip.captures
+captures_apart : (d : IcuTable) (chip : Chip) (made : Move) (received : ℕ) → icu_owns d made ≡ false → (chip_after chip made received).captures ≡ chip.captures
 captures_apart d chip (Read r) received e = read_apart chip r e
 captures_apart d chip (Write r v) received e = written_apart chip r v received e
 captures_apart d chip _ received e = refl
 
-abbrev owned_word : IcuDriver → ℕ → Bool
+abbrev owned_word : IcuTable → ℕ → Bool
 owned_word d k = is_own_word d k || is_stamp d k
 
 -- the words of the module are its own, and so are the places of the stamps of a configured channel
-pub own_word : (d : IcuDriver) (j : ℕ) → STATE ≤ j → j < 32832 → is_own_word d j ≡ true
+pub own_word : (d : IcuTable) (j : ℕ) → STATE ≤ j → j < 32832 → is_own_word d j ≡ true
 own_word d j low high = by (channel_count d)
   where
     by : (n : ℕ) → not (nat_lt j 32768) && nat_lt j (32768 + (64 + 32 * n)) ≡ true
     by n = grind (arith, nat_tests)
 
-pub own_stamp : (d : IcuDriver) (c i : ℕ) → c < 8 → is_some (channel_of d c) ≡ true → i < 64 → is_stamp d (place_of (Stamps c) i) ≡ true
+pub own_stamp : (d : IcuTable) (c i : ℕ) → c < 8 → is_some (channel_of d c) ≡ true → i < 64 → is_stamp d (place_of (Stamps c) i) ≡ true
 own_stamp d c i lt some below = ap (λ n. not (nat_lt (139264 + 64 * c + i) 139264) && is_some (channel_of d n)) at ∙ (ap (λ q. not q && is_some (channel_of d c)) high ∙ some)
   where
     at : (139264 + 64 * c + i - 139264) / 64 ≡ c
@@ -105,7 +105,7 @@ own_stamp d c i lt some below = ap (λ n. not (nat_lt (139264 + 64 * c + i) 1392
     high : nat_lt (139264 + 64 * c + i) 139264 ≡ false
     high = grind (arith, nat_tests)
 
-unstored : (d : IcuDriver) (made : Move) → icu_owns d made ≡ false → stores_in (owned_word d) made ≡ false
+unstored : (d : IcuTable) (made : Move) → icu_owns d made ≡ false → stores_in (owned_word d) made ≡ false
 unstored d (Store k v) e = e
 unstored d _ e = refl
 
@@ -135,12 +135,12 @@ read_enabled chip (ConverterAbort u) = refl
 read_enabled chip (PinFlip p) = refl
 read_enabled chip _ = refl
 
-enabled_apart : (d : IcuDriver) (chip : Chip) (made : Move) (received c : ℕ) → icu_owns d made ≡ false → c < 8 → has_bit (chip_after chip made received).control.enabled (16 + c) ≡ has_bit chip.control.enabled (16 + c)
+enabled_apart : (d : IcuTable) (chip : Chip) (made : Move) (received c : ℕ) → icu_owns d made ≡ false → c < 8 → has_bit (chip_after chip made received).control.enabled (16 + c) ≡ has_bit chip.control.enabled (16 + c)
 enabled_apart d chip (Read r) received c e lt = ap (λ k. has_bit k.enabled (16 + c)) (read_enabled chip r)
 enabled_apart d chip (Write r v) received c e lt = written_enabled chip r v received c e lt
 enabled_apart d chip _ received c e lt = refl
 
-apart_agrees : (d : IcuDriver) (gap : Lag) (chip : Chip) (w : World) (s : IcuState) (made : Move) (received : ℕ) → icu_owns d made ≡ false → IcuRepresents d gap chip w s → IcuRepresents d gap (chip_after chip made received) w s
+apart_agrees : (d : IcuTable) (gap : Lag) (chip : Chip) (w : World) (s : IcuState) (made : Move) (received : ℕ) → icu_owns d made ≡ false → IcuRepresents d gap chip w s → IcuRepresents d gap (chip_after chip made received) w s
 apart_agrees d gap chip w s made received e h =
     let same = captures_apart d chip made received e in
     let word = λ (j : ℕ) (own : owned_word d j ≡ true). word_apart (owned_word d) chip made received j (unstored d made e) own in
@@ -151,7 +151,7 @@ apart_agrees d gap chip w s made received e h =
 
 -- ---- what a frame may do
 
-owned_plain : (d : IcuDriver) (made : Move) → icu_owns d made ≡ true → is_shared made ≡ false
+owned_plain : (d : IcuTable) (made : Move) → icu_owns d made ≡ true → is_shared made ≡ false
 owned_plain d (Read r) e = refl
 owned_plain d (Write r v) e = refl
 owned_plain d (Load k) e = refl
@@ -166,29 +166,29 @@ written_owned EnableSet v e = lines_named v e
 written_owned EnableClear v e = lines_named v e
 written_owned _ v e = e
 
-may_owned : (d : IcuDriver) (made : Move) → may_name d made ≡ true → icu_owns d made ≡ true
+may_owned : (d : IcuTable) (made : Move) → may_name d made ≡ true → icu_owns d made ≡ true
 may_owned d (Write r v) e = written_owned r v e
 may_owned d _ e = e
 
-may_parts : (d : IcuDriver) (made : Move) → icu_may d made ≡ true → (icu_owns d made ≡ true) × (names_there made ≡ true)
+may_parts : (d : IcuTable) (made : Move) → icu_may d made ≡ true → (icu_owns d made ≡ true) × (names_there made ≡ true)
 may_parts d made e = let p = and_parts (may_name d made) (names_there made) e in (may_owned d made p.0, p.1)
 
 -- it resets nothing, begins no serial word and sets no rate
 abbrev IsPlain : Move → Type 0
 IsPlain made = (resets_chip made ≡ false) × (begins_word made ≡ false) × (sets_rate made ≡ false)
 
-written_plain : (d : IcuDriver) (r : Reg) (v : ℕ) → may_name d (Write r v) ≡ true → IsPlain (Write r v)
+written_plain : (d : IcuTable) (r : Reg) (v : ℕ) → may_name d (Write r v) ≡ true → IsPlain (Write r v)
 written_plain d ResetRequest v e = absurd (cc)
 written_plain d (SerialData u) v e = absurd (cc)
 written_plain d ClockPll v e = absurd (cc)
 written_plain d ClockRate v e = absurd (cc)
 written_plain d _ v e = (refl, refl, refl)
 
-named_plain : (d : IcuDriver) (made : Move) → may_name d made ≡ true → IsPlain made
+named_plain : (d : IcuTable) (made : Move) → may_name d made ≡ true → IsPlain made
 named_plain d (Write r v) e = written_plain d r v e
 named_plain d _ e = (refl, refl, refl)
 
-plain : (d : IcuDriver) (made : Move) → icu_may d made ≡ true → IsPlain made
+plain : (d : IcuTable) (made : Move) → icu_may d made ≡ true → IsPlain made
 plain d made e = named_plain d made (and_parts (may_name d made) (names_there made) e).0
 
 -- and enables no other line
@@ -254,27 +254,27 @@ waits_same (x ∷ xs) q e = ap (λ xs. nat_lt 0 (length xs)) e ∙ positive (len
     positive n = grind (arith, nat_tests)
 
 -- an edge waits in the block where one waits in the machine
-pub waiting_here : (d : IcuDriver) (chip : Chip) (w : World) (s : IcuState) (c : ℕ) → c < 8 → IcuRepresents d settled chip w s → is_waiting (chip_capture chip.captures c) ≡ waits (capture_at s c).waiting
+pub waiting_here : (d : IcuTable) (chip : Chip) (w : World) (s : IcuState) (c : ℕ) → c < 8 → IcuRepresents d settled chip w s → is_waiting (chip_capture chip.captures c) ≡ waits (capture_at s c).waiting
 waiting_here d chip w s c lt h = waits_same (capture_at s c).waiting (chip_capture chip.captures c).queue ((h.block c lt).queue refl)
 
 -- none waits on a channel that isn't configured, or while the module is off
-idle_waits : (d : IcuDriver) (chip : Chip) (w : World) (s : IcuState) (c : ℕ) → c < 8 → IcuRepresents d settled chip w s → (capture_at s c).on ≡ false → waits (capture_at s c).waiting ≡ false
+idle_waits : (d : IcuTable) (chip : Chip) (w : World) (s : IcuState) (c : ℕ) → c < 8 → IcuRepresents d settled chip w s → (capture_at s c).on ≡ false → waits (capture_at s c).waiting ≡ false
 idle_waits d chip w s c lt h off = ap (λ es. waits es) ((h.course c lt).0.off off).0
 
-of_line : (d : IcuDriver) (line : ℕ) → 16 ≤ line → channel_of_line d line ≡ channel_of d (line - 16)
+of_line : (d : IcuTable) (line : ℕ) → 16 ≤ line → channel_of_line d line ≡ channel_of d (line - 16)
 of_line d line le = ap (λ q. if q then None else channel_of d (line - 16)) (not_low line le)
   where
     not_low : (line : ℕ) → 16 ≤ line → nat_lt line 16 ≡ false
     not_low line le = grind (arith, nat_tests)
 
-off_none : (d : IcuDriver) (chip : Chip) (w : World) (s : IcuState) (c : ℕ) → c < 8 → IcuRepresents d settled chip w s → channel_of d c ≡ None → (capture_at s c).on ≡ false
+off_none : (d : IcuTable) (chip : Chip) (w : World) (s : IcuState) (c : ℕ) → c < 8 → IcuRepresents d settled chip w s → channel_of d c ≡ None → (capture_at s c).on ≡ false
 off_none d chip w s c lt h e = by (capture_at s c).on refl
   where
     by : (q : Bool) → (capture_at s c).on ≡ q → (capture_at s c).on ≡ false
     by false i = i
     by true i = absurd (let f : is_some (channel_of d c) ≡ false = ap (λ k. is_some k) e in let g = ((h.block c lt).starts i).1 in cc)
 
-pends : (d : IcuDriver) (chip : Chip) (w : World) (s : IcuState) (line : ℕ) → not (nat_lt line 16) && nat_lt line 24 ≡ true → IcuRepresents d settled chip w s → is_pending chip line ≡ ready d w s line
+pends : (d : IcuTable) (chip : Chip) (w : World) (s : IcuState) (line : ℕ) → not (nat_lt line 16) && nat_lt line 24 ≡ true → IcuRepresents d settled chip w s → is_pending chip line ≡ ready d w s line
 pends d chip w s line in_lines h =
     line-capture chip line le lt
     ∙ (ap (λ q. q && has_bit chip.control.enabled line) (waiting_here d chip w s c few h)
@@ -311,7 +311,7 @@ ready_used : (k : Option Channel) (s : IcuState) (c : ℕ) → ready_by k s c �
 ready_used None s c e = absurd (cc)
 ready_used (Some k) s c e = refl
 
-used_line : (d : IcuDriver) (line : ℕ) → is_some (channel_of_line d line) ≡ true → not (nat_lt line 16) && nat_lt line 24 ≡ true
+used_line : (d : IcuTable) (line : ℕ) → is_some (channel_of_line d line) ≡ true → not (nat_lt line 16) && nat_lt line 24 ≡ true
 used_line d line e = by (nat_lt line 16) refl e
   where
     few : (line : ℕ) → nat_lt line 16 ≡ false → line - 16 < 8 → nat_lt line 24 ≡ true
@@ -327,12 +327,12 @@ some_is : {A : Type 0} (x : Option A) → IsSome x → is_some x ≡ true
 some_is None i = absurd (cc)
 some_is (Some a) i = refl
 
-stamps_stand : (d : IcuDriver) (chip : Chip) (w : World) (s : IcuState) → IcuRepresents d settled chip w s → (icu_ground d).setting.rest chip w s
+stamps_stand : (d : IcuTable) (chip : Chip) (w : World) (s : IcuState) → IcuRepresents d settled chip w s → (icu_ground d).setting.rest chip w s
 stamps_stand d chip w s h c some i few = let is = some_is (channel_of d c) some in h.stamps c (within d c is) is i few refl
 
 -- ---- errors
 
-work_tells : (d : IcuDriver) (s : IcuState) (call : Call) → (work d s call).told.error ≡ None
+work_tells : (d : IcuTable) (s : IcuState) (call : Call) → (work d s call).told.error ≡ None
 work_tells d s Init = refl
 work_tells d s DeInit = refl
 work_tells d s (calls.Channel c call) = by (channel_of d c)
@@ -341,17 +341,17 @@ work_tells d s (calls.Channel c call) = by (channel_of d c)
     by None = refl
     by (Some k) = refl
 
-acts_leave : (d : IcuDriver) (s : IcuState) (call : Call) (e : Option ErrorName) → ErrorLeaves s (acts_by d s call e)
+acts_leave : (d : IcuTable) (s : IcuState) (call : Call) (e : Option ErrorName) → ErrorLeaves s (acts_by d s call e)
 acts_leave d s call None some = absurd (let k = subst (λ x. IsSome x) (work_tells d s call) some in cc)
 acts_leave d s call (Some e) some = (refl, refl)
 
-error_leaves : (d : IcuDriver) (w : World) (s : IcuState) (call : Call) (times : ℕ → ℕ) (out : Outcome IcuState) → happens d w s (Acts call times) ≡ Some out → ErrorLeaves s out
+error_leaves : (d : IcuTable) (w : World) (s : IcuState) (call : Call) (times : ℕ → ℕ) (out : Outcome IcuState) → happens d w s (Acts call times) ≡ Some out → ErrorLeaves s out
 error_leaves d w s call times out is = subst (λ o. ErrorLeaves s o) (given is) (acts_leave d s call (error_by d call (not s.initialised) (is_on s call)))
   where
     given : {A : Type 0} {x y : A} → Some x ≡ Some y → x ≡ y
     given e = cc
 
-pub ground_right : (d : IcuDriver) → FitsIcu d → IsGround (icu_ground d)
+pub ground_right : (d : IcuTable) → FitsIcu d → IsGround (icu_ground d)
 ground_right d fits = record {
   starts = λ chip w wired h. reset_agrees d chip w PowerOn h wired;
   moves = λ w s order. refl;

@@ -3,10 +3,7 @@
 -- Used by Sampling, Measure, Stamp, Detecting, Keeping and 2 more.
 use Rattle.std.proofs.Common.{◌≡◌, ◌≢◌, ◌<◌, ◌||◌, ◌==◌, [], ◌∷◌, ◌∙◌}
 use Rattle.icu_driver.specs.Terms
-use Terms.{ActiveIs, AllByRecursion, ap, arith, bit_of, Bool, Capture, capture_at, Channel, channel_of, Chip}
-use Terms.{chip_after, eq_other, false, IcuDriver, IcuRepresents, IcuState, INTERVALS, is_some, Lag, List, MARKS}
-use Terms.{MeasureWords, ModeWords, nat_tests, OppositeIs, PLACES, refl, seen_by, seen_number, settled, SIZES, Some}
-use Terms.{StartIs, STATE, Store, SWITCHES, TIMES, true, ValueIs, VALUES, waiting_value, word, word_of, World, ℕ}
+use Terms.{ActiveIs, AllByRecursion, ap, arith, bit_of, Bool, Capture, capture_at, Channel, channel_of, Chip, chip_after, eq_other, false, IcuTable, IcuRepresents, IcuState, INTERVALS, is_some, Lag, List, MARKS, MeasureWords, ModeWords, nat_tests, OppositeIs, PLACES, refl, seen_by, seen_number, settled, SIZES, Some, StartIs, STATE, Store, SWITCHES, TIMES, true, ValueIs, VALUES, waiting_value, word, word_of, World, ℕ}
 use Rattle.icu_driver.specs.laws.{Calls.{to_mode, from_mode}, One.{IsAt, IsRow, channel_agrees, one_agrees}}
 use Rattle.icu_driver.specs.laws.{One.{apart_words, same_state, left_word, word_old, stamps_old, mode_left}}
 
@@ -47,7 +44,7 @@ grows rs first f c e i = let g : rows_behind (first ∷ rs) c (word f c) ≡ tru
     here : (f r : ℕ) → f ≡ r → (f == r) ≡ true
     here f r e = grind (arith, nat_tests)
 
-module _ (d : IcuDriver) (c : ℕ) (lt : c < 8) (k : Channel) (known : channel_of d c ≡ Some k) (first : ℕ) (row : IsRow first) (rs : List ℕ) (all : AllByRecursion IsRow rs) (v : ℕ) (chip : Chip) (w : World) (s : IcuState) (on : s.initialised ≡ true) (h : IcuRepresents d (rows_of (first ∷ rs) c) chip w s) where
+module _ (d : IcuTable) (c : ℕ) (lt : c < 8) (k : Channel) (known : channel_of d c ≡ Some k) (first : ℕ) (row : IsRow first) (rs : List ℕ) (all : AllByRecursion IsRow rs) (v : ℕ) (chip : Chip) (w : World) (s : IcuState) (on : s.initialised ≡ true) (h : IcuRepresents d (rows_of (first ∷ rs) c) chip w s) where
   abbrev after : Chip
   after = chip_after chip (Store (word first c) v) 0
 

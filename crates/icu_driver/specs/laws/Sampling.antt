@@ -1,28 +1,19 @@
 -- The handler of a measurement: what holds at each of its places, and that it is right.
--- From Rows, One, Sample, Serve, Stamp and 9 more.
+-- From Rows, One, Sample, Serve, Stamp and 12 more.
 -- Used by Lawful.
 use Rattle.std.proofs.Common.{◌≡◌, ◌+◌, ◌/◌, ◌%◌, ◌<◌, ◌^◌, ◌&&◌, ◌||◌, ◌==◌, [], ◌∷◌, ◌++◌, ◌∙◌, if◌then◌else◌}
 use Rattle.icu_driver.specs.Terms
 use Terms.{Active, ActiveIs, AllByRecursion, Alternate, ap, append_assoc, AreRight, arith, begins_rising, below_test}
 use Terms.{bit_of, Bodies, Bool, Call, Capture, capture_at, CaptureAgrees, CaptureInfo, CapturePop, Captures}
-use Terms.{CaptureTimeLow, Channel, channel_of, Chip, chip_after, chip_capture, completes, DutyCycle, Edge, EndsAt}
-use Terms.{Entered, false, first_of, happens, HasTurns, High, HighTime, icu_ground, icu_machine, IcuDriver}
-use Terms.{IcuRepresents, IcuSignalMeasurementProperty, IcuState, info_of, is_duty_cycle, is_measurement, is_same}
-use Terms.{Is_served, Is_serving, is_some, is_timestamp, Keep, kept, kinds_by, Lag, Last, length, length-append, List}
-use Terms.{Look, Low, LowTime, lt_itself, map, Mark, MeasureHistory, MeasureWords, missed_after, ModeWords, nat_lt}
-use Terms.{nat_tests, never_clean, newest, None, none, not, Nothing_seen, notices_of, off_on, oldest_time, opposed}
-use Terms.{Opposite, Opposite_seen, OppositeIs, Option, Origin, outcome, PeriodTime, Pop, popped, Read, refl}
-use Terms.{SampleBody, Sampled, seen_by, seen_from, seen_number, seen_with, Served, served_by, Serves, Serving, settled}
-use Terms.{SignalMeasurement, Some, stamp_in, stands-move, Start_seen, StartIs, starts_at, StepsTo, Stores, subst, sym}
-use Terms.{Told, told_by, told_with, true, unbroken, Value, ValueIs, values, values_by, waiting_value, Waits}
-use Terms.{with_capture, word_of, World, Write, ℕ}
+use Terms.{CaptureTimeLow, Channel, channel_of, Chip, chip_after, chip_capture, completes, DutyCycle, Edge, EndsAt, Entered, false, first_of, happens, HasTurns, High, HighTime, icu_ground, icu_machine, IcuTable, IcuRepresents, IcuSignalMeasurementProperty, IcuState, info_of, is_duty_cycle, is_measurement, is_same, Is_served, Is_serving, is_some, is_timestamp, Keep, kept, kinds_by, Lag, Last, length, length-append, List, Look, Low, LowTime, lt_itself, map, Mark, MeasureHistory, MeasureWords, missed_after, ModeWords, nat_lt, nat_tests, never_clean, newest, None, none, not, Nothing_seen, notices_of, off_on, oldest_time, opposed, Opposite, Opposite_seen, OppositeIs, Option, Origin, outcome, PeriodTime, Pop, popped, Read, refl, SampleBody, Sampled, seen_by, seen_from, seen_number, seen_with, Served, served_by, Serves, Serving, settled, SignalMeasurement, Some, stamp_in, stands-move, Start_seen, StartIs, starts_at, StepsTo, Stores, subst, sym, Told, told_by, told_with, true, unbroken, Value, ValueIs, values, values_by, waiting_value, Waits, with_capture, word_of, World, Write, ℕ}
 use Rattle.icu_driver.specs.declared.service.sample.SampleBody.TheVariants.{Start}
 use Rattle.icu_driver.specs.laws.{Base.{tells_nothing, no_answer, goes, ends, Nothing, word, line, joined, SWITCHES}}
 use Rattle.icu_driver.specs.laws.{Base.{MARKS, SIZES, INTERVALS, PLACES, VALUES, TIMES}, Calls.{to_mode, from_mode}}
 use Rattle.icu_driver.specs.laws.{Calls.{place_by, may_row}, Change.{as_course}, Channels.{popped_agrees, block_as}}
 use Rattle.icu_driver.specs.laws.{Count.{halves_join}, Detect.{serves}, Handler.{is_whole}, Measure.{Held, IsOne}}
 use Rattle.icu_driver.specs.laws.{Measure.{waits_single}, One.{IsRow, ChannelAgrees, channel_agrees, one_agrees}}
-use Rattle.icu_driver.specs.laws.{One.{settled_at, same_state, with_same, with_state, left_same, left_latched}}
+use Rattle.icu_machine.specs.laws.{Channels.{with_same}}
+use Rattle.icu_driver.specs.laws.{One.{settled_at, same_state, with_state, left_same, left_latched}}
 use Rattle.icu_driver.specs.laws.{One.{left_channel, channel_new, word_new}, Rows.{rows_of, rows_behind, behind_row}}
 use Rattle.icu_driver.specs.laws.{Rows.{rows_at, row_others, row_stored, New_waits, New_mark, New_seen, New_start}}
 use Rattle.icu_driver.specs.laws.{Rows.{New_opposite, New_value, New_time, NewWord, measure_closed}, Sample.{starts}}
@@ -51,7 +42,7 @@ sample_gap _ = settled
 -- ---- what it knows
 
 -- the channel measures
-pub record Sampler (d : IcuDriver) (r : Sampled) : Type 0 where
+pub record Sampler (d : IcuTable) (r : Sampled) : Type 0 where
   pub k : Channel
   pub known : channel_of d r.channel ≡ Some k
   pub mode : k.mode ≡ SignalMeasurement
@@ -83,7 +74,7 @@ pub record Valued (k : Channel) (r : Sampled) (x : Capture) : Type 0 where
   pub value : ValueIs (since r.start r.time) (waiting_value k x)
   pub time : ActiveIs (since r.start r.opposite) (waiting_value k x)
 
-abbrev pub sample_holds : IcuDriver → Captures × List ℕ → IcuState → SampleBody → Origin Call → Option Told → Type 0
+abbrev pub sample_holds : IcuTable → Captures × List ℕ → IcuState → SampleBody → Origin Call → Option Told → Type 0
 sample_holds d f s (Look r) o t = Serving (line r.channel) o t × Sampler d r
 sample_holds d f s (Low r) o t = Serving (line r.channel) o t × Sampler d r
 sample_holds d f s (High r) o t = Serving (line r.channel) o t × Sampler d r
@@ -121,7 +112,7 @@ sample_knows f (Opposite r) e = Looked r e × (r.time ≡ e.time)
 sample_knows f (Pop r) e = Looked r e × (r.time ≡ e.time)
 sample_knows f _ e = Unit {0}
 
-abbrev pub sample_bodies : (d : IcuDriver) → Bodies (icu_ground d) SampleBody
+abbrev pub sample_bodies : (d : IcuTable) → Bodies (icu_ground d) SampleBody
 sample_bodies d = fronted d sample_work sample_takes sample_left sample_gap (λ k. false) (sample_holds d) sample_front sample_knows
 
 -- ---- what is seen with one more edge
@@ -281,7 +272,7 @@ new_last false at c k x t e h = New_opposite (subst (λ v. OppositeIs v (seen_by
 
 -- ---- its steps
 
-module _ (d : IcuDriver) where
+module _ (d : IcuTable) where
   words_of : (chip : Chip) (w : World) (s : IcuState) (gap : Lag) (r : Sampled) (a : Sampler d r) → IcuRepresents d gap chip w s → MeasureWords (λ j. word_of chip j) gap.words r.channel a.k (capture_at s r.channel)
   words_of chip w s gap r a h = to_mode d r.channel a.k a.known SignalMeasurement a.mode (λ j. word_of chip j) gap.words (capture_at s r.channel) (h.words r.channel a.lt)
 

@@ -4,11 +4,7 @@
 use Rattle.std.proofs.Common.{◌≡◌, ◌+◌, ◌-◌, ◌*◌, ◌/◌, ◌%◌, ◌<◌, ◌≤◌, ◌^◌, ◌&&◌, ◌||◌, ◌==◌, [], ◌∷◌, ◌∙◌}
 use Rattle.std.proofs.Common.{if◌then◌else◌}
 use Rattle.icu_driver.specs.Terms
-use Terms.{AllByRecursion, ap, arith, bit_of, Bool, Capture, capture_at, Channel, channel_of, channel_of_line, Chip}
-use Terms.{DevError, Edge, error_in, false, happens, icu_machine, IcuDriver, IcuRepresents, IcuState, info_of, IsCourse}
-use Terms.{kinds_by, length, List, missed_after, nat_lt, nat_tests, None, not, Notice, NoticeKind, notices_in}
-use Terms.{notices_of, Option, outcome, ready, ready_by, refl, served, served_by, served_edge, Serves, settled, Some}
-use Terms.{subst, suc, sym, Told, true, waits, with_capture, World, ℕ}
+use Terms.{AllByRecursion, ap, arith, bit_of, Bool, Capture, capture_at, Channel, channel_of, channel_of_line, Chip, DevError, Edge, error_in, false, happens, icu_machine, IcuTable, IcuRepresents, IcuState, info_of, IsCourse, kinds_by, length, List, missed_after, nat_lt, nat_tests, None, not, Notice, NoticeKind, notices_in, notices_of, Option, outcome, ready, ready_by, refl, served, served_by, served_edge, Serves, settled, Some, subst, suc, sym, Told, true, waits, with_capture, World, ℕ}
 use Rattle.icu_driver.specs.laws.{Base.{line, no_answer}, Detect.{owed_if}, Steady.{oldest}}
 use Rattle.chip_captures.specs.declared.capture.Edge as chip_edges
 
@@ -20,10 +16,10 @@ line_number c = omega arith
 line_high : (c : ℕ) → nat_lt (16 + c) 16 ≡ false
 line_high c = grind (arith, nat_tests)
 
-line_channel : (d : IcuDriver) (c : ℕ) → channel_of_line d (line c) ≡ channel_of d c
+line_channel : (d : IcuTable) (c : ℕ) → channel_of_line d (line c) ≡ channel_of d c
 line_channel d c = ap (λ q. if q then None else channel_of d (16 + c - 16)) (line_high c) ∙ ap (λ n. channel_of d n) (line_number c)
 
-line_ready : (d : IcuDriver) (w : World) (s : IcuState) (c : ℕ) → ready d w s (line c) ≡ ready_by (channel_of d c) s c
+line_ready : (d : IcuTable) (w : World) (s : IcuState) (c : ℕ) → ready d w s (line c) ≡ ready_by (channel_of d c) s c
 line_ready d w s c = ap (λ z. ready_by z s (16 + c - 16)) (line_channel d c) ∙ ap (λ n. ready_by (channel_of d c) s n) (line_number c)
 
 -- ---- the look at the queue
@@ -64,7 +60,7 @@ info_gap false false n = ap (λ z. z == 1) (odd n)
     odd n = omega arith
 
 -- where no edge waits the line isn't ready
-pub missed_here : (d : IcuDriver) (w : World) (s : IcuState) (c : ℕ) (m : ℕ → Bool) → (capture_at s c).waiting ≡ [] → missed_after (icu_machine d) w s m (line c) ≡ true
+pub missed_here : (d : IcuTable) (w : World) (s : IcuState) (c : ℕ) (m : ℕ → Bool) → (capture_at s c).waiting ≡ [] → missed_after (icu_machine d) w s m (line c) ≡ true
 missed_here d w s c m e = either (m (line c)) (not (ready d w s (line c))) (ap (λ q. not q) (line_ready d w s c ∙ idle (channel_of d c)))
   where
     either : (a b : Bool) → b ≡ true → a || b ≡ true
@@ -82,7 +78,7 @@ missed_here d w s c m e = either (m (line c)) (not (ready d w s (line c))) (ap (
 -- ---- the serving
 
 -- an edge that waits is of a channel that is on, of an initialised module
-pub waiting_on : (d : IcuDriver) (chip : Chip) (w : World) (s : IcuState) (c : ℕ) (e : Edge) → c < 8 → IcuRepresents d settled chip w s → oldest (capture_at s c).waiting ≡ Some e → ((capture_at s c).on ≡ true) × (s.initialised ≡ true)
+pub waiting_on : (d : IcuTable) (chip : Chip) (w : World) (s : IcuState) (c : ℕ) (e : Edge) → c < 8 → IcuRepresents d settled chip w s → oldest (capture_at s c).waiting ≡ Some e → ((capture_at s c).on ≡ true) × (s.initialised ≡ true)
 waiting_on d chip w s c e lt h is = by (capture_at s c).on refl
   where
     by : (q : Bool) → (capture_at s c).on ≡ q → ((capture_at s c).on ≡ true) × (s.initialised ≡ true)
@@ -98,7 +94,7 @@ pub split : (e : Edge) (es : List Edge) → oldest es ≡ Some e → Split e es
 split e [] i = absurd (cc)
 split e (x ∷ xs) i = record { rest = xs; is = cc }
 
-pub served_here : (d : IcuDriver) (w : World) (s : IcuState) (c received : ℕ) (k : Channel) (e : Edge) (es : List Edge) → channel_of d c ≡ Some k → s.initialised ≡ true → (capture_at s c).waiting ≡ e ∷ es → happens d w s (Serves (line c) received) ≡ Some (outcome (with_capture s c (served_by k.mode k e (record (capture_at s c) { waiting = es }))) (record { answer = no_answer; error = None; notices = notices_of c (kinds_by k.mode (record (capture_at s c) { waiting = es })) }))
+pub served_here : (d : IcuTable) (w : World) (s : IcuState) (c received : ℕ) (k : Channel) (e : Edge) (es : List Edge) → channel_of d c ≡ Some k → s.initialised ≡ true → (capture_at s c).waiting ≡ e ∷ es → happens d w s (Serves (line c) received) ≡ Some (outcome (with_capture s c (served_by k.mode k e (record (capture_at s c) { waiting = es }))) (record { answer = no_answer; error = None; notices = notices_of c (kinds_by k.mode (record (capture_at s c) { waiting = es })) }))
 served_here d w s c received k e es known on is =
     ap (λ q. if q then Some (served d s (16 + c - 16)) else None) (line_ready d w s c ∙ (ap (λ z. ready_by z s c) known ∙ (ap (λ q. q && waits (capture_at s c).waiting) on ∙ ap (λ xs. waits xs) is)))
     ∙ (ap (λ n. Some (served d s n)) (line_number c)

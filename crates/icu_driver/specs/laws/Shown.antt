@@ -3,10 +3,7 @@
 -- Used by shown/rt.
 use Rattle.std.proofs.Common.{◌≡◌, ◌<◌, ◌==◌, ◌∙◌, if◌then◌else◌}
 use Rattle.icu_driver.specs.Terms
-use Terms.{ap, arith, Bool, capture_at, Channel, channel_of, Chip, EdgeCounter, false, IcuDriver, IcuMeasurementMode}
-use Terms.{IcuRepresents, IcuState, is_timestamp, IsStart, nat_tests, None, none, off_on, Option, refl, settled}
-use Terms.{SignalEdgeDetect, SignalMeasurement, size_by, size_of, size_word, SIZES, Some, stamps_edges, Start, sym}
-use Terms.{Timestamp, true, word, word_of, World, ℕ}
+use Terms.{ap, arith, Bool, capture_at, Channel, channel_of, Chip, EdgeCounter, false, IcuTable, IcuMeasurementMode, IcuRepresents, IcuState, is_timestamp, IsStart, nat_tests, None, none, off_on, Option, refl, settled, SignalEdgeDetect, SignalMeasurement, size_by, size_of, size_word, SIZES, Some, stamps_edges, Start, sym, Timestamp, true, word, word_of, World, ℕ}
 use Rattle.icu_driver.specs.laws.Calls.{to_mode}
 
 -- the size that a word has, of a channel that stamps
@@ -40,7 +37,7 @@ timestamp_mode EdgeCounter e = off_on e
 timestamp_mode Timestamp e = refl
 timestamp_mode SignalMeasurement e = off_on e
 
-pub size_shown : (d : IcuDriver) (chip : Chip) (w : World) (s : IcuState) (c : ℕ) → c < 8 → IcuRepresents d settled chip w s → shown_by (channel_of d c) (word_of chip (word SIZES c)) ≡ size_of s c
+pub size_shown : (d : IcuTable) (chip : Chip) (w : World) (s : IcuState) (c : ℕ) → c < 8 → IcuRepresents d settled chip w s → shown_by (channel_of d c) (word_of chip (word SIZES c)) ≡ size_of s c
 size_shown d chip w s c lt h = by_channel (channel_of d c) refl
   where
     by_mode : (k : Channel) → channel_of d c ≡ Some k → (q : Bool) → is_timestamp k.mode ≡ q → shown_in k.mode (word_of chip (word SIZES c)) ≡ size_by (capture_at s c).start

@@ -1,20 +1,13 @@
 -- The services of timestamps: their steps, what holds at each, and that they are right.
--- From Calls, One, Rows, Steady, Channels and 2 more.
+-- From Calls, One, Rows, Steady, Channels and 7 more.
 -- Used by Keeping, Sampling, DeInit, service/stamp/rt, Lawful and 1 more.
 use Rattle.std.proofs.Common.{◌≡◌, ◌-◌, ◌%◌, ◌<◌, ◌≤◌, ◌^◌, ◌&&◌, ◌||◌, ◌==◌, [], ◌∷◌, ◌∙◌, if◌then◌else◌}
 use Rattle.icu_driver.specs.Terms
 use Terms.{acted, acting, acts_by, After, AllByRecursion, answers, ap, AreRight, arith, Ask, asked, bare, Before}
 use Terms.{below_test, Bodies, Bool, Call, Called, Capture, capture_at, CaptureAgrees, CaptureFlush, CaptureGateClear}
 use Terms.{CaptureGateSet, Captures, channel_of, Chip, chip_after, chip_capture, Cleans, Done, Empty, emptying}
-use Terms.{Epilogue, eq_other, eq_self, error_by, error_told, false, flushed, GetTimestampIndex, HasPlace, icu_ground}
-use Terms.{icu_machine, IcuDriver, IcuNotStarted, IcuRepresents, IcuState, index, index_by, interval_by, Is_after}
-use Terms.{Is_before, is_counter, Is_fresh, is_linear, is_measurement, Is_on, is_some, Is_stopped, is_timestamp}
-use Terms.{IsStart, KeepsClean, Lag, left_by, length, length-at_bits, List, Load, mark_in, missed_after, ModeWords}
-use Terms.{nat_tests, None, none, not, off_on, On, opening, Option, Origin, outcome, owed_error, refl, reporting}
-use Terms.{settled, size_word, slice_index_or, Some, StampBody, Stamped, Stamping, stamps_edges, StampWords}
-use Terms.{stands-move, Start, Started, started, StartTimestamp, StepsTo, still, StopTimestamp, Store, subst, switched}
-use Terms.{sym, tells_error, TellsAs, Timestamp, Told, true, with_capture, word_of, World, Write, ℕ}
-use Rattle.icu_driver.specs.declared.call.Call.TheVariants.{Channel}
+use Terms.{Epilogue, eq_other, eq_self, error_by, error_told, false, flushed, GetTimestampIndex, HasPlace, icu_ground, icu_machine, IcuTable, IcuNotStarted, IcuRepresents, IcuState, index, index_by, interval_by, Is_after, Is_before, is_counter, Is_fresh, is_linear, is_measurement, Is_on, is_some, Is_stopped, is_timestamp, IsStart, KeepsClean, Lag, left_by, length, length-at_bits, List, Load, mark_in, missed_after, ModeWords, nat_tests, None, none, not, off_on, On, opening, Option, Origin, outcome, owed_error, refl, reporting, settled, size_word, slice_index_or, Some, StampBody, Stamped, Stamping, stamps_edges, StampWords, stands-move, Start, Started, started, StartTimestamp, StepsTo, still, StopTimestamp, Store, subst, switched, sym, tells_error, TellsAs, Timestamp, Told, true, with_capture, word_of, World, Write, ℕ}
+use Rattle.icu_machine.specs.declared.call.Call.TheVariants.{Channel}
 use Rattle.icu_driver.specs.declared.service.stamp.StampBody.TheVariants.{Open, Size, Interval, Index, Left, Look}
 use Rattle.icu_driver.specs.declared.service.stamp.StampBody.TheVariants.{Close, Drop, Off}
 use Rattle.icu_driver.specs.laws.{Base.{Move, Act, no_answer, BodyTaken, goes, acts_on, ends, number, Nothing}}
@@ -23,13 +16,14 @@ use Rattle.icu_driver.specs.laws.{Base.{VALUES}, Calls.{MayCall, acts_is, stamps
 use Rattle.icu_driver.specs.laws.{Calls.{counting, turns_by, switched_course, off_place, off_turns, opening_at}}
 use Rattle.icu_driver.specs.laws.{Calls.{bare_at, calm_on, may_row}, Channels.{emptied_agrees, closed_agrees}}
 use Rattle.icu_driver.specs.laws.{Channels.{dropped_agrees, block_as}, Gate.{opened}, One.{IsAt, IsRow, ChannelAgrees}}
-use Rattle.icu_driver.specs.laws.{One.{channel_agrees, one_agrees, settled_at, same_state, with_same, with_state}}
+use Rattle.icu_machine.specs.laws.{Channels.{with_same}}
+use Rattle.icu_driver.specs.laws.{One.{channel_agrees, one_agrees, settled_at, same_state, with_state}}
 use Rattle.icu_driver.specs.laws.{One.{left_same, left_channel, left_gate, channel_new, gate_new, word_new}}
 use Rattle.icu_driver.specs.laws.{Rows.{has_row, rows_of, rows_behind, behind_row, rows_at, row_others, row_stored}}
 use Rattle.icu_driver.specs.laws.{Rows.{still_not}, Steady.{without_edges, calm_at, AllGood, fronted, fronted_right}}
 use Rattle.chip_captures.specs.declared.capture.Act.TheVariants as turns
 use Rattle.mcal_base.specs.declared.service.Service.TheVariants as services
-use Rattle.icu_driver.specs.declared.driver.Channel as configured
+use Rattle.icu_machine.specs.declared.table.Channel as configured
 
 abbrev pub stamp_work : StampBody → Move
 stamp_work (Open r) = Write CaptureGateSet (bit r.channel)
@@ -123,11 +117,11 @@ abbrev pub Sized : Stamping → Type 0
 Sized r = (0 < r.size) × (r.size ≤ 64) × (0 < r.interval) × (r.interval < 2 ^ 32)
 
 -- stamps that were started, and none of which came yet
-abbrev pub Begun : IcuDriver → IcuState → Stamping → Type 0
+abbrev pub Begun : IcuTable → IcuState → Stamping → Type 0
 Begun d s r = (k : configured.Channel) × (channel_of d r.channel ≡ Some k) × (k.mode ≡ Timestamp) × (r.channel < 8) × (s.initialised ≡ true) × ((capture_at s r.channel).on ≡ true) × ((capture_at s r.channel).start ≡ Some (start_of r)) × ((capture_at s r.channel).served ≡ [])
 
 -- a call that stops stamps, which are under way or not
-pub record MayStop (d : IcuDriver) (c : ℕ) : Type 0 where
+pub record MayStop (d : IcuTable) (c : ℕ) : Type 0 where
   pub lt : c < 8
   pub channel : configured.Channel
   pub known : channel_of d c ≡ Some channel
@@ -135,10 +129,10 @@ pub record MayStop (d : IcuDriver) (c : ℕ) : Type 0 where
   pub checks : (on : Bool) → error_by d (Channel c StopTimestamp) false on ≡ (if on then None else Some IcuNotStarted)
 
 -- stamps that were stopped
-abbrev pub Stopped : IcuDriver → IcuState → ℕ → Type 0
+abbrev pub Stopped : IcuTable → IcuState → ℕ → Type 0
 Stopped d s c = (k : configured.Channel) × (channel_of d c ≡ Some k) × (k.mode ≡ Timestamp) × (c < 8) × (s.initialised ≡ true) × ((capture_at s c).on ≡ false) × (is_some (capture_at s c).start ≡ true)
 
-abbrev pub stamp_holds : IcuDriver → Captures × List ℕ → IcuState → StampBody → Origin Call → Option Told → Type 0
+abbrev pub stamp_holds : IcuTable → Captures × List ℕ → IcuState → StampBody → Origin Call → Option Told → Type 0
 stamp_holds d f s (Open r) o t = Before (start_call r) o t × MayCall d r.channel (StartTimestamp r.size r.interval) × (s.initialised ≡ true) × Sized r
 stamp_holds d f s (Empty r) o t = Before (start_call r) o t × MayCall d r.channel (StartTimestamp r.size r.interval) × (s.initialised ≡ true) × Sized r × ((chip_capture f.0 r.channel).gate ≡ true)
 stamp_holds d f s (On r) o t = After (start_call r) (answers no_answer) o t × Begun d s r
@@ -158,7 +152,7 @@ abbrev pub stamp_clean : StampBody → Bool
 stamp_clean (Look c owed) = true
 stamp_clean _ = false
 
-abbrev pub stamp_bodies : (d : IcuDriver) → Bodies (icu_ground d) StampBody
+abbrev pub stamp_bodies : (d : IcuTable) → Bodies (icu_ground d) StampBody
 stamp_bodies d = fronted d stamp_work stamp_takes stamp_left stamp_gap stamp_clean (stamp_holds d) (λ k. None) (λ f k e. Unit {0})
 
 cleans_by : (made : Move) (k : StampBody) (p : StampBody × BodyTaken) → stamp_clean p.0 ≡ false → Cleans stamp_clean made k p
@@ -273,7 +267,7 @@ all_rows = (row_marks, (row_sizes, (row_intervals, (row_places, (row_values, tt)
 stopping_at : (c : ℕ) → c < 8 → IsAt c (stopping c)
 stopping_at c lt = let a = rows_at (MARKS ∷ []) c (row_marks, tt) lt in record { gates = λ k ne. refl; queues = λ k ne. eq_other k c ne; counts = λ k ne. refl; words = a.words; state = a.state; stamps = λ k i ne. refl; moded = refl; lines = refl }
 
-module _ (d : IcuDriver) where
+module _ (d : IcuTable) where
   -- a word of a timestamp channel is stored
   stored : (first : ℕ) (row : IsRow first) (rs : List ℕ) (all : AllByRecursion IsRow rs) (v : ℕ) (chip : Chip) (w : World) (s : IcuState) (c : ℕ) (k : configured.Channel) → channel_of d c ≡ Some k → k.mode ≡ Timestamp → c < 8 → s.initialised ≡ true → NewStamp (λ j. word_of (chip_after chip (Store (word first c) v) 0) j) c k (capture_at s c) first → IcuRepresents d (rows_of (first ∷ rs) c) chip w s → IcuRepresents d (rows_of rs c) (chip_after chip (Store (word first c) v) 0) w s
   stored first row rs all v chip w s c k known mode lt on new h =

@@ -1,14 +1,11 @@
 -- What a family of bodies owes: what its places rest on stays while the hardware moves.
+-- From icu_machine: Channels, icu_machine: Edges, Parts, service_outline: Acts, Tables and 1 more.
 -- Used by Sampling, Keeping, Change, Detecting, Duty and 8 more.
 use Rattle.std.proofs.Common.{◌≡◌, ◌+◌, ◌%◌, ◌<◌, ◌^◌, ◌==◌, [], ◌∷◌, ◌++◌, ◌∙◌, if◌then◌else◌}
 use Rattle.icu_driver.specs.Terms
 use Terms.{acting, ap, AreRight, arith, At, at_bits, bare, bare_block, Bodies, BodyTaken, Bool, by_channel}
 use Terms.{by_channel_at, by_if, Call, Capture, capture_at, Captures, Catch, caught-bare, Channel, channel_of}
-use Terms.{channels_at, Chip, Cleans, Edge, edge_at_pin, edge_queued, edge_taken, enumerate_from, false, Fill, happened}
-use Terms.{has_bit, icu_ground, icu_may, IcuDriver, IcuState, is_counter, is_same, is_taken, Lag, length, Level}
-use Terms.{level_leaves, List, map, marks_of, Move, moved, nat_lt, never_clean, None, not, Option, Order, Origin}
-use Terms.{pin_still, refl, RightAt, same_marks, Shortens, Some, still, subst, sym, Told, true, word_later, word_of}
-use Terms.{WORDS, World, ℕ}
+use Terms.{channels_at, Chip, Cleans, Edge, edge_at_pin, edge_queued, edge_taken, enumerate_from, false, Fill, happened, has_bit, icu_ground, icu_may, IcuTable, IcuState, is_counter, is_same, is_taken, Lag, length, Level, level_leaves, List, map, marks_of, Move, moved, nat_lt, never_clean, None, not, Option, Order, Origin, pin_still, refl, RightAt, same_marks, Shortens, Some, still, subst, sym, Told, true, word_later, word_of, WORDS, World, ℕ}
 use Rattle.chip_captures.specs.declared.capture.Capture as chips
 
 -- ---- the block, but for what edges change
@@ -25,7 +22,7 @@ bare_each : (f : ℕ → chips.Capture → chips.Capture) → ((k : ℕ) (b : ch
 unfolding at_bits
 bare_each f same value xs = bare_from f same value 0 xs
 
-foot_later : (d : IcuDriver) (chip : Chip) (order : Order) → length chip.words ≡ WORDS → (icu_ground d).foot (happened chip order) ≡ (icu_ground d).foot chip
+foot_later : (d : IcuTable) (chip : Chip) (order : Order) → length chip.words ≡ WORDS → (icu_ground d).foot (happened chip order) ≡ (icu_ground d).foot chip
 foot_later d chip (Level p v) size = level_leaves (λ c. (icu_ground d).foot c) chip p v (ap (λ xs. (record (bare_block chip.captures) { captures = xs }, marks_of chip)) (bare_each (λ k. acting (Catch v) chip.captures.time) (λ k b. caught-bare chip.captures.time v b) (channels_at chip.captures p) chip.captures.captures))
 foot_later d chip (Fill channel ws) size = ap (λ ms. (bare_block chip.captures, ms)) (same_marks (λ j. word_of (happened chip (Fill channel ws)) j) (λ j. word_of chip j) (λ j low high. word_later chip (Fill channel ws) j size (omega (arith, high))))
 foot_later d chip _ size = refl
@@ -42,11 +39,11 @@ calm_at s c lt = by_channel_at (λ i. still (capture_at s i)) c lt
 same_table : (f g : ℕ → Capture) → ((c : ℕ) → c < 8 → f c ≡ g c) → by_channel f ≡ by_channel g
 same_table f g e = rw (e 0 (omega arith), e 1 (omega arith), e 2 (omega arith), e 3 (omega arith), e 4 (omega arith), e 5 (omega arith), e 6 (omega arith), e 7 (omega arith)) refl
 
-level_calm : (d : IcuDriver) (w : World) (s : IcuState) (pin : ℕ) (v : Bool) (r : Bool) → without_edges (if r then s else record s { channels = by_channel (λ c. edge_at_pin (channel_of d c) w.now pin v (capture_at s c)) }) ≡ without_edges s
+level_calm : (d : IcuTable) (w : World) (s : IcuState) (pin : ℕ) (v : Bool) (r : Bool) → without_edges (if r then s else record s { channels = by_channel (λ c. edge_at_pin (channel_of d c) w.now pin v (capture_at s c)) }) ≡ without_edges s
 level_calm d w s pin v true = refl
 level_calm d w s pin v false = ap (λ xs. record (without_edges s) { channels = xs }) (same_table (λ c. still (capture_at (record s { channels = by_channel (λ i. edge_at_pin (channel_of d i) w.now pin v (capture_at s i)) }) c)) (λ c. still (capture_at s c)) (λ c lt. ap (λ x. still x) (by_channel_at (λ i. edge_at_pin (channel_of d i) w.now pin v (capture_at s i)) c lt) ∙ pin_still (channel_of d c) w.now pin v (capture_at s c)))
 
-pub moved_calm : (d : IcuDriver) (w : World) (s : IcuState) (order : Order) → without_edges (moved d w s order) ≡ without_edges s
+pub moved_calm : (d : IcuTable) (w : World) (s : IcuState) (order : Order) → without_edges (moved d w s order) ≡ without_edges s
 moved_calm d w s (Level pin v) = level_calm d w s pin v (is_same (w.levels pin) v)
 moved_calm d w s _ = refl
 
@@ -74,11 +71,11 @@ pin_leads : (k : Option Channel) (now pin : ℕ) (rising : Bool) (x : Capture) (
 pin_leads None now pin rising x e h = h
 pin_leads (Some k) now pin rising x e h = by_if (Leads e) (k.pin == pin) (edge_taken k now rising x) x (taken_leads k now rising x e h) h
 
-level_leads : (d : IcuDriver) (w : World) (s : IcuState) (pin : ℕ) (v : Bool) (c : ℕ) (e : Edge) → c < 8 → Leads e (capture_at s c) → (r : Bool) → Leads e (capture_at (if r then s else record s { channels = by_channel (λ i. edge_at_pin (channel_of d i) w.now pin v (capture_at s i)) }) c)
+level_leads : (d : IcuTable) (w : World) (s : IcuState) (pin : ℕ) (v : Bool) (c : ℕ) (e : Edge) → c < 8 → Leads e (capture_at s c) → (r : Bool) → Leads e (capture_at (if r then s else record s { channels = by_channel (λ i. edge_at_pin (channel_of d i) w.now pin v (capture_at s i)) }) c)
 level_leads d w s pin v c e lt h true = h
 level_leads d w s pin v c e lt h false = subst (Leads e) (sym (by_channel_at (λ i. edge_at_pin (channel_of d i) w.now pin v (capture_at s i)) c lt)) (pin_leads (channel_of d c) w.now pin v (capture_at s c) e h)
 
-moved_leads : (d : IcuDriver) (w : World) (s : IcuState) (order : Order) (c : ℕ) (e : Edge) → c < 8 → Leads e (capture_at s c) → Leads e (capture_at (moved d w s order) c)
+moved_leads : (d : IcuTable) (w : World) (s : IcuState) (order : Order) (c : ℕ) (e : Edge) → c < 8 → Leads e (capture_at s c) → Leads e (capture_at (moved d w s order) c)
 moved_leads d w s (Level pin v) c e lt h = level_leads d w s pin v c e lt h (is_same (w.levels pin) v)
 moved_leads d w s _ c e lt h = h
 
@@ -93,13 +90,13 @@ abbrev pub Fronts : Option ℕ → IcuState → (Edge → Type 0) → Type 0
 Fronts None s P = Unit {0}
 Fronts (Some c) s P = Waits s c P
 
-fronts_later : (d : IcuDriver) (w : World) (s : IcuState) (order : Order) (front : Option ℕ) (P : Edge → Type 0) → Fronts front s P → Fronts front (moved d w s order) P
+fronts_later : (d : IcuTable) (w : World) (s : IcuState) (order : Order) (front : Option ℕ) (P : Edge → Type 0) → Fronts front s P → Fronts front (moved d w s order) P
 fronts_later d w s order None P h = tt
 fronts_later d w s order (Some c) P h = record { lt = h.lt; edge = h.edge; leads = moved_leads d w s order c h.edge h.lt h.leads; is = h.is }
 
 -- ---- families
 
-module _ (d : IcuDriver) where
+module _ (d : IcuTable) where
   -- what holds at a place of a body, of the block and the state, but for what edges change; and whose oldest edge it knows, and what of it
   abbrev pub fronted : {Body : Type 0} → (Body → Move) → (Body → ℕ → Body × BodyTaken) → (Body → ℕ) → (Body → Lag) → (Body → Bool) → (Captures × List ℕ → IcuState → Body → Origin Call → Option Told → Type 0) → (Body → Option ℕ) → (Captures × List ℕ → Body → Edge → Type 0) → Bodies (icu_ground d) Body
   fronted work takes fuel gap clean holds front knows = record { work_of = work; takes = takes; fuel = fuel; gap_of = gap; clean = clean; place = λ f w s k o t. holds f (without_edges s) k o t × Fronts (front k) s (knows f k) }

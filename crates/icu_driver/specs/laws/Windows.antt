@@ -1,5 +1,5 @@
 -- What frames have done in their windows: the halves of a count and of an edge's time are read one after the other.
--- From Keep, Sample, Change, Count, DeInit and 7 more.
+-- From Keep, Sample, service_outline: Seen, Change, Count and 8 more.
 -- Used by Lawful.
 use Rattle.std.proofs.Common.{◌≡◌, ◌/◌, ◌==◌, if◌then◌else◌}
 use Rattle.icu_driver.specs.Terms

@@ -1,8 +1,8 @@
 ghost use Rattle.std.specs.Prelude.{◌≡◌};
 ghost use Rattle.icu_driver.specs.laws.DeInit as spec;
 
-use crate::driver::IcuDriver;
 use crate::words::{CHANNELS, LINES, MARKS, STATE, SWITCHES, word};
+use icu_machine::IcuTable;
 use mcal_base::{IcuMeasurementMode, Move, Reg};
 use service_outline::{Body, BodyTaken, Epilogue, acts, ends, goes, nothing};
 
@@ -10,19 +10,19 @@ use service_outline::{Body, BodyTaken, Epilogue, acts, ends, goes, nothing};
 #[derive(Clone, Copy)]
 pub enum DeInitBody {
     /// It acts, and the module is uninitialised.
-    Store(IcuDriver),
+    Store(IcuTable),
     /// It disables the lines.
-    Disable(IcuDriver),
+    Disable(IcuTable),
     /// It closes all gates.
-    Close(IcuDriver),
+    Close(IcuTable),
     /// It makes the count of this channel 0.
-    Zero(IcuDriver, u8),
+    Zero(IcuTable, u8),
     /// It drops the edges of this channel,
-    Flush(IcuDriver, u8),
+    Flush(IcuTable, u8),
     /// the first of its words,
-    Switch(IcuDriver, u8),
+    Switch(IcuTable, u8),
     /// and the second one.
-    Mark(IcuDriver, u8),
+    Mark(IcuTable, u8),
 }
 
 impl Body for DeInitBody {
@@ -46,13 +46,13 @@ impl Body for DeInitBody {
 
     fn took(&mut self, _value: u32) -> BodyTaken {
         let (after, taken) = match *self {
-            DeInitBody::Store(driver) => (DeInitBody::Disable(driver), acts()),
-            DeInitBody::Disable(driver) => (DeInitBody::Close(driver), goes()),
-            DeInitBody::Close(driver) => (at(driver, 0), goes()),
-            DeInitBody::Flush(driver, number) => (DeInitBody::Switch(driver, number), goes()),
-            DeInitBody::Switch(driver, number) => (DeInitBody::Mark(driver, number), goes()),
-            DeInitBody::Zero(driver, number) | DeInitBody::Mark(driver, number) if number < 7 => {
-                (at(driver, number + 1), goes())
+            DeInitBody::Store(table) => (DeInitBody::Disable(table), acts()),
+            DeInitBody::Disable(table) => (DeInitBody::Close(table), goes()),
+            DeInitBody::Close(table) => (at(table, 0), goes()),
+            DeInitBody::Flush(table, number) => (DeInitBody::Switch(table, number), goes()),
+            DeInitBody::Switch(table, number) => (DeInitBody::Mark(table, number), goes()),
+            DeInitBody::Zero(table, number) | DeInitBody::Mark(table, number) if number < 7 => {
+                (at(table, number + 1), goes())
             }
             DeInitBody::Zero(..) | DeInitBody::Mark(..) => (
                 *self,
@@ -65,21 +65,21 @@ impl Body for DeInitBody {
 }
 
 /// Where the work on a channel begins.
-fn at(driver: IcuDriver, number: u8) -> DeInitBody
-    ensures { result ≡ spec.deinit_at driver number }
+fn at(table: IcuTable, number: u8) -> DeInitBody
+    ensures { result ≡ spec.deinit_at table number }
 {
-    if counts(driver, number) {
-        DeInitBody::Zero(driver, number)
+    if counts(table, number) {
+        DeInitBody::Zero(table, number)
     } else {
-        DeInitBody::Flush(driver, number)
+        DeInitBody::Flush(table, number)
     }
 }
 
 /// Whether the channel is an edge counter.
-fn counts(driver: IcuDriver, number: u8) -> bool
-    ensures { result ≡ spec.counts driver number }
+fn counts(table: IcuTable, number: u8) -> bool
+    ensures { result ≡ spec.counts table number }
 {
-    match driver.channel(u32::from(number)) {
+    match table.channel(u32::from(number)) {
         Some(channel) => match channel.mode {
             IcuMeasurementMode::EdgeCounter => true,
             _ => false,

@@ -1,8 +1,8 @@
 ghost use Rattle.std.specs.Prelude.{◌≡◌};
 ghost use Rattle.icu_driver.specs.Words as spec;
 
-use crate::driver::{Channel, IcuDriver};
 use crate::words::{LINES, STATE};
+use icu_machine::{Channel, IcuTable};
 use mcal_base::{IcuMeasurementMode, IcuStartEdge, Move, Reg};
 use service_outline::{Body, BodyTaken, Epilogue, acts_with, goes, nothing};
 
@@ -10,9 +10,9 @@ use service_outline::{Body, BodyTaken, Epilogue, acts_with, goes, nothing};
 #[derive(Clone, Copy)]
 pub enum InitBody {
     /// It chooses the edges of this channel.
-    Condition(IcuDriver, u8),
+    Condition(IcuTable, u8),
     /// It sets whether the channel counts, and goes on with the next one.
-    Mode(IcuDriver, u8),
+    Mode(IcuTable, u8),
     /// It enables the lines.
     Enable,
     /// It acts, and the module is initialised.
@@ -28,14 +28,14 @@ impl Body for InitBody {
 
     fn next(&self) -> Move {
         match *self {
-            InitBody::Condition(driver, number) => {
+            InitBody::Condition(table, number) => {
                 let number = u32::from(number);
-                let value = first_condition(driver.channel(number));
+                let value = first_condition(table.channel(number));
                 Move::Write(Reg::CaptureCondition(number), value)
             }
-            InitBody::Mode(driver, number) => {
+            InitBody::Mode(table, number) => {
                 let number = u32::from(number);
-                let value = mode(driver.channel(number));
+                let value = mode(table.channel(number));
                 Move::Write(Reg::CaptureMode(number), value)
             }
             InitBody::Enable => Move::Write(Reg::EnableSet, LINES),
@@ -45,9 +45,9 @@ impl Body for InitBody {
 
     fn took(&mut self, _value: u32) -> BodyTaken {
         let (after, taken) = match *self {
-            InitBody::Condition(driver, number) => (InitBody::Mode(driver, number), goes()),
-            InitBody::Mode(driver, number) if number < 7 => {
-                (InitBody::Condition(driver, number + 1), goes())
+            InitBody::Condition(table, number) => (InitBody::Mode(table, number), goes()),
+            InitBody::Mode(table, number) if number < 7 => {
+                (InitBody::Condition(table, number + 1), goes())
             }
             InitBody::Mode(..) => (InitBody::Enable, goes()),
             InitBody::Enable => (InitBody::Store, goes()),

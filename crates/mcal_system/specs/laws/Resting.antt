@@ -9,7 +9,7 @@ use Rattle.run_model.specs.Legal.{IsLegal}
 use Rattle.run_model.specs.Moment.{start_moment}
 use Rattle.run_model.specs.Script.{deeds_of}
 use Rattle.script_runner.specs.Scripts.{chip_for}
-use Rattle.icu_driver.specs.declared.driver.IcuDriver.{IcuDriver}
+use Rattle.icu_machine.specs.declared.table.IcuTable.{IcuTable}
 use Rattle.adc_driver.specs.declared.driver.AdcDriver.{AdcDriver}
 use Rattle.spi_driver.specs.declared.driver.SpiDriver.{SpiDriver}
 use Rattle.mcal_drivers.specs.Drivers.{drivers_of, system}
@@ -26,7 +26,7 @@ pub record IsResting (config : Config) (script : List Directive) (devices : ℕ)
   pub relates : (system config).relates chip (moment_after devices config script entries).world [] (moment_after devices config script entries).state
 
 -- the drivers that are asked are those of the configuration
-pub record AreDrivers (config : Config) (captures : IcuDriver) (converters : AdcDriver) (serial : SpiDriver) : Type 0 where
+pub record AreDrivers (config : Config) (captures : IcuTable) (converters : AdcDriver) (serial : SpiDriver) : Type 0 where
   pub captures_are : captures ≡ (drivers_of config).captures
   pub converters_are : converters ≡ (drivers_of config).converters
   pub serial_is : serial ≡ (drivers_of config).serial

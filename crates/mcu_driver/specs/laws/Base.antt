@@ -1,14 +1,10 @@
 -- Bodies of short services, in one window and with nothing held, and their acts.
--- From RefinementRight, Look.
+-- From service_outline: ShortServices, RefinementRight, service_outline: StepKinds, Look.
 -- Used by Clock, Query, State, Reset, Fill.
 use Rattle.std.proofs.Common.{◌≡◌, ◌≤◌, ◌&&◌, [], ◌∙◌}
 use Rattle.mcu_driver.specs.Terms
 use Terms.{Act, acts_by, Answer, answers, ap, AreLong, arith, begins_word, BodyTaken, Bool, Call, Called, Chip}
-use Terms.{chip_after, Cleans, Done, Event, false, FrameHistory, fresh_history, is_locked, is_reset_service, is_shared}
-use Terms.{KeepsMask, LongBodies, may, mcu_basis, mcu_setting, McuDriver, McuRepresents, McuState, missed_after, Move}
-use Terms.{None, not, Nothing, Option, or_true, Order, Origin, outcome, plain_makes, plain_turns, refl, Reservations}
-use Terms.{resets_chip, SendsRight, service_of, Shortens, ShortensTo, Some, Tick, true, value_of, Within, work, Works}
-use Terms.{World, world_after, ℕ}
+use Terms.{chip_after, Cleans, Done, Event, false, FrameHistory, fresh_history, is_locked, is_reset_service, is_shared, KeepsMask, LongBodies, may, mcu_basis, mcu_setting, McuTable, McuRepresents, McuState, missed_after, Move, None, not, Nothing, Option, or_true, Order, Origin, outcome, plain_makes, plain_turns, refl, Reservations, resets_chip, SendsRight, service_of, Shortens, ShortensTo, Some, Tick, true, value_of, Within, work, Works, World, world_after, ℕ}
 use Rattle.mcu_driver.specs.laws.{RefinementRight.{owned_plain, may_parts}, Look.{MayAct}}
 
 -- the oscillator's time goes on
@@ -24,7 +20,7 @@ stays_closed room later e (Some n) h = h
 abbrev pub HoldsAt : Type 0 → Type 1
 HoldsAt Body = World → McuState → Body → Origin Call → FrameHistory → Type 0
 
-module _ (d : McuDriver) where
+module _ (d : McuTable) where
   abbrev pub plain : {Body : Type 0} → (Body → Move) → (Body → ℕ → Body × BodyTaken) → (Body → ℕ) → (Body → Bool) → HoldsAt Body → LongBodies (mcu_basis d) Body
   plain work takes fuel clean holds = record { work_of = work; takes = takes; fuel = fuel; room = fuel; clean = clean; assertion = λ k. Within tt [] (λ below f w s o t. holds w s k o t) }
 

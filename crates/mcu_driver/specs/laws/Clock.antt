@@ -1,19 +1,16 @@
 -- Mcu_InitClock and Mcu_DistributePllClock: their steps, what holds at each, and that they are right.
--- From Base, Look, RefinementRight, Query.
+-- From Base, Look, service_outline: Reports, RefinementRight, Query.
 -- Used by service/clock/rt, Lawful.
 use Rattle.std.proofs.Common.{◌≡◌, ◌+◌, ◌<◌, ◌≤◌, ◌==◌, ◌∙◌, if◌then◌else◌}
 use Rattle.mcu_driver.specs.Terms
 use Terms.{Act, acts_by, answers, ap, AreLong, arith, begins_word, bit_of, BodyTaken, Bool, Call, Called, Chip}
 use Terms.{chip_after, Cleans, clock_of, ClockBody, clocked, ClockLock, ClockPll, ClockRate, distributed}
 use Terms.{DistributePllClock, ends, ENotOk, EOk, Epilogue, error_by, error_told, false, FrameHistory, fresh_history}
-use Terms.{goes, InitClock, is_locked, Is_this_frame, isnt_zero, IsSlowPll, IsThisFrame, LongBodies, Look, may}
-use Terms.{mcu_basis, mcu_machine, McuDriver, McuPllNotLocked, McuRepresents, McuState, Move, multiplier_of, named}
-use Terms.{nat_le, nat_tests, None, not, Nothing, Option, Origin, outcome, owing, Pll, pll_of, Read, refl, Reservations}
-use Terms.{resets_chip, Shortens, Some, Start, subst, sym, Take, tells_error, true, value_of, World, Write, ℕ}
+use Terms.{goes, InitClock, is_locked, Is_this_frame, isnt_zero, IsSlowPll, IsThisFrame, LongBodies, Look, may, mcu_basis, mcu_machine, McuTable, McuPllNotLocked, McuRepresents, McuState, Move, multiplier_of, named, nat_le, nat_tests, None, not, Nothing, Option, Origin, outcome, owing, Pll, pll_of, Read, refl, Reservations, resets_chip, Shortens, Some, Start, subst, sym, Take, tells_error, true, value_of, World, Write, ℕ}
 use Rattle.mcu_driver.specs.laws.{Base.{plain, WorksTo, plain_right, acted}, RefinementRight.{all_moved}, Look.{MayAct}}
 use Rattle.mcu_driver.specs.laws.{Look.{locks, unlocked_owed}, Query.{lock_here}}
 use Rattle.chip_units.specs.Clock as block
-use Rattle.mcu_driver.specs.declared.call.Call.TheVariants as calls
+use Rattle.mcu_machine.specs.declared.call.Call.TheVariants as calls
 
 abbrev pub clock_work : ClockBody → Move
 clock_work (Start m) = Write ClockPll m
@@ -42,23 +39,23 @@ abbrev pub distribute : Call
 distribute = calls.Clock DistributePllClock
 
 -- the setting has this multiplier, and its call may start the PLL with it
-pub record IsStarting (d : McuDriver) (s : McuState) (m setting : ℕ) : Type 0 where
+pub record IsStarting (d : McuTable) (s : McuState) (m setting : ℕ) : Type 0 where
   pub known : multiplier_of d setting ≡ Some m
   pub positive : 0 < m
   pub slow : m ≤ 16
   pub pass : MayAct d s (calls.Clock (InitClock setting))
 
 -- the call that distributes the clock has no error but the lock's
-abbrev pub Distributes : McuDriver → McuState → Origin Call → FrameHistory → Type 0
+abbrev pub Distributes : McuTable → McuState → Origin Call → FrameHistory → Type 0
 Distributes d s o t = IsThisFrame (Called distribute) fresh_history o t × ((unlocked : Bool) → error_by d distribute (not s.initialised) unlocked ≡ locks unlocked)
 
 -- a PLL that was found locked stays so in the window
-abbrev pub clock_holds : McuDriver → World → McuState → ClockBody → Origin Call → FrameHistory → Type 0
+abbrev pub clock_holds : McuTable → World → McuState → ClockBody → Origin Call → FrameHistory → Type 0
 clock_holds d w s (Start m) o t = (setting : ℕ) × IsThisFrame (Called (calls.Clock (InitClock setting))) fresh_history o t × IsStarting d s m setting
 clock_holds d w s (Look u) o t = Distributes d s o t × (u ≡ unlocked_owed d)
 clock_holds d w s Take o t = Distributes d s o t × (is_locked w s.pll ≡ true)
 
-abbrev pub clock_bodies : (d : McuDriver) → LongBodies (mcu_basis d) ClockBody
+abbrev pub clock_bodies : (d : McuTable) → LongBodies (mcu_basis d) ClockBody
 clock_bodies d = plain d clock_work clock_takes clock_left clock_clean (clock_holds d)
 
 -- ---- what the writes make of the clock
@@ -81,7 +78,7 @@ still_locked w w1 (Some p) le e = later (p.started + 100) w.osc w1.osc le e
     later : (n a b : ℕ) → a ≤ b → nat_le n a ≡ true → nat_le n b ≡ true
     later n a b le e = grind (arith, nat_tests)
 
-module _ (d : McuDriver) where
+module _ (d : McuTable) where
   started : (held : Reservations) (chip : Chip) (w : World) (s : McuState) (m y : ℕ) → 0 < m → m ≤ 16 → McuRepresents d held chip w s → McuRepresents d held (chip_after chip (Write ClockPll m) y) w (clocked w (Some m) s)
   started held chip w s m y lt le h = record {
     right = h.right;

@@ -1,16 +1,11 @@
 -- Mcu_InitRamSection: a sweep over the section's words with the mask open, and then the act.
--- From RefinementRight, Base, Look.
+-- From RefinementRight, service_outline: Sweeping, Base, Look.
 -- Used by service/fill/rt, Lawful.
 use Rattle.std.proofs.Common.{◌≡◌, ◌≢◌, ◌+◌, ◌<◌, ◌≤◌, ◌&&◌, ◌==◌, [], ◌∷◌, ◌∙◌, if◌then◌else◌}
 use Rattle.mcu_driver.specs.Terms
 use Terms.{Act, AllLet, AllRight, ap, AreLong, arith, AssertedAt, blocks, BodyTaken, Bool, Call, Called, Chip}
 use Terms.{chip_after, class_of, done_by, ends, EOk, eq_isnt, false, Fill, filled, fills_with, FitsMcu, FrameHistory}
-use Terms.{fresh_history, get_or-set_other, get_or-set_same, if_false, if_true, InitRamSection, is_done, Is_this_frame}
-use Terms.{is_within, IsThisFrame, length, List, Load, LongBodies, mark_of, mcu_basis, mcu_setting, McuDriver}
-use Terms.{McuRepresents, McuState, Move, named, nat_lt, nat_tests, None, Nothing, Option, Origin, Part, place_at}
-use Terms.{PointAssertion, Ram, ram_at, refl, Reservations, ReservedBy, Right, Section, section_of, slice_index, Some}
-use Terms.{STATE, subst, Sweep, sweep, sweep_right, Sweeping, sym, true, TurnsTo, value_of, want, Within, word_in}
-use Terms.{World, world_after, Write, ℕ}
+use Terms.{fresh_history, get_or-set_other, get_or-set_same, if_false, if_true, InitRamSection, is_done, Is_this_frame, is_within, IsThisFrame, length, List, Load, LongBodies, mark_of, mcu_basis, mcu_setting, McuTable, McuRepresents, McuState, Move, named, nat_lt, nat_tests, None, Nothing, Option, Origin, Part, place_at, PointAssertion, Ram, ram_at, refl, Reservations, ReservedBy, Right, Section, section_of, slice_index, Some, STATE, subst, Sweep, sweep, sweep_right, Sweeping, sym, true, TurnsTo, value_of, want, Within, word_in, World, world_after, Write, ℕ}
 use Rattle.mcu_driver.specs.laws.{Base.{acted}, RefinementRight.{all_moved, basis_right}, Look.{fill_passes}}
 use Rattle.mcu_driver.specs.declared.service.fill.FilledBody as bodies
 use Rattle.mcu_driver.specs.declared.service.fill.FilledBody.TheVariants as fills
@@ -41,22 +36,22 @@ abbrev pub section_in : Fill → Section
 section_in r = record { base = r.base; size = r.size; default_value = r.value }
 
 -- the call that fills a section as it is configured, which no frame below holds
-abbrev pub IsFilling : McuDriver → Fill → Reservations → Origin Call → FrameHistory → Type 0
+abbrev pub IsFilling : McuTable → Fill → Reservations → Origin Call → FrameHistory → Type 0
 IsFilling d r below o t = IsThisFrame (Called (InitRamSection r.section)) fresh_history o t × (section_of d r.section ≡ Some (section_in r)) × Free r.section below
 
 abbrev pub part : Fill → ℕ → List Part
 part r i = record { section = r.section; upto = i } ∷ []
 
-abbrev pub filling : (d : McuDriver) → Sweeping (mcu_basis d) Fill bodies.FilledBody
+abbrev pub filling : (d : McuTable) → Sweeping (mcu_basis d) Fill bodies.FilledBody
 filling d = record { count = fill_count; move = fill_move; after = fill_after; hold = part; place = IsFilling d }
 
-abbrev pub filled_spot : (d : McuDriver) → bodies.FilledBody → PointAssertion (mcu_basis d)
+abbrev pub filled_spot : (d : McuTable) → bodies.FilledBody → PointAssertion (mcu_basis d)
 filled_spot d (fills.Act r) = Within tt (part r r.size) (λ below f w s o t. IsFilling d r below o t)
 
-abbrev pub filled_bodies : (d : McuDriver) → LongBodies (mcu_basis d) bodies.FilledBody
+abbrev pub filled_bodies : (d : McuTable) → LongBodies (mcu_basis d) bodies.FilledBody
 filled_bodies d = record { work_of = filled_work; takes = filled_takes; fuel = λ k. 1; room = λ k. 1; clean = λ k. false; assertion = filled_spot d }
 
-abbrev pub fill_bodies : (d : McuDriver) → LongBodies (mcu_basis d) (Sweep Fill bodies.FilledBody)
+abbrev pub fill_bodies : (d : McuTable) → LongBodies (mcu_basis d) (Sweep Fill bodies.FilledBody)
 fill_bodies d = sweep (filling d) (filled_bodies d)
 
 -- ---- which words are filled
@@ -78,11 +73,11 @@ not_done : (x : Section) (i k : ℕ) → is_within x k ≡ false → is_done x i
 not_done x i k e = ap (λ q. q && nat_lt k (x.base + i)) e
 
 -- what is wanted of a word goes by what is there, and where it is one of a section that nobody holds it is that
-want_same : (d : McuDriver) (held : Reservations) (f g : ℕ → ℕ) (k : ℕ) → f k ≡ g k → want d held f k ≡ want d held g k
+want_same : (d : McuTable) (held : Reservations) (f g : ℕ → ℕ) (k : ℕ) → f k ≡ g k → want d held f k ≡ want d held g k
 want_same d [] f g k e = e
 want_same d (h ∷ hs) f g k e = ap (λ y. done_by (section_of d h.what.section) h.what.upto y k) (want_same d hs f g k e)
 
-want_apart : (d : McuDriver) → FitsMcu d → (held : Reservations) (f : ℕ → ℕ) (n k : ℕ) (x : Section) → section_of d n ≡ Some x → is_within x k ≡ true → Free n held → want d held f k ≡ f k
+want_apart : (d : McuTable) → FitsMcu d → (held : Reservations) (f : ℕ → ℕ) (n k : ℕ) (x : Section) → section_of d n ≡ Some x → is_within x k ≡ true → Free n held → want d held f k ≡ f k
 want_apart d fits [] f n k x e in_it free = refl
 want_apart d fits (h ∷ hs) f n k x e in_it free = by (section_of d h.what.section) refl ∙ want_apart d fits hs f n k x e in_it free.1
   where
@@ -92,7 +87,7 @@ want_apart d fits (h ∷ hs) f n k x e in_it free = by (section_of d h.what.sect
 
 -- ---- the act
 
-module _ (d : McuDriver) (fits : FitsMcu d) where
+module _ (d : McuTable) (fits : FitsMcu d) where
   want_filled : (below : Reservations) (fs : List Section) (r : Fill) (k : ℕ) → section_of d r.section ≡ Some (section_in r) → Free r.section below → done_by (section_of d r.section) r.size (want d below (word_in fs) k) k ≡ want d below (word_in (fills_with (section_of d r.section) fs)) k
   want_filled below fs r k e free = ap (λ y. done_by y r.size (want d below (word_in fs) k) k) e ∙ (ap (λ q. if q then r.value else want d below (word_in fs) k) (all_done x k) ∙ (by (is_within x k) refl ∙ ap (λ y. want d below (word_in (fills_with y fs)) k) (sym e)))
     where
@@ -189,11 +184,11 @@ module _ (d : McuDriver) (fits : FitsMcu d) where
 -- ---- the beginning
 
 -- what lets a call of the section begin holds nothing of it
-pub free_by : (d : McuDriver) (on : Bool) (n : ℕ) (below : Reservations) → AllRight on below → AllLet (mcu_setting d) (class_of (InitRamSection n)) below → Free n below
+pub free_by : (d : McuTable) (on : Bool) (n : ℕ) (below : Reservations) → AllRight on below → AllLet (mcu_setting d) (class_of (InitRamSection n)) below → Free n below
 free_by d on n [] right let_all = tt
 free_by d on n (h ∷ hs) right let_all = (subst (λ q. blocks (class_of (InitRamSection n)) (mark_of (mcu_setting d) q) ≡ false) right.0 let_all.0, free_by d on n hs right.2 let_all.1)
 
-pub begun : (d : McuDriver) (below : Reservations) (chip : Chip) (w : World) (s : McuState) (n : ℕ) (x : Section) → section_of d n ≡ Some x → s.initialised ≡ true → McuRepresents d below chip w s → McuRepresents d (record { by = Called (InitRamSection n); what = record { section = n; upto = 0 }; acted = None } ∷ below) chip w s
+pub begun : (d : McuTable) (below : Reservations) (chip : Chip) (w : World) (s : McuState) (n : ℕ) (x : Section) → section_of d n ≡ Some x → s.initialised ≡ true → McuRepresents d below chip w s → McuRepresents d (record { by = Called (InitRamSection n); what = record { section = n; upto = 0 }; acted = None } ∷ below) chip w s
 begun d below chip w s n x e on h = record {
   right = (refl, on, h.right);
   all = h.all;

@@ -3,10 +3,7 @@
 -- Used by mcal_drivers: proofs/Joining.
 use Rattle.std.proofs.Common.{◌≡◌, ◌&&◌, if◌then◌else◌}
 use Rattle.mcu_driver.specs.Terms
-use Terms.{and_first, arith, ClockLock, ClockPll, ClockRate, EnableClear, EnableSet, false, is_of, is_own_word}
-use Terms.{is_register, KeepsTo, Load, Mcu, McuDriver, module_of_register, module_of_word, Move, names_there}
-use Terms.{NamesOthers, NamesWithin, nat_lt, nat_tests, not-unless, only, owns, Ram, Read, refl, Reg, ResetReason}
-use Terms.{ResetRequest, services_driver, Store, true, Write, WritesOthers, WritesWithin, ℕ}
+use Terms.{and_first, arith, ClockLock, ClockPll, ClockRate, EnableClear, EnableSet, false, is_of, is_own_word, is_register, KeepsTo, Load, Mcu, McuTable, module_of_register, module_of_word, Move, names_there, NamesOthers, NamesWithin, nat_lt, nat_tests, not-unless, only, owns, Ram, Read, refl, Reg, ResetReason, ResetRequest, services_driver, Store, true, Write, WritesOthers, WritesWithin, ℕ}
 use Rattle.mcu_driver.specs.laws.Lawful.{mcu}
 
 own_register : (r : Reg) → is_register r ≡ true → is_of (only Mcu) (module_of_register r) ≡ true
@@ -46,7 +43,7 @@ others (Store k v) h = not-unless (is_own_word k) (is_of (only Mcu) (module_of_w
 others _ h = refl
 
 -- it is the clock's alone
-pub keeps_clock : (d : McuDriver) → KeepsTo (only Mcu) (services_driver (mcu d))
+pub keeps_clock : (d : McuTable) → KeepsTo (only Mcu) (services_driver (mcu d))
 keeps_clock d = record {
   may = λ o made h. within made (and_first (owns made) (names_there made) h);
   owns = λ o made h. others made h;

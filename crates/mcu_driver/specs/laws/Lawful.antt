@@ -1,17 +1,14 @@
 -- The driver of clock, RAM and resets, as the outline and the runner see it, and that it owes nothing.
--- From Look, Fill, Bodies, Clock, Query and 3 more.
--- Used by mcal_drivers: Laws, frames/rt, mcal_system: proofs/Resting, mcal_drivers: proofs/Sources and 3 more.
+-- From Look, Fill, service_outline: Duties, Bodies, Clock and 7 more.
+-- Used by mcal_drivers: proofs/Hosting, mcal_drivers: Laws, frames/rt, mcal_system: proofs/Resting and 4 more.
 use Rattle.std.proofs.Common.{◌≡◌, ◌+◌, ◌≤◌, [], ◌∷◌, ◌∙◌, if◌then◌else◌}
 use Rattle.mcu_driver.specs.Terms
 use Terms.{Act, acts_by, AllLet, and_first, answer_refused, ap, AreLong, AreServices, arith, Asked, asks_reset, Beside}
 use Terms.{Bool, both, both_right, Call, call_steps, Called, Calling, CaptureCountHigh, CaptureTimeHigh, Chip, class_of}
 use Terms.{Clock, ClockBody, Decides, DistributePllClock, Entering, error_by, error_told, ErrorName, false, FitsMcu}
 use Terms.{free_windows, GetPllStatus, GetResetReason, Goes, Init, InitClock, InitRamSection, Inside, is_locked}
-use Terms.{is_some, Is_this_frame, is_windowed, List, Loading, LongBodies, Looked, mcu_basis, mcu_machine, mcu_setting}
-use Terms.{McuDriver, McuRepresents, McuState, Move, multiplier_of, names_there, nat_lt, nat_tests, no_duties, no_units}
-use Terms.{None, not, Open, Opening, Option, Or, outcome, owns, PerformReset, Plain, PulseCommit, PulseIdle, QueryBody}
-use Terms.{Read, refl, Reservations, Returning, Section, section_of, Services, services_driver, SetMode, Short, size_of}
-use Terms.{Some, STATE, StateBody, subst, sym, Telling, tells_error, TimerHigh, true, word_of, World, Write, ℕ}
+use Terms.{is_some, Is_this_frame, is_windowed, List, Loading, LongBodies, Looked, mcu_basis, mcu_machine, mcu_setting, McuTable, McuRepresents, McuState, Move, multiplier_of, names_there, nat_lt, nat_tests, no_duties, no_units, None, not, Open, Opening, Option, Or, outcome, owns, PerformReset, Plain, PulseCommit, PulseIdle, QueryBody, Read, refl, Reservations, Returning, Section, section_of, Services, services_driver, SetMode, Short, size_of, Some, STATE, StateBody, subst, sym, Telling, tells_error, TimerHigh, true, word_of, World, Write, ℕ}
+use Rattle.mcal_base.specs.declared.register.Reg.TheVariants.{SerialWait}
 use Rattle.mcu_driver.specs.laws.{Bodies.{McuBody, fill_body}, Clock.{clock_bodies, clock_right}, Fill.{fill_bodies}}
 use Rattle.mcu_driver.specs.laws.{Fill.{fill_right, free_by, begun}, RefinementRight.{basis_right}, Look.{mcu_looked}}
 use Rattle.mcu_driver.specs.laws.{Look.{looked_by, begins, begun_filling, begun_starting, narrow, fill, Passed, on_of}}
@@ -19,19 +16,19 @@ use Rattle.mcu_driver.specs.laws.{Look.{section_there, multiplier_there, unhinde
 use Rattle.mcu_driver.specs.laws.{Query.{query_bodies, query_right}, Reset.{reset_bodies, reset_right}}
 use Rattle.mcu_driver.specs.laws.{State.{state_bodies, state_right}}
 
-abbrev pub plain_bodies : (d : McuDriver) → LongBodies (mcu_basis d) (Or StateBody (Or QueryBody ClockBody))
+abbrev pub plain_bodies : (d : McuTable) → LongBodies (mcu_basis d) (Or StateBody (Or QueryBody ClockBody))
 plain_bodies d = both (state_bodies d) (both (query_bodies d) (clock_bodies d))
 
-abbrev pub mcu_bodies : (d : McuDriver) → LongBodies (mcu_basis d) McuBody
+abbrev pub mcu_bodies : (d : McuTable) → LongBodies (mcu_basis d) McuBody
 mcu_bodies d = both (plain_bodies d) (both (reset_bodies d) (fill_bodies d))
 
 -- the most steps of a call's body: one a word of a section, and a few
-abbrev pub most_of : McuDriver → Call → ℕ
+abbrev pub most_of : McuTable → Call → ℕ
 most_of d (InitRamSection n) = 4 + size_of (section_of d n)
 most_of d _ = 2
 
 -- the driver; any call may be made
-abbrev pub mcu : McuDriver → Services McuState Call Asked McuBody
+abbrev pub mcu : McuTable → Services McuState Call Asked McuBody
 mcu d = record {
   basis = mcu_basis d;
   bodies = mcu_bodies d;
@@ -47,7 +44,7 @@ mcu d = record {
   body_of = λ line. None;
 }
 
-bodies_right : (d : McuDriver) → FitsMcu d → AreLong (mcu_basis d) (mcu_bodies d)
+bodies_right : (d : McuTable) → FitsMcu d → AreLong (mcu_basis d) (mcu_bodies d)
 bodies_right d fits =
     let g = mcu_basis d in
     let clocks = both_right g (query_bodies d) (clock_bodies d) (query_right d) (clock_right d) in
@@ -71,7 +68,7 @@ fill_same n x le = ap (λ b. record { section = n; base = b; size = narrow x.siz
 not_none : {A : Type 0} (k : Option A) → k ≡ None → is_some k ≡ true → ⊥
 not_none k e i = let f : is_some k ≡ false = ap (λ x. is_some x) e in cc
 
-module _ (d : McuDriver) (fits : FitsMcu d) (below : Reservations) (chip : Chip) (w : World) (s : McuState) (h : McuRepresents d below chip w s) where
+module _ (d : McuTable) (fits : FitsMcu d) (below : Reservations) (chip : Chip) (w : World) (s : McuState) (h : McuRepresents d below chip w s) where
   abbrev Looks : Call → Looked McuBody → Type 0
   Looks call l = Decides (mcu d) below chip w s call l
 
@@ -123,7 +120,7 @@ module _ (d : McuDriver) (fits : FitsMcu d) (below : Reservations) (chip : Chip)
 
 -- ---- the laws
 
-call_steps_by : (d : McuDriver) (call : Call) → 7 + most_of d call ≤ call_steps d call
+call_steps_by : (d : McuTable) (call : Call) → 7 + most_of d call ≤ call_steps d call
 call_steps_by d Init = omega arith
 call_steps_by d (InitRamSection n) = omega arith
 call_steps_by d _ = omega arith
@@ -133,11 +130,12 @@ no_windows : (made : Move) → owns made ≡ true → is_windowed made ≡ false
 no_windows (Read (TimerHigh c)) e = absurd (cc)
 no_windows (Read (CaptureCountHigh c)) e = absurd (cc)
 no_windows (Read (CaptureTimeHigh c)) e = absurd (cc)
+no_windows (Read (SerialWait u)) e = absurd (cc)
 no_windows (Write (PulseCommit c) v) e = absurd (cc)
 no_windows (Write (PulseIdle c) v) e = absurd (cc)
 no_windows _ e = refl
 
-pub lawful : (d : McuDriver) → FitsMcu d → AreServices (mcu d)
+pub lawful : (d : McuTable) → FitsMcu d → AreServices (mcu d)
 lawful d fits = record {
   basis = basis_right d;
   bodies = bodies_right d fits;
@@ -156,7 +154,7 @@ lawful d fits = record {
 }
 
 -- the peripheral rate is at most 16, and the driver has no watchdog
-top_slow : (d : McuDriver) (chip : Chip) (w : World) (f : Short Asked McuBody) (o : Open Call) (ps : List (Short Asked McuBody × Open Call)) (s : McuState) → (services_driver (mcu d)).relates chip w ((f, o) ∷ ps) s → s.rate ≤ 16
+top_slow : (d : McuTable) (chip : Chip) (w : World) (f : Short Asked McuBody) (o : Open Call) (ps : List (Short Asked McuBody × Open Call)) (s : McuState) → (services_driver (mcu d)).relates chip w ((f, o) ∷ ps) s → s.rate ≤ 16
 top_slow d chip w (Calling a) o ps s h = h.0.0.rate
 top_slow d chip w (Loading a) o ps s h = h.0.0.rate
 top_slow d chip w (Entering k) o ps s h = h.0.0.rate
@@ -165,6 +163,6 @@ top_slow d chip w (Opening n) o ps s h = h.0.0.rate
 top_slow d chip w (Telling n) o ps s h = h.0.0.rate
 top_slow d chip w (Returning a) o ps s h = h.0.0.rate
 
-pub slow_clock : (d : McuDriver) (chip : Chip) (w : World) (ps : List (Short Asked McuBody × Open Call)) (s : McuState) → FitsMcu d → (services_driver (mcu d)).relates chip w ps s → (services_driver (mcu d)).setting.machine.rate s ≤ 16
+pub slow_clock : (d : McuTable) (chip : Chip) (w : World) (ps : List (Short Asked McuBody × Open Call)) (s : McuState) → FitsMcu d → (services_driver (mcu d)).relates chip w ps s → (services_driver (mcu d)).setting.machine.rate s ≤ 16
 slow_clock d chip w [] s fits h = h.rate
 slow_clock d chip w (p ∷ ps) s fits h = top_slow d chip w p.0 p.1 ps s h

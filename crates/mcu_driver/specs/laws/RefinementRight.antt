@@ -1,4 +1,5 @@
 -- The basis keeps what it owes: at the start, in time, under moves elsewhere and over a reset.
+-- From service_outline: Words, service_outline: There.
 -- Used by Reset, Base, Fill, Clock, Lawful and 1 more.
 use Rattle.std.proofs.Common.{◌≡◌, ◌<◌, ◌&&◌, [], ◌∙◌}
 use Rattle.mcu_driver.specs.Terms
@@ -6,17 +7,12 @@ use Terms.{Acts, acts_by, after_read, after_reset, Agreed, all-step, and_parts, 
 use Terms.{CaptureCountLow, CaptureTimeLow, Chip, chip_after, Clock, clock-left, clock_of, ClockBlock, ClockPll}
 use Terms.{ClockRate, ConverterAbort, DistributePllClock, EnableSet, error_by, ErrorLeaves, ErrorName, false}
 use Terms.{fills_there, GetPllStatus, GetResetReason, happened, happens, Hardware, HasAll, Init, InitClock}
-use Terms.{InitRamSection, is_locked, is_masked, is_own_word, is_register, is_shared, IsBasis, IsSome, Level}
-use Terms.{level_leaves, Load, Made, may, MayCome, mcu_basis, mcu_setting, McuDriver, McuRepresents, McuState, MODE}
-use Terms.{Move, move_there, names_there, nat_tests, None, not, Option, Order, Outcome, outcome, owns, PerformReset}
-use Terms.{PinFlip, PowerOn, Ram, ram-reset, Read, refl, Reg, Reservations, reset_chip, SetMode, sets_rate, slice_index}
-use Terms.{slice_index-blank, Some, some_same, SOURCES, STATE, Store, stores_in, subst, sym, tells_nothing, Tick}
-use Terms.{ticked, TimerLow, true, WasReset, word_apart, word_later, word_of, work, World, world_after, Write, ℕ}
+use Terms.{InitRamSection, is_locked, is_masked, is_own_word, is_register, is_shared, IsBasis, IsSome, Level, level_leaves, Load, Made, may, MayCome, mcu_basis, mcu_setting, McuTable, McuRepresents, McuState, MODE, Move, move_there, names_there, nat_tests, None, not, Option, Order, Outcome, outcome, owns, PerformReset, PinFlip, PowerOn, Ram, ram-reset, Read, refl, Reg, Reservations, reset_chip, SetMode, sets_rate, slice_index, slice_index-blank, Some, some_same, SOURCES, STATE, Store, stores_in, subst, sym, tells_nothing, Tick, ticked, TimerLow, true, WasReset, word_apart, word_later, word_of, work, World, world_after, Write, ℕ}
 use Rattle.mcal_base.specs.declared.directive.Reason.{Reason}
 
 -- ---- after a reset
 
-reset_agrees : (d : McuDriver) (chip : Chip) (w : World) (reason : Reason) → HasAll chip → chip.clock.osc ≡ w.osc → McuRepresents d [] (reset_chip chip reason) w (after_reset reason)
+reset_agrees : (d : McuTable) (chip : Chip) (w : World) (reason : Reason) → HasAll chip → chip.clock.osc ≡ w.osc → McuRepresents d [] (reset_chip chip reason) w (after_reset reason)
 reset_agrees d chip w reason all osc = record {
   right = tt;
   all = all-step chip (WasReset reason) tt all;
@@ -29,7 +25,7 @@ reset_agrees d chip w reason all osc = record {
 }
 
 -- a chip with the RAM and the words of another one, and with this clock
-pub same_agrees : (d : McuDriver) (held : Reservations) (a b : Chip) (w x : World) (s : McuState) → HasAll b → b.clock ≡ clock_of x s → b.ram ≡ a.ram → ((k : ℕ) → is_own_word k ≡ true → word_of b k ≡ word_of a k) → McuRepresents d held a w s → McuRepresents d held b x s
+pub same_agrees : (d : McuTable) (held : Reservations) (a b : Chip) (w x : World) (s : McuState) → HasAll b → b.clock ≡ clock_of x s → b.ram ≡ a.ram → ((k : ℕ) → is_own_word k ≡ true → word_of b k ≡ word_of a k) → McuRepresents d held a w s → McuRepresents d held b x s
 same_agrees d held a b w x s all clock ram words h = record {
   right = h.right;
   all = all;
@@ -55,7 +51,7 @@ clock_later chip w s _ e = e
 below_sources : (k : ℕ) → is_own_word k ≡ true → k < SOURCES
 below_sources k e = let lt : k < 64 = grind (arith, nat_tests) in omega (arith, lt)
 
-later_agrees : (d : McuDriver) (held : Reservations) (chip : Chip) (w : World) (s : McuState) (order : Order) → MayCome (mcu_setting d) held chip w s order → McuRepresents d held chip w s → McuRepresents d held (happened chip order) (world_after w chip.clock.rate order) s
+later_agrees : (d : McuTable) (held : Reservations) (chip : Chip) (w : World) (s : McuState) (order : Order) → MayCome (mcu_setting d) held chip w s order → McuRepresents d held chip w s → McuRepresents d held (happened chip order) (world_after w chip.clock.rate order) s
 later_agrees d held chip w s order come h =
     let fills = fills_there (mcu_setting d) (is_masked chip) w s come.frames order come.free in
     same_agrees d held chip (happened chip order) w (world_after w chip.clock.rate order) s (all-step chip (Hardware order) fills h.all) (clock_later chip w s order h.clock) (ram_later chip order) (λ k own. word_later chip order k h.all.words (below_sources k own)) h
@@ -96,7 +92,7 @@ unstored : (made : Move) → owns made ≡ false → stores_in is_own_word made 
 unstored (Store k v) e = e
 unstored _ e = refl
 
-pub apart_agrees : (d : McuDriver) (held : Reservations) (chip : Chip) (w : World) (s : McuState) (made : Move) (received : ℕ) → owns made ≡ false → McuRepresents d held chip w s → McuRepresents d held (chip_after chip made received) w s
+pub apart_agrees : (d : McuTable) (held : Reservations) (chip : Chip) (w : World) (s : McuState) (made : Move) (received : ℕ) → owns made ≡ false → McuRepresents d held chip w s → McuRepresents d held (chip_after chip made received) w s
 apart_agrees d held chip w s made received e h = same_agrees d held chip (chip_after chip made received) w w s (all_moved chip made received h.all) (clock-left chip made received (unset made e) ∙ h.clock) (ram_apart chip made received e) (λ k own. word_apart is_own_word chip made received k (unstored made e) own) h
 
 -- ---- what a frame may do
@@ -117,7 +113,7 @@ enables_none bits e = absurd (cc)
 -- ---- errors and rates
 
 -- what a call without an error does tells none
-work_tells : (d : McuDriver) (w : World) (s : McuState) (call : Call) → (work d w s call).told.error ≡ None
+work_tells : (d : McuTable) (w : World) (s : McuState) (call : Call) → (work d w s call).told.error ≡ None
 work_tells d w s Init = refl
 work_tells d w s (InitRamSection n) = refl
 work_tells d w s (Clock (InitClock n)) = refl
@@ -127,14 +123,14 @@ work_tells d w s GetResetReason = refl
 work_tells d w s PerformReset = refl
 work_tells d w s (SetMode m) = refl
 
-acts_leave : (d : McuDriver) (w : World) (s : McuState) (call : Call) (e : Option ErrorName) → ErrorLeaves s (acts_by d w s call e)
+acts_leave : (d : McuTable) (w : World) (s : McuState) (call : Call) (e : Option ErrorName) → ErrorLeaves s (acts_by d w s call e)
 acts_leave d w s call None some = absurd (let k = subst (λ x. IsSome x) (work_tells d w s call) some in cc)
 acts_leave d w s call (Some e) some = (refl, refl)
 
-error_leaves : (d : McuDriver) (w : World) (s : McuState) (call : Call) (times : ℕ → ℕ) (out : Outcome McuState) → happens d w s (Acts call times) ≡ Some out → ErrorLeaves s out
+error_leaves : (d : McuTable) (w : World) (s : McuState) (call : Call) (times : ℕ → ℕ) (out : Outcome McuState) → happens d w s (Acts call times) ≡ Some out → ErrorLeaves s out
 error_leaves d w s call times out is = subst (λ o. ErrorLeaves s o) (some_same is) (acts_leave d w s call (error_by d call (not s.initialised) (not (is_locked w s.pll))))
 
-pub basis_right : (d : McuDriver) → IsBasis (mcu_basis d)
+pub basis_right : (d : McuTable) → IsBasis (mcu_basis d)
 basis_right d = record {
   starts = λ chip w wired stands. reset_agrees d chip w PowerOn stands.all stands.osc;
   moves = λ held chip w s order come. refl;

@@ -1,12 +1,9 @@
 -- Mcu_PerformReset: its step, and that it is right.
--- From Base, RefinementRight, Look.
+-- From Base, RefinementRight, service_outline: Acts, Look.
 -- Used by service/reset/rt, Lawful.
 use Rattle.std.proofs.Common.{◌≡◌}
 use Rattle.mcu_driver.specs.Terms
-use Terms.{Act, AreLong, arith, begins_word, BodyTaken, Bool, Call, Called, Chip, ends, false, FrameHistory}
-use Terms.{fresh_history, Is_this_frame, IsThisFrame, LongBodies, may, mcu_basis, McuDriver, McuRepresents, McuState}
-use Terms.{Move, never_clean, no_answer, None, Nothing, Origin, PerformReset, refl, Reservations, Reset, ResetBody}
-use Terms.{ResetRequest, resets_chip, Shortens, Some, true, value_of, World, Write, ℕ}
+use Terms.{Act, AreLong, arith, begins_word, BodyTaken, Bool, Call, Called, Chip, ends, false, FrameHistory, fresh_history, Is_this_frame, IsThisFrame, LongBodies, may, mcu_basis, McuTable, McuRepresents, McuState, Move, never_clean, no_answer, None, Nothing, Origin, PerformReset, refl, Reservations, Reset, ResetBody, ResetRequest, resets_chip, Shortens, Some, true, value_of, World, Write, ℕ}
 use Rattle.mcu_driver.specs.laws.{Base.{plain, WorksTo, plain_right, acted}, RefinementRight.{same_agrees, all_moved}}
 use Rattle.mcu_driver.specs.laws.{Look.{MayAct}}
 
@@ -16,13 +13,13 @@ reset_work Reset = Write ResetRequest 1
 abbrev pub reset_takes : ResetBody → ℕ → ResetBody × BodyTaken
 reset_takes Reset x = (Reset, ends (Some Act) no_answer Nothing)
 
-abbrev pub reset_holds : McuDriver → World → McuState → ResetBody → Origin Call → FrameHistory → Type 0
+abbrev pub reset_holds : McuTable → World → McuState → ResetBody → Origin Call → FrameHistory → Type 0
 reset_holds d w s k o t = IsThisFrame (Called PerformReset) fresh_history o t × MayAct d s PerformReset
 
-abbrev pub reset_bodies : (d : McuDriver) → LongBodies (mcu_basis d) ResetBody
+abbrev pub reset_bodies : (d : McuTable) → LongBodies (mcu_basis d) ResetBody
 reset_bodies d = plain d reset_work reset_takes (λ k. 1) (λ k. false) (reset_holds d)
 
-module _ (d : McuDriver) where
+module _ (d : McuTable) where
   -- the request changes nothing itself: the reset follows
   steps : (below : Reservations) (chip : Chip) (w : World) (s : McuState) (k : ResetBody) (o : Origin Call) (y : ℕ) (t : FrameHistory) (m : ℕ → Bool) → McuRepresents d below chip w s → reset_holds d w s k o t → WorksTo d (reset_bodies d) below chip w s k o (value_of chip (reset_work k)) y t m (reset_takes k (value_of chip (reset_work k)))
   steps below chip w s Reset o y t m h (Is_this_frame, pass) = acted d (reset_bodies d) below chip _ w s s PerformReset (Write ResetRequest 1) false 0 y m Reset no_answer pass refl tt refl (same_agrees d below chip _ w w s (all_moved chip (Write ResetRequest 1) y h.all) h.clock refl (λ k own. refl) h)

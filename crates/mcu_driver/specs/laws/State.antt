@@ -1,12 +1,9 @@
 -- Mcu_Init and Mcu_SetMode: their step, and that it is right.
--- From Base, RefinementRight, Look.
+-- From Base, service_outline: Words, service_outline: Acts, RefinementRight, Look.
 -- Used by service/state/rt, Lawful.
 use Rattle.std.proofs.Common.{◌≡◌, [], ◌∷◌, ◌∙◌}
 use Rattle.mcu_driver.specs.Terms
-use Terms.{Act, AllRight, AreLong, arith, BodyTaken, Bool, Call, Called, Chip, chip_after, ends, false, FrameHistory}
-use Terms.{fresh_history, Init, Initialise, Is_this_frame, IsThisFrame, Keep, LongBodies, may, mcu_basis, McuDriver}
-use Terms.{McuRepresents, McuState, MODE, Move, never_clean, no_answer, Nothing, Origin, refl, Reservations, SetMode}
-use Terms.{Some, STATE, StateBody, Store, stored_other, stored_same, subst, sym, true, value_of, World, ℕ}
+use Terms.{Act, AllRight, AreLong, arith, BodyTaken, Bool, Call, Called, Chip, chip_after, ends, false, FrameHistory, fresh_history, Init, Initialise, Is_this_frame, IsThisFrame, Keep, LongBodies, may, mcu_basis, McuTable, McuRepresents, McuState, MODE, Move, never_clean, no_answer, Nothing, Origin, refl, Reservations, SetMode, Some, STATE, StateBody, Store, stored_other, stored_same, subst, sym, true, value_of, World, ℕ}
 use Rattle.mcu_driver.specs.laws.{Base.{plain, WorksTo, plain_right, acted}, RefinementRight.{all_moved}, Look.{MayAct}}
 
 abbrev pub state_work : StateBody → Move
@@ -16,11 +13,11 @@ state_work (Keep m) = Store MODE m
 abbrev pub state_takes : StateBody → ℕ → StateBody × BodyTaken
 state_takes k x = (k, ends (Some Act) no_answer Nothing)
 
-abbrev pub state_holds : McuDriver → World → McuState → StateBody → Origin Call → FrameHistory → Type 0
+abbrev pub state_holds : McuTable → World → McuState → StateBody → Origin Call → FrameHistory → Type 0
 state_holds d w s Initialise o t = IsThisFrame (Called Init) fresh_history o t
 state_holds d w s (Keep m) o t = IsThisFrame (Called (SetMode m)) fresh_history o t × MayAct d s (SetMode m)
 
-abbrev pub state_bodies : (d : McuDriver) → LongBodies (mcu_basis d) StateBody
+abbrev pub state_bodies : (d : McuTable) → LongBodies (mcu_basis d) StateBody
 state_bodies d = plain d state_work state_takes (λ k. 1) (λ k. false) (state_holds d)
 
 -- what is held stays right once the module is initialised
@@ -28,7 +25,7 @@ right_on : (on : Bool) (held : Reservations) → AllRight on held → AllRight t
 right_on on [] h = tt
 right_on on (x ∷ xs) h = (h.0, refl, right_on on xs h.2)
 
-module _ (d : McuDriver) where
+module _ (d : McuTable) where
   initialised : (held : Reservations) (chip : Chip) (w : World) (s : McuState) (y : ℕ) → McuRepresents d held chip w s → McuRepresents d held (chip_after chip (Store STATE 1) y) w (record s { initialised = true })
   initialised held chip w s y h = record {
     right = right_on s.initialised held h.right;

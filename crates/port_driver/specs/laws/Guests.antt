@@ -5,16 +5,14 @@ use Rattle.std.proofs.Common.{◌≡◌, ◌+◌, ◌/◌, ◌%◌, ◌<◌, ◌
 use Rattle.std.specs.Prelude.{bit_and}
 use Rattle.port_driver.specs.Terms
 use Terms.{all-step, AllLet, ap, arith, bit_of, blocks, Bool, Chip, chip_after, Directions, false, Fixed, has_bit}
-use Terms.{HasAll, inl, inr, is_guests, is_out, IsWhole, length, Levels, List, Made, mark_of, Move}
-use Terms.{nat_tests, not, owns, pin_at, pin_of, PinFlip, PinsAgree, PinState, Port, port_setting, PortDriver}
-use Terms.{PortPut, PortRepresents, PortState, rank_of, Read, refl, Reservations, services_driver, slice_index}
-use Terms.{STATE, subst, sym, true, wants, word_of, words-write, World, Write, ℕ}
+use Terms.{HasAll, inl, inr, is_guests, is_out, IsWhole, length, Levels, List, Made, mark_of, Move, nat_tests, not, owns, pin_at, pin_of, PinFlip, PinsAgree, PinState, Port, port_setting, PortTable, PortPut, PortRepresents, PortState, rank_of, Read, refl, Reservations, services_driver, slice_index, STATE, subst, sym, true, wants, word_of, words-write, World, Write, ℕ}
 use Rattle.chip_units.specs.Pins as pins
 use Rattle.chip_units.proofs.PortLaws.{flip-in, flip-named, flip-other, put-in, put-named, put-spared}
-use Rattle.guest_runner.specs.Guest.{guarded, LetsIn}
+use Rattle.run_model.specs.Causes.{guarded}
+use Rattle.guest_runner.specs.Guest.{LetsIn}
 use Rattle.guest_runner.specs.OutlineLaws.{KeepsAgreeing, services-let}
 use Rattle.port_driver.specs.Bounds.{PinAgrees}
-use Rattle.port_driver.specs.Machine.{Put, Inverted, names_pin, with_change, with_latch}
+use Rattle.port_machine.specs.Machine.{Put, Inverted, names_pin, with_change, with_latch}
 use Rattle.port_driver.specs.laws.{Halves.{length-after, put_none}, Lawful.{port, port_right}, RefinementRight.{basis_right}}
 use Rattle.port_driver.specs.laws.{RefinementRight.{pins_agree, put_mode_none}}
 
@@ -115,7 +113,7 @@ guest_state _ s = s
 abbrev pub lets_in : Move → Bool
 lets_in made = is_guests made || not (owns made)
 
-module _ (d : PortDriver) where
+module _ (d : PortTable) where
   -- where nothing is held, the pins are all that is agreed on
   agrees_by : (chip : Chip) (w : World) (s : PortState) → HasAll chip → IsWhole chip.pins → word_of chip STATE ≡ bit_of s.initialised → PinsAgree chip.pins s → PortRepresents d [] 0 chip w s
   agrees_by chip w s all whole word h = record {

@@ -1,5 +1,5 @@
 -- What a write by halves leaves of the bits of all pins, and what the four of a side leave.
--- Used by Init, Refresh, Pins, RefinementRight, Latches.
+-- Used by Init, Refresh, Pins, Guests, RefinementRight and 1 more.
 use Rattle.std.proofs.Common.{◌≡◌, ◌≢◌, ◌+◌, ◌*◌, ◌/◌, ◌%◌, ◌<◌, ◌^◌, ◌==◌, ◌&&◌, ◌∙◌, if◌then◌else◌}
 use Rattle.port_driver.specs.Terms
 use Terms.{and_false, ap, arith, asks, bit_at, bit_at-clear, bit_at-set, bit_or, bits_of-lt, Bool, chosen, clear-spared}

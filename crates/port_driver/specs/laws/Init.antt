@@ -1,5 +1,5 @@
 -- Port_Init: its sweep of writes, what it holds meanwhile, its act, and that they are right.
--- From RefinementRight, Halves, Ranks.
+-- From RefinementRight, Halves, Ranks, service_outline: Sweep, service_outline: StepKinds and 2 more.
 -- Used by service/init/rt, Lawful, Latches.
 use Rattle.std.proofs.Common.{◌≡◌, ◌≢◌, ◌+◌, ◌-◌, ◌/◌, ◌<◌, ◌≤◌, [], ◌∷◌, ◌∙◌, if◌then◌else◌}
 use Rattle.port_driver.specs.Terms
@@ -8,12 +8,7 @@ use Terms.{chip_after, configured, Directions, DirectionsAgree, each_but, ends, 
 use Terms.{fresh_history, get_or-set_other, get_or-set_same, half_write, HeldRight, Init, InitDone, initial}
 use Terms.{initial_mode, Is_alone, is_configured, is_out, is_shared, is_some, Is_this_frame, IsThisFrame, LatchesAgree}
 use Terms.{length, length-set, Levels, List, LongBodies, lt_is, lt_isnt, Made, may, mode_number, mode_of, mode_write}
-use Terms.{ModesAgree, Move, nat_lt, nat_tests, no_answer, None, Nothing, ones, Option, or_true, Origin, past_wrote}
-use Terms.{Pin, pin_at, pin_of, PinMode, PinState, place_at, PointAssertion, port_basis, port_may, PortDriver}
-use Terms.{PortPinMode, PortRepresents, PortState, put, put_mode, rank_of, ranked, refl, Reservations, ReservedBy}
-use Terms.{resets_chip, Right, sets, Setup, slice_index_or, slice_set, Some, STATE, stored_same, Stores, subst, Sweep}
-use Terms.{sweep, sweep_right, Sweeping, sym, tells_nothing, true, TurnsTo, value_of, wanted_of, wants, with_holds}
-use Terms.{Within, work, World, world_after, writes_latches, Written, written, written_in, ℕ}
+use Terms.{ModesAgree, Move, nat_lt, nat_tests, no_answer, None, Nothing, ones, Option, or_true, Origin, past_wrote, Pin, pin_at, pin_of, PinMode, PinState, place_at, PointAssertion, port_basis, port_may, PortTable, PortPinMode, PortRepresents, PortState, put, put_mode, rank_of, ranked, refl, Reservations, ReservedBy, resets_chip, Right, sets, Setup, slice_index_or, slice_set, Some, STATE, stored_same, Stores, subst, Sweep, sweep, sweep_right, Sweeping, sym, tells_nothing, true, TurnsTo, value_of, wanted_of, wants, with_holds, Within, work, World, world_after, writes_latches, Written, written, written_in, ℕ}
 use Rattle.port_driver.specs.declared.service.init.InitDone.TheVariants.{Store}
 use Rattle.port_driver.specs.laws.RefinementRight.{basis_right, put_mode_none, written_agrees, with_latches}
 use Rattle.port_driver.specs.laws.RefinementRight.{with_directions, with_mode, may_halves, may_mode, IsSilentMove}
@@ -27,7 +22,7 @@ abbrev pub setup_count : Setup → ℕ
 setup_count a = 8 + configured a.driver
 
 -- four writes of levels, one of the mode of each configured pin, and four of directions
-abbrev pub setup_at : PortDriver → ℕ → (levels modes : Bool) → Move
+abbrev pub setup_at : PortTable → ℕ → (levels modes : Bool) → Move
 setup_at d i true q = half_write d Levels i
 setup_at d i false true = mode_write d (i - 4)
 setup_at d i false false = half_write d Directions (i - (4 + configured d))
@@ -45,30 +40,30 @@ abbrev pub done_takes : InitDone → ℕ → InitDone × BodyTaken
 done_takes k x = (k, ends (Some Act) no_answer Nothing)
 
 -- the writes are this driver's
-pub data IsSetUp (d : PortDriver) : Setup → Type 0 where
+pub data IsSetUp (d : PortTable) : Setup → Type 0 where
   Is_setup : IsSetUp d (record { driver = d })
 
 abbrev pub IsInit : Reservations → Origin Call → FrameHistory → Type 0
 IsInit below o t = IsThisFrame (Called Init) fresh_history o t × Alone below
 
-abbrev pub part : PortDriver → ℕ → List Written
+abbrev pub part : PortTable → ℕ → List Written
 part d i = written d i ∷ []
 
-abbrev pub setting_up : (d : PortDriver) → Sweeping (port_basis d) Setup InitDone
+abbrev pub setting_up : (d : PortTable) → Sweeping (port_basis d) Setup InitDone
 setting_up d = record { count = setup_count; move = setup_move; after = setup_after; hold = λ a i. part d i; place = λ a below o t. IsSetUp d a × IsInit below o t }
 
-abbrev pub done_spot : (d : PortDriver) → InitDone → PointAssertion (port_basis d)
+abbrev pub done_spot : (d : PortTable) → InitDone → PointAssertion (port_basis d)
 done_spot d Store = Within 0 (part d (8 + configured d)) (λ below f w s o t. IsInit below o t)
 
-abbrev pub done_bodies : (d : PortDriver) → LongBodies (port_basis d) InitDone
+abbrev pub done_bodies : (d : PortTable) → LongBodies (port_basis d) InitDone
 done_bodies d = record { work_of = done_work; takes = done_takes; fuel = λ k. 1; room = λ k. 1; clean = λ k. false; assertion = done_spot d }
 
-abbrev pub init_bodies : (d : PortDriver) → LongBodies (port_basis d) (Sweep Setup InitDone)
+abbrev pub init_bodies : (d : PortTable) → LongBodies (port_basis d) (Sweep Setup InitDone)
 init_bodies d = sweep (setting_up d) (done_bodies d)
 
 -- ---- a write of it
 
-module _ (d : PortDriver) (held held1 : Reservations) (chip : Chip) (w : World) (s : PortState) (received : ℕ) (right : HeldRight held1) (h : PortRepresents d held 0 chip w s) where
+module _ (d : PortTable) (held held1 : Reservations) (chip : Chip) (w : World) (s : PortState) (received : ℕ) (right : HeldRight held1) (h : PortRepresents d held 0 chip w s) where
   -- so many are made
   abbrev Made1 : ℕ → ℕ → ℕ → Reservations → Type 0
   Made1 a m c x = ((written_in x).levels ≡ a) × ((written_in x).modes ≡ m) × ((written_in x).directions ≡ c)
@@ -138,7 +133,7 @@ module _ (d : PortDriver) (held held1 : Reservations) (chip : Chip) (w : World) 
 
 -- ---- the sweep's steps
 
-module _ (d : PortDriver) where
+module _ (d : PortTable) where
   abbrev one : Origin Call → ℕ → ReservedBy Call Written
   one o i = record { by = o; what = written d i; acted = None }
 
@@ -174,7 +169,7 @@ module _ (d : PortDriver) where
   calm_by i false false = calm_halves Directions (sets (i - (4 + configured d))) ((i - (4 + configured d)) / 2) (ones (wants d Directions) (i - (4 + configured d)))
 
 -- a write of pins commits nothing
-past_by : (d : PortDriver) (w : World) (i : ℕ) (q r : Bool) (t : FrameHistory) → past_wrote w (setup_at d i q r) t ≡ t
+past_by : (d : PortTable) (w : World) (i : ℕ) (q r : Bool) (t : FrameHistory) → past_wrote w (setup_at d i q r) t ≡ t
 past_by d w i true r t = past_halves w Levels (sets i) (i / 2) (ones (wants d Levels) i) t
 past_by d w i false true t = refl
 past_by d w i false false t = past_halves w Directions (sets (i - (4 + configured d))) ((i - (4 + configured d)) / 2) (ones (wants d Directions) (i - (4 + configured d))) t
@@ -197,7 +192,7 @@ mode_done (Some k) rank n x lt = ap (λ q. if q then k.initial_mode else x.mode)
     yes : rank < n → nat_lt rank n ≡ true
     yes low = grind (arith, nat_tests)
 
-acted : (d : PortDriver) (held : ReservedBy Call Written) (chip : Chip) (w : World) (s : PortState) (received : ℕ) → held.what ≡ written d (8 + configured d) → PortRepresents d (held ∷ []) 0 chip w s → PortRepresents d [] 0 (chip_after chip (Stores STATE 1) received) w (work d s Init)
+acted : (d : PortTable) (held : ReservedBy Call Written) (chip : Chip) (w : World) (s : PortState) (received : ℕ) → held.what ≡ written d (8 + configured d) → PortRepresents d (held ∷ []) 0 chip w s → PortRepresents d [] 0 (chip_after chip (Stores STATE 1) received) w (work d s Init)
 acted d held chip w s received is h = record {
   right = tt;
   all = all-step chip (Made (Stores STATE 1) received) tt h.all;
@@ -217,7 +212,7 @@ acted d held chip w s received is h = record {
     directions : held.what.directions ≡ 4
     directions = ap (λ (x : Written). x.directions) is ∙ omega arith
 
-module _ (d : PortDriver) where
+module _ (d : PortTable) where
   done_steps : (below : Reservations) (chip : Chip) (w : World) (s : PortState) (k : InitDone) (o : Origin Call) (y : ℕ) (t : FrameHistory) (m : ℕ → Bool) → AssertedAt (port_basis d) (done_bodies d) below chip w s k o t → Right (port_basis d) (done_bodies d) below chip w s k o y t m
   done_steps below chip w s Store o y t m (h, (Is_this_frame, Is_alone)) = record {
     may = refl;

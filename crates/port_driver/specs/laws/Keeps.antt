@@ -5,9 +5,7 @@ use Rattle.std.proofs.Common.{◌≡◌, ◌&&◌, ◌||◌, if◌then◌else◌
 use Rattle.port_driver.specs.Terms
 use Terms.{and_first, arith, EnableClear, EnableSet, false, is_guests, is_of, is_of_init, is_own_word, is_register, KeepsTo, Load}
 use Terms.{may, module_of_register, module_of_word, Move, names_there, NamesOthers, NamesWithin, nat_lt, nat_tests, not}
-use Terms.{not-unless, only, owns, PinDirectionClear, PinDirectionSet, PinFlip, PinMode, PinOutClear, PinOutSet, Port}
-use Terms.{PortDriver, PortPut, Read, refl, Reg, services_driver, Store, true, Write, writes_latches, WritesOthers}
-use Terms.{WritesWithin, ℕ}
+use Terms.{not-unless, only, owns, PinDirectionClear, PinDirectionSet, PinFlip, PinMode, PinOutClear, PinOutSet, Port, PortTable, PortPut, Read, refl, Reg, services_driver, Store, true, Write, writes_latches, WritesOthers, WritesWithin, ℕ}
 use Rattle.port_driver.specs.laws.Lawful.{port}
 
 own_register : (r : Reg) → is_register r ≡ true → is_of (only Port) (module_of_register r) ≡ true
@@ -51,7 +49,7 @@ others (Store k v) h = not-unless (is_own_word k) (is_of (only Port) (module_of_
 others _ h = refl
 
 -- it is the pins' alone
-pub keeps_pins : (d : PortDriver) → KeepsTo (only Port) (services_driver (port d))
+pub keeps_pins : (d : PortTable) → KeepsTo (only Port) (services_driver (port d))
 keeps_pins d = record {
   may = λ o made h. within made (and_first (owns made) (not (is_guests made) && names_there made) (and_first (may made) (is_of_init o || not (writes_latches made)) h));
   owns = λ o made h. others made h;

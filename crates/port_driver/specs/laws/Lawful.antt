@@ -1,6 +1,6 @@
 -- The driver of the pins, as the outline and the runner see it, and that it is lawful.
--- From Look, Init, Latches, Refresh, Bodies and 3 more.
--- Used by frames/rt, mcal_drivers: Laws, caller/rt, Keeps, mcal_system: proofs/Resting and 2 more.
+-- From Look, Init, Latches, service_outline: Duties, Refresh and 8 more.
+-- Used by frames/rt, Guests, mcal_drivers: Laws, caller/rt, Keeps and 3 more.
 use Rattle.std.proofs.Common.{◌≡◌, ◌+◌, ◌≤◌, ◌==◌, ◌&&◌, ◌||◌, [], ◌∷◌, ◌∙◌}
 use Rattle.port_driver.specs.Terms
 use Terms.{Act, acts_by, AllLet, AllMade, Alone, and_first, ap, AreLong, AreServices, arith, Asked, asks_reset}
@@ -8,35 +8,31 @@ use Terms.{AssertedAt, At, Beside, blocks, both, both_right, Call, call_steps, C
 use Terms.{CaptureTimeHigh, Chip, class_of, Closes, configured, Decides, Done, error_by, error_told, ErrorName, false}
 use Terms.{First, FitsPort, Follows, FrameHistory, free_windows, Goes, HeldRight, Init, InitDone, Is_alone, is_guests, is_of_init}
 use Terms.{Is_this_frame, is_windowed, IsLawful, List, Load, LongBodies, MadeUnless, MakesWrites, mark_of, may, Move}
-use Terms.{must_by, names_there, nat_lt, no_answer, no_units, None, none_on, none_unless, not, Open, Opens, Option}
-use Terms.{Origin, outcome, owns, Place, Plain, port_basis, port_machine, port_setting, PortDriver, PortRepresents}
-use Terms.{PortState, PulseCommit, PulseIdle, Read, refl, RefreshPortDirection, Refused, Reservations, Second, Services}
-use Terms.{services_driver, services_lawful, SetPinDirection, SetPinMode, Setup, Short, short_gave, short_left}
-use Terms.{short_move, Some, STATE, subst, sym, tells_error, TimerHigh, true, value_of, word_of, World, Write}
-use Terms.{writes_after, writes_latches, WritesOn, ℕ}
+use Terms.{must_by, names_there, nat_lt, no_answer, no_units, None, none_on, none_unless, not, Open, Opens, Option, Origin, outcome, owns, Place, Plain, port_basis, port_machine, port_setting, PortTable, PortRepresents, PortState, PulseCommit, PulseIdle, Read, refl, RefreshPortDirection, Refused, Reservations, Second, Services, services_driver, services_lawful, SetPinDirection, SetPinMode, Setup, Short, short_gave, short_left, short_move, Some, STATE, subst, sym, tells_error, TimerHigh, true, value_of, word_of, World, Write, writes_after, writes_latches, WritesOn, ℕ}
+use Rattle.mcal_base.specs.declared.register.Reg.TheVariants.{SerialWait}
 use Rattle.port_driver.specs.laws.{Bodies.{PortBody, init_body}, RefinementRight.{basis_right, may_dry}}
 use Rattle.port_driver.specs.laws.{Init.{init_bodies, init_right, begins_init, setup_at, Is_setup}}
 use Rattle.port_driver.specs.laws.{Latches.{written_at, next_written, level_more, all_latches}, Look.{port_looked}}
 use Rattle.port_driver.specs.laws.{Look.{looked_by, begins, direction_within, mode_within, mode_given, asked_word}}
 use Rattle.port_driver.specs.laws.{Pins.{pin_bodies, pin_right}, Ranks.{configured_few}, Refresh.{refresh_bodies}}
 use Rattle.port_driver.specs.laws.{Refresh.{refresh_right, Is_same}}
-use Rattle.port_driver.specs.declared.call.Call.TheVariants as calls
+use Rattle.port_machine.specs.declared.call.Call.TheVariants as calls
 use Rattle.port_driver.specs.declared.service.init.InitDone.TheVariants as inits
 
-abbrev pub port_bodies : (d : PortDriver) → LongBodies (port_basis d) PortBody
+abbrev pub port_bodies : (d : PortTable) → LongBodies (port_basis d) PortBody
 port_bodies d = both (init_bodies d) (both (refresh_bodies d) (pin_bodies d))
 
 -- the steps of a call's body, at most
-abbrev pub most_by : PortDriver → Call → ℕ
+abbrev pub most_by : PortTable → Call → ℕ
 most_by d Init = 12 + configured d
 most_by d _ = 4
 
 -- Port_Init has made the writes of levels that lie before its place, and another call owes none
-abbrev pub port_written : PortDriver → PortBody → Call → List Move → Type 0
+abbrev pub port_written : PortTable → PortBody → Call → List Move → Type 0
 port_written d (First k) c writes = (c ≡ Init) × written_at d k.place writes
 port_written d (Second k) c writes = must_by d c ≡ []
 
-abbrev pub port : PortDriver → Services PortState Call Asked PortBody
+abbrev pub port : PortTable → Services PortState Call Asked PortBody
 port d = record {
   basis = port_basis d;
   bodies = port_bodies d;
@@ -56,7 +52,7 @@ goes_to : {Body : Type 0} {x y : Body} → Goes x ≡ Goes y → x ≡ y
 goes_to e = cc
 
 -- beside what holds anything no call of the module begins
-blocked : (d : PortDriver) (call : Call) (o : Origin Call) → o ≡ Called Init → blocks (class_of call) (mark_of (port_setting d) o) ≡ true
+blocked : (d : PortTable) (call : Call) (o : Origin Call) → o ≡ Called Init → blocks (class_of call) (mark_of (port_setting d) o) ≡ true
 blocked d call o e = ap (λ (x : Origin Call). blocks (class_of call) (mark_of (port_setting d) x)) e ∙ by call
   where
     by : (call : Call) → blocks (class_of call) (mark_of (port_setting d) (Called Init)) ≡ true
@@ -64,24 +60,24 @@ blocked d call o e = ap (λ (x : Origin Call). blocks (class_of call) (mark_of (
     by RefreshPortDirection = refl
     by (calls.Pin p call) = refl
 
-alone : (d : PortDriver) (call : Call) (below : Reservations) → HeldRight below → AllLet (port_setting d) (class_of call) below → Alone below
+alone : (d : PortTable) (call : Call) (below : Reservations) → HeldRight below → AllLet (port_setting d) (class_of call) below → Alone below
 alone d call [] right lets = Is_alone
 alone d call (h ∷ hs) right lets = absurd (let f = sym (blocked d call h.by right.0) ∙ lets.0 in cc)
 
-asks_none : (d : PortDriver) (call : Call) (s : PortState) (e : ErrorName) → asks_reset (port_machine d) (Called call) (Some Act) (Some (outcome s (tells_error no_answer e))) ≡ false
+asks_none : (d : PortTable) (call : Call) (s : PortState) (e : ErrorName) → asks_reset (port_machine d) (Called call) (Some Act) (Some (outcome s (tells_error no_answer e))) ≡ false
 asks_none d Init s e = refl
 asks_none d RefreshPortDirection s e = refl
 asks_none d (calls.Pin p (SetPinDirection x)) s e = refl
 asks_none d (calls.Pin p (SetPinMode m)) s e = refl
 
-goes_on : (d : PortDriver) (below : Reservations) (chip : Chip) (w : World) (s : PortState) (call : Call) → Alone below → PortRepresents d below 0 chip w s → error_by d call (not s.initialised) ≡ None → Decides (port d) below chip w s call (begins d call)
+goes_on : (d : PortTable) (below : Reservations) (chip : Chip) (w : World) (s : PortState) (call : Call) → Alone below → PortRepresents d below 0 chip w s → error_by d call (not s.initialised) ≡ None → Decides (port d) below chip w s call (begins d call)
 goes_on d below chip w s Init Is_alone h pass = record { at = (begins_init d chip w s h, (Is_setup, (Is_this_frame, Is_alone))); closed = refl; fuel = omega arith; room = omega arith }
 goes_on d below chip w s RefreshPortDirection Is_alone h pass = record { at = (h, (Is_same, Is_this_frame, Is_alone, omega arith, pass)); closed = refl; fuel = omega arith; room = omega arith }
 goes_on d below chip w s (calls.Pin p (SetPinDirection x)) Is_alone h pass = record { at = (h, (Is_this_frame, Is_alone, direction_within d p x (not s.initialised) pass, pass)); closed = refl; fuel = omega arith; room = omega arith }
 goes_on d below chip w s (calls.Pin p (SetPinMode (Some m))) Is_alone h pass = record { at = (h, (Is_this_frame, Is_alone, mode_within d p (Some m) (not s.initialised) pass, pass)); closed = refl; fuel = omega arith; room = omega arith }
 goes_on d below chip w s (calls.Pin p (SetPinMode None)) a h pass = absurd (mode_given d p (not s.initialised) pass)
 
-module _ (d : PortDriver) (below : Reservations) (chip : Chip) (w : World) (s : PortState) (h : PortRepresents d below 0 chip w s) where
+module _ (d : PortTable) (below : Reservations) (chip : Chip) (w : World) (s : PortState) (h : PortRepresents d below 0 chip w s) where
   look_by : (call : Call) → Alone below → (e : Option ErrorName) → error_by d call (not s.initialised) ≡ e → Decides (port d) below chip w s call (looked_by (record { call = call; driver = d }) e)
   look_by call a None e = goes_on d below chip w s call a h e
   look_by call a (Some x) e = record {
@@ -100,11 +96,12 @@ no_windows : (made : Move) → owns made ≡ true → is_windowed made ≡ false
 no_windows (Read (TimerHigh c)) e = absurd (cc)
 no_windows (Read (CaptureCountHigh c)) e = absurd (cc)
 no_windows (Read (CaptureTimeHigh c)) e = absurd (cc)
+no_windows (Read (SerialWait u)) e = absurd (cc)
 no_windows (Write (PulseCommit c) v) e = absurd (cc)
 no_windows (Write (PulseIdle c) v) e = absurd (cc)
 no_windows _ e = refl
 
-module _ (d : PortDriver) where
+module _ (d : PortTable) where
   bodies_right : AreLong (port_basis d) (port_bodies d)
   bodies_right = both_right (port_basis d) (init_bodies d) (both (refresh_bodies d) (pin_bodies d)) (init_right d) (both_right (port_basis d) (refresh_bodies d) (pin_bodies d) (refresh_right d) (pin_right d))
 
@@ -168,5 +165,5 @@ module _ (d : PortDriver) where
   lawful = services_lawful (port d) port_right
 
 -- it leaves the peripheral rate alone, and has no watchdog
-pub slow_pins : (d : PortDriver) (chip : Chip) (w : World) (ps : List (Short Asked PortBody × Open Call)) (s : PortState) → FitsPort d → (services_driver (port d)).relates chip w ps s → (services_driver (port d)).setting.machine.rate s ≤ 16
+pub slow_pins : (d : PortTable) (chip : Chip) (w : World) (ps : List (Short Asked PortBody × Open Call)) (s : PortState) → FitsPort d → (services_driver (port d)).relates chip w ps s → (services_driver (port d)).setting.machine.rate s ≤ 16
 slow_pins d chip w ps s fits h = omega arith

@@ -4,13 +4,10 @@
 use Rattle.std.proofs.Common.{◌≡◌, ◌<◌, ◌==◌, if◌then◌else◌}
 use Rattle.port_driver.specs.Terms
 use Terms.{arith, Asked, bit_of, Bool, Call, Direction, Done, error_by, ErrorName, errors_of, facts_by, false, Goes}
-use Terms.{has_mode, Init, is_some, length, List, Looked, Mode, nat_lt, nat_tests, no_answer, None, none_holds, not}
-use Terms.{not-false, Nothing, Option, owed_error, Pin, pin_of, PortDriver, PortPinDirection, PortPinMode, refl}
-use Terms.{RefreshPortDirection, Refused, reporting, service_of, SetPinDirection, SetPinMode, slice_index_or, Some}
-use Terms.{true, ℕ}
+use Terms.{has_mode, Init, is_some, length, List, Looked, Mode, nat_lt, nat_tests, no_answer, None, none_holds, not, not-false, Nothing, Option, owed_error, Pin, pin_of, PortTable, PortPinDirection, PortPinMode, refl, RefreshPortDirection, Refused, reporting, service_of, SetPinDirection, SetPinMode, slice_index_or, Some, true, ℕ}
 use Rattle.port_driver.specs.declared.service.refresh.RefreshBody.TheVariants.{Write}
 use Rattle.port_driver.specs.laws.Bodies.{PortBody, init_body, refresh_body, pin_body}
-use Rattle.port_driver.specs.declared.call.Call.TheVariants as calls
+use Rattle.port_machine.specs.declared.call.Call.TheVariants as calls
 
 abbrev pub facts_of : Asked → ℕ → List Bool
 facts_of q word = facts_by q.driver q.call (word == 0)
@@ -22,7 +19,7 @@ abbrev pub let_be : Looked PortBody
 let_be = Refused (record { answer = no_answer; owed = Nothing })
 
 -- what a call without an error goes on with
-abbrev pub begins : PortDriver → Call → Looked PortBody
+abbrev pub begins : PortTable → Call → Looked PortBody
 begins d Init = Goes (init_body (record { driver = d }))
 begins d RefreshPortDirection = Goes (refresh_body (Write d 0))
 begins d (calls.Pin p (SetPinDirection x)) = Goes (pin_body (Direction p x))
@@ -41,25 +38,25 @@ port_looked q word = looked_by q (error_by q.driver q.call (word == 0))
 
 -- ---- what a call shows that has no error
 
-no_error : (d : PortDriver) (call : Call) (uninit : Bool) → error_by d call uninit ≡ None → (k : ℕ) → k < length (errors_of (service_of call)) → slice_index_or (facts_by d call uninit) k false ≡ false
+no_error : (d : PortTable) (call : Call) (uninit : Bool) → error_by d call uninit ≡ None → (k : ℕ) → k < length (errors_of (service_of call)) → slice_index_or (facts_by d call uninit) k false ≡ false
 no_error d call uninit pass k lt = none_holds (errors_of (service_of call)) (facts_by d call uninit) pass k lt
 
 -- a configured pin is one of the 64
-within : (d : PortDriver) (p : ℕ) → is_some (pin_of d p) ≡ true → p < 64
+within : (d : PortTable) (p : ℕ) → is_some (pin_of d p) ≡ true → p < 64
 within d p h = by (nat_lt p 64) (slice_index_or d.pins p None) refl h
   where
     by : (q : Bool) (k : Option Pin) → nat_lt p 64 ≡ q → is_some (if q then k else None) ≡ true → p < 64
     by true k e h = grind (arith, nat_tests)
     by false k e h = absurd (cc)
 
-pub direction_within : (d : PortDriver) (p : ℕ) (x : PortPinDirection) (uninit : Bool) → error_by d (calls.Pin p (SetPinDirection x)) uninit ≡ None → p < 64
+pub direction_within : (d : PortTable) (p : ℕ) (x : PortPinDirection) (uninit : Bool) → error_by d (calls.Pin p (SetPinDirection x)) uninit ≡ None → p < 64
 direction_within d p x uninit pass = within d p (not-false _ (no_error d (calls.Pin p (SetPinDirection x)) uninit pass 1 (omega arith)))
 
-pub mode_within : (d : PortDriver) (p : ℕ) (m : Option PortPinMode) (uninit : Bool) → error_by d (calls.Pin p (SetPinMode m)) uninit ≡ None → p < 64
+pub mode_within : (d : PortTable) (p : ℕ) (m : Option PortPinMode) (uninit : Bool) → error_by d (calls.Pin p (SetPinMode m)) uninit ≡ None → p < 64
 mode_within d p m uninit pass = within d p (not-false _ (no_error d (calls.Pin p (SetPinMode m)) uninit pass 1 (omega arith)))
 
 -- and what is no mode is refused
-pub mode_given : (d : PortDriver) (p : ℕ) (uninit : Bool) → error_by d (calls.Pin p (SetPinMode None)) uninit ≡ None → ⊥
+pub mode_given : (d : PortTable) (p : ℕ) (uninit : Bool) → error_by d (calls.Pin p (SetPinMode None)) uninit ≡ None → ⊥
 mode_given d p uninit pass = by (pin_of d p) (no_error d (calls.Pin p (SetPinMode None)) uninit pass 2 (omega arith))
   where
     by : (k : Option Pin) → not (has_mode k None) ≡ false → ⊥

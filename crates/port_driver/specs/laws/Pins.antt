@@ -1,5 +1,5 @@
 -- Port_SetPinDirection and Port_SetPinMode: their one write, and that it is right.
--- From RefinementRight, Halves.
+-- From RefinementRight, Halves, service_outline: Sweep, service_outline: Acts, service_outline: StepKinds.
 -- Used by service/pin/rt, Lawful.
 use Rattle.std.proofs.Common.{◌≡◌, ◌≢◌, ◌/◌, ◌%◌, ◌<◌, ◌^◌, ◌==◌, [], ◌∙◌}
 use Rattle.port_driver.specs.Terms
@@ -7,15 +7,12 @@ use Terms.{Act, acts_by, Adc, Alone, ap, AreLong, arith, AssertedAt, BodyTaken, 
 use Terms.{chip_after, chosen, cond, Direction, Directions, each_but, ends, eq_other, eq_self, error_by, false, Fixed}
 use Terms.{FrameHistory, fresh_history, get_or-set_other, get_or-set_same, Is_alone, is_out, is_shared, Is_this_frame}
 use Terms.{IsThisFrame, length, length-set, Levels, LongBodies, may, Mode, mode_number, Move, never_clean, no_answer}
-use Terms.{None, not, Nothing, or_true, Origin, pin_at, pin_of, PinBody, PinCall, PinMode, PinState, PointAssertion}
-use Terms.{port_basis, PortDriver, PortPinDirection, PortPinMode, PortRepresents, PortState, put, put_mode, rank_of}
-use Terms.{refl, register, Reservations, Right, SetPinDirection, SetPinMode, slice_index_or, slice_set, Some, sym}
-use Terms.{tells_nothing, true, TurnsTo, value_of, wants, with_at, Within, work, World, Write, writes_latches, ℕ}
+use Terms.{None, not, Nothing, or_true, Origin, pin_at, pin_of, PinBody, PinCall, PinMode, PinState, PointAssertion, port_basis, PortTable, PortPinDirection, PortPinMode, PortRepresents, PortState, put, put_mode, rank_of, refl, register, Reservations, Right, SetPinDirection, SetPinMode, slice_index_or, slice_set, Some, sym, tells_nothing, true, TurnsTo, value_of, wants, with_at, Within, work, World, Write, writes_latches, ℕ}
 use Rattle.port_driver.specs.laws.RefinementRight.{put_mode_none, written_agrees, with_directions, with_mode}
 use Rattle.port_driver.specs.laws.RefinementRight.{may_halves, may_mode, IsSilentMove, calm_halves, sends_halves}
 use Rattle.port_driver.specs.laws.RefinementRight.{may_dry, dry_halves}
 use Rattle.port_driver.specs.laws.Halves.{halves_after, length-after, put_none, single_after}
-use Rattle.port_driver.specs.declared.call.Call.TheVariants as calls
+use Rattle.port_machine.specs.declared.call.Call.TheVariants as calls
 
 abbrev pub pin_work : PinBody → Move
 pin_work (Direction p x) = Write (register Directions (is_out x) (p / 32)) (2 ^ (p % 32))
@@ -33,10 +30,10 @@ abbrev pub number_in : PinBody → ℕ
 number_in (Direction p x) = p
 number_in (Mode p m) = p
 
-abbrev pub pin_spot : (d : PortDriver) → PinBody → PointAssertion (port_basis d)
+abbrev pub pin_spot : (d : PortTable) → PinBody → PointAssertion (port_basis d)
 pin_spot d k = Within 0 [] (λ below f w s o t. IsThisFrame (Called (call_by k)) fresh_history o t × Alone below × (number_in k < 64) × (error_by d (call_by k) (not s.initialised) ≡ None))
 
-abbrev pub pin_bodies : (d : PortDriver) → LongBodies (port_basis d) PinBody
+abbrev pub pin_bodies : (d : PortTable) → LongBodies (port_basis d) PinBody
 pin_bodies d = record { work_of = pin_work; takes = pin_takes; fuel = λ k. 1; room = λ k. 1; clean = λ k. false; assertion = pin_spot d }
 
 -- what a call leaves of the pins, by what is looked at
@@ -53,7 +50,7 @@ module _ {A : Type 0} (see : PinState → A) (f : ℕ → PinState) (p : ℕ) (x
   seen_chosen : (q : ℕ) → chosen (q == p) (see x) (see (f q)) ≡ see (with_at f p x q)
   seen_chosen q = each_but (λ i. chosen (i == p) (see x) (see (f i)) ≡ see (with_at f p x i)) p (ap (λ b. chosen b (see x) (see (f p))) (eq_self p) ∙ sym seen_same) q (λ ne. ap (λ b. chosen b (see x) (see (f q))) (eq_other q p ne) ∙ sym (seen_other q ne))
 
-module _ (d : PortDriver) (chip : Chip) (w : World) (s : PortState) (h : PortRepresents d [] 0 chip w s) (p : ℕ) (low : p < 64) (received : ℕ) where
+module _ (d : PortTable) (chip : Chip) (w : World) (s : PortState) (h : PortRepresents d [] 0 chip w s) (p : ℕ) (low : p < 64) (received : ℕ) where
   latches_kept : (call : PinCall) → (changed call (pin_at s p)).latch ≡ (pin_at s p).latch → (q : ℕ) → put (wants d Levels q) q 0 (pin_at s q).latch ≡ put (wants d Levels q) q 0 (with_at (λ i. pin_at s i) p (changed call (pin_at s p)) q).latch
   latches_kept call e q = ap (λ b. put (wants d Levels q) q 0 b) (seen_kept (λ x. x.latch) (λ i. pin_at s i) p (changed call (pin_at s p)) e q)
 
@@ -93,7 +90,7 @@ module _ (d : PortDriver) (chip : Chip) (w : World) (s : PortState) (h : PortRep
       (λ q lt. h.directions q lt ∙ ap (λ y. put (wants d Fixed q) q 0 (put (wants d Directions q) q 0 y)) (seen_kept (λ y. is_out y.direction) (λ i. pin_at s i) p new refl q))
       h
 
-module _ (d : PortDriver) where
+module _ (d : PortTable) where
   steps : (below : Reservations) (chip : Chip) (w : World) (s : PortState) (k : PinBody) (o : Origin Call) (y : ℕ) (t : FrameHistory) (m : ℕ → Bool) → AssertedAt (port_basis d) (pin_bodies d) below chip w s k o t → Right (port_basis d) (pin_bodies d) below chip w s k o y t m
   steps below chip w s (Direction p x) o y t m (h, (Is_this_frame, Is_alone, lt, pass)) = record {
     may = refl;

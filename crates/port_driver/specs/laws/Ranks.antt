@@ -2,9 +2,7 @@
 -- Used by proofs/driver/PortDriver/ranked/Answers, proofs/driver/PortDriver/configured/Answers, Init and 2 more.
 use Rattle.std.proofs.Common.{◌≡◌, ◌≢◌, ◌+◌, ◌<◌, ◌≤◌, ◌==◌, ◌&&◌, [], ◌∷◌, ◌∙◌, if◌then◌else◌}
 use Rattle.port_driver.specs.Terms
-use Terms.{add-one, ap, arith, bit_of, Bool, configured, counted, false, is_configured, is_some, List, nat_lt}
-use Terms.{nat_tests, None, Option, Pin, pin_count, PortDriver, refl, slice_index_or, subst, suc, sum_by, sum_by-cons}
-use Terms.{sym, true, with_rank, zero, ℕ}
+use Terms.{add-one, ap, arith, bit_of, Bool, configured, counted, false, is_configured, is_some, List, nat_lt, nat_tests, None, Option, Pin, pin_count, PortTable, refl, slice_index_or, subst, suc, sum_by, sum_by-cons, sym, true, with_rank, zero, ℕ}
 
 pub counted-zero : (test : ℕ → Bool) → counted test 0 ≡ 0
 unfolding counted
@@ -139,7 +137,7 @@ counted-listed (k ∷ ks) (suc n) =
     omega (arith, front, rest, sum)
 
 -- those are no more than the bound counts
-pub configured_few : (d : PortDriver) → configured d ≤ pin_count d
+pub configured_few : (d : PortTable) → configured d ≤ pin_count d
 configured_few d =
     let more = counted-more (is_configured d) (is_listed d.pins) (λ p. by (nat_lt p 64) (slice_index_or d.pins p None)) 64 in
     let listed = counted-listed d.pins 64 in

@@ -1,6 +1,6 @@
 -- The basis keeps what it owes: at the start, in time, under moves elsewhere and over a reset; and what writes leave of the agreement.
--- From Halves.
--- Used by Init, Pins, Refresh, Lawful.
+-- From service_outline: Words, Halves, service_outline: There.
+-- Used by Init, Pins, Refresh, Guests, Lawful.
 use Rattle.std.proofs.Common.{◌≡◌, ◌/◌, ◌%◌, ◌<◌, ◌≢◌, ◌&&◌, ◌||◌, [], ◌∷◌, ◌∙◌, if◌then◌else◌}
 use Rattle.port_driver.specs.Terms
 use Terms.{Acts, acts_by, Adc, after_read, all-step, and_parts, ap, arith, begins_word, bit_of, Bool, Call, Called}
@@ -10,12 +10,7 @@ use Terms.{happened, happens, Hardware, has_bit, has_bit-zero, HasAll, HeldRight
 use Terms.{is_of_init, is_out, is_own_word, is_register, is_shared, IsBasis, IsWhole, LatchesAgree, length, length-replicate}
 use Terms.{Level, level_leaves, Levels, list_any, Load, lt_zero, Made, may, mode_number, ModesAgree, Move, move_there}
 use Terms.{names_there, nat_lt, nat_tests, None, not, Option, Order, Origin, Outcome, outcome, owners, owns, past_wrote}
-use Terms.{Pin, pin_at, pin_of, PinDirectionClear, PinDirectionSet, PinFlip, PinMode, PinOutClear, PinOutSet, PinsAgree}
-use Terms.{port_basis, port_may, port_setting, PortDriver, PortPinMode, PortPut, PortRepresents, PortState, PowerOn}
-use Terms.{put_mode, Pwm, rank_of, rate-left, Read, Reason, refl, Reg, register, Reservations, reset_chip, resets_chip}
-use Terms.{SendsRight, sets_rate, Side, slice_index, slice_index-blank, slice_set, Some, SOURCES, Spi, STATE, Steady}
-use Terms.{Store, stores_in, subst, suc, sym, tells_nothing, TimerLow, true, wants, WasReset, word_apart, word_later}
-use Terms.{word_of, words-write, World, world_after, Write, writes_latches, written_in, zero, ℕ}
+use Terms.{Pin, pin_at, pin_of, PinDirectionClear, PinDirectionSet, PinFlip, PinMode, PinOutClear, PinOutSet, PinsAgree, port_basis, port_may, port_setting, PortTable, PortPinMode, PortPut, PortRepresents, PortState, PowerOn, put_mode, Pwm, rank_of, rate-left, Read, Reason, refl, Reg, register, Reservations, reset_chip, resets_chip, SendsRight, sets_rate, Side, slice_index, slice_index-blank, slice_set, Some, SOURCES, Spi, STATE, Steady, Store, stores_in, subst, suc, sym, tells_nothing, TimerLow, true, wants, WasReset, word_apart, word_later, word_of, words-write, World, world_after, Write, writes_latches, written_in, zero, ℕ}
 use Rattle.port_driver.specs.laws.Halves.{halves_after, put_none}
 use Rattle.chip_units.specs.Pins as pins
 
@@ -46,7 +41,7 @@ fresh_mode : (p : ℕ) → p < 64 → pins.mode pins.fresh p ≡ Adc
 unfolding pins.fresh
 fresh_mode p lt = get_or-replicate 64 p Adc Adc lt
 
-reset_agrees : (d : PortDriver) (chip : Chip) (w : World) (reason : Reason) → HasAll chip → PortRepresents d [] 0 (reset_chip chip reason) w first_state
+reset_agrees : (d : PortTable) (chip : Chip) (w : World) (reason : Reason) → HasAll chip → PortRepresents d [] 0 (reset_chip chip reason) w first_state
 reset_agrees d chip w reason all = record {
   right = tt;
   all = all-step chip (WasReset reason) tt all;
@@ -60,7 +55,7 @@ reset_agrees d chip w reason all = record {
 -- ---- in time, and under moves elsewhere
 
 -- a chip with the pins and the word of another one agrees with what that one does
-same_agrees : (d : PortDriver) (held : Reservations) (n : ℕ) (a b : Chip) (w x : World) (s : PortState) → HasAll b → b.pins ≡ a.pins → word_of b STATE ≡ word_of a STATE → PortRepresents d held n a w s → PortRepresents d held n b x s
+same_agrees : (d : PortTable) (held : Reservations) (n : ℕ) (a b : Chip) (w x : World) (s : PortState) → HasAll b → b.pins ≡ a.pins → word_of b STATE ≡ word_of a STATE → PortRepresents d held n a w s → PortRepresents d held n b x s
 same_agrees d held n a b w x s all same word h = record {
   right = h.right;
   all = all;
@@ -78,7 +73,7 @@ pins_event chip _ = refl
 low_word : STATE < SOURCES
 low_word = omega arith
 
-later_agrees : (d : PortDriver) (held : Reservations) (n : ℕ) (chip : Chip) (w : World) (s : PortState) (order : Order) → HasAll (happened chip order) → PortRepresents d held n chip w s → PortRepresents d held n (happened chip order) (world_after w chip.clock.rate order) s
+later_agrees : (d : PortTable) (held : Reservations) (n : ℕ) (chip : Chip) (w : World) (s : PortState) (order : Order) → HasAll (happened chip order) → PortRepresents d held n chip w s → PortRepresents d held n (happened chip order) (world_after w chip.clock.rate order) s
 later_agrees d held n chip w s order all h = same_agrees d held n chip (happened chip order) w (world_after w chip.clock.rate order) s all (pins_event chip order) (word_later chip order STATE h.all.words low_word) h
 
 pins_read : (chip : Chip) (r : Reg) → is_register r ≡ false → (after_read chip r).pins ≡ chip.pins
@@ -107,7 +102,7 @@ unstored : (made : Move) → owns made ≡ false → stores_in is_own_word made 
 unstored (Store k v) e = e
 unstored _ e = refl
 
-apart_agrees : (d : PortDriver) (held : Reservations) (n : ℕ) (chip : Chip) (w : World) (s : PortState) (made : Move) (received : ℕ) → owns made ≡ false → PortRepresents d held n chip w s → PortRepresents d held n (chip_after chip made received) w s
+apart_agrees : (d : PortTable) (held : Reservations) (n : ℕ) (chip : Chip) (w : World) (s : PortState) (made : Move) (received : ℕ) → owns made ≡ false → PortRepresents d held n chip w s → PortRepresents d held n (chip_after chip made received) w s
 apart_agrees d held n chip w s made received e h = same_agrees d held n chip (chip_after chip made received) w w s (all-step chip (Made made received) tt h.all) (pins_apart chip made received e) (word_apart is_own_word chip made received STATE (unstored made e) refl) h
 
 -- ---- what a frame may do
@@ -136,11 +131,11 @@ steady _ e = refl
 
 -- ---- errors
 
-acts_leave : (d : PortDriver) (s : PortState) (call : Call) (e : Option ErrorName) → ErrorLeaves s (acts_by d s call e)
+acts_leave : (d : PortTable) (s : PortState) (call : Call) (e : Option ErrorName) → ErrorLeaves s (acts_by d s call e)
 acts_leave d s call None some = absurd (cc)
 acts_leave d s call (Some e) some = (refl, refl)
 
-error_leaves : (d : PortDriver) (w : World) (s : PortState) (call : Call) (times : ℕ → ℕ) (out : Outcome PortState) → happens d w s (Acts call times) ≡ Some out → ErrorLeaves s out
+error_leaves : (d : PortTable) (w : World) (s : PortState) (call : Call) (times : ℕ → ℕ) (out : Outcome PortState) → happens d w s (Acts call times) ≡ Some out → ErrorLeaves s out
 error_leaves d w s call times out is = subst (λ o. ErrorLeaves s o) (given is) (acts_leave d s call (error_by d call (not s.initialised)))
   where
     given : {A : Type 0} {x y : A} → Some x ≡ Some y → x ≡ y
@@ -148,7 +143,7 @@ error_leaves d w s call times out is = subst (λ o. ErrorLeaves s o) (given is) 
 
 -- ---- the pins, while nothing is held
 
-pub pins_agree : (d : PortDriver) (chip : Chip) (w : World) (s : PortState) → PortRepresents d [] 0 chip w s → PinsAgree chip.pins s
+pub pins_agree : (d : PortTable) (chip : Chip) (w : World) (s : PortState) → PortRepresents d [] 0 chip w s → PinsAgree chip.pins s
 pins_agree d chip w s h p lt = record {
   direction = h.directions p lt ∙ (put_none (wants d Fixed p) p _ ∙ put_none (wants d Directions p) p (is_out (pin_at s p).direction));
   mode = h.modes p lt ∙ put_mode_none (pin_of d p) (rank_of d p) (pin_at s p).mode;
@@ -156,7 +151,7 @@ pins_agree d chip w s h p lt = record {
 }
 
 -- what holds something is alone
-pins_stand : (d : PortDriver) (held : Reservations) (chip : Chip) (w : World) (s : PortState) → PortRepresents d held 0 chip w s → list_any is_alone (owners held) ≡ false → PinsAgree chip.pins s × (length chip.pins.latches ≡ 2)
+pins_stand : (d : PortTable) (held : Reservations) (chip : Chip) (w : World) (s : PortState) → PortRepresents d held 0 chip w s → list_any is_alone (owners held) ≡ false → PinsAgree chip.pins s × (length chip.pins.latches ≡ 2)
 pins_stand d [] chip w s h none = (pins_agree d chip w s h, h.whole.latches)
 pins_stand d (x ∷ xs) chip w s h none = absurd (let f : is_alone x.by || list_any is_alone (owners xs) ≡ true = ap (λ (o : Origin Call). is_alone o || list_any is_alone (owners xs)) h.right.0 in cc)
 
@@ -164,7 +159,7 @@ pins_stand d (x ∷ xs) chip w s h none = absurd (let f : is_alone x.by || list_
 may_of : (o : Origin Call) (made : Move) → port_may o made ≡ true → may made ≡ true
 may_of o made e = (and_parts (may made) (is_of_init o || not (writes_latches made)) e).0
 
-pub basis_right : (d : PortDriver) → IsBasis (port_basis d)
+pub basis_right : (d : PortTable) → IsBasis (port_basis d)
 basis_right d = record {
   starts = λ chip w wired stands. reset_agrees d chip w PowerOn stands.all;
   moves = λ held chip w s order come. refl;
@@ -204,7 +199,7 @@ pub word_written : (chip : Chip) (r : Reg) (v received : ℕ) → word_of (chip_
 word_written chip r v received = ap (λ ws. slice_index ws STATE) (words-write chip r v received)
 
 -- the agreement after a write, by its parts
-pub written_agrees : (d : PortDriver) (held held1 : Reservations) (n n1 : ℕ) (chip : Chip) (w : World) (s s1 : PortState) (r : Reg) (v received : ℕ) (b : pins.Pins) → (chip_after chip (Write r v) received).pins ≡ b → HeldRight held1 → s1.initialised ≡ s.initialised → IsWhole b → LatchesAgree d (written_in held1).levels b s1 → ModesAgree d (written_in held1).modes b s1 → DirectionsAgree d (written_in held1).directions n1 b s1 → PortRepresents d held n chip w s → PortRepresents d held1 n1 (chip_after chip (Write r v) received) w s1
+pub written_agrees : (d : PortTable) (held held1 : Reservations) (n n1 : ℕ) (chip : Chip) (w : World) (s s1 : PortState) (r : Reg) (v received : ℕ) (b : pins.Pins) → (chip_after chip (Write r v) received).pins ≡ b → HeldRight held1 → s1.initialised ≡ s.initialised → IsWhole b → LatchesAgree d (written_in held1).levels b s1 → ModesAgree d (written_in held1).modes b s1 → DirectionsAgree d (written_in held1).directions n1 b s1 → PortRepresents d held n chip w s → PortRepresents d held1 n1 (chip_after chip (Write r v) received) w s1
 written_agrees d held held1 n n1 chip w s s1 r v received b is right same whole latches modes directions h = record {
   right = right;
   all = all-step chip (Made (Write r v) received) tt h.all;

@@ -1,16 +1,12 @@
 -- Port_RefreshPortDirection: its writes, what holds at each, and that they are right.
--- From RefinementRight, Halves.
+-- From RefinementRight, Halves, service_outline: Acts, service_outline: StepKinds.
 -- Used by Lawful, service/refresh/rt.
 use Rattle.std.proofs.Common.{◌≡◌, ◌+◌, ◌-◌, ◌/◌, ◌<◌, [], ◌∙◌, if◌then◌else◌}
 use Rattle.port_driver.specs.Terms
 use Terms.{Act, acts_by, Alone, ap, AreLong, arith, AssertedAt, BodyTaken, Bool, Call, Called, Chip, chip_after}
 use Terms.{Directions, ends, error_by, false, Fixed, FrameHistory, fresh_history, goes, half_write, Is_alone, is_out}
 use Terms.{is_shared, Is_this_frame, IsThisFrame, Levels, LongBodies, MakesTo, may, missed_after, Move, nat_lt}
-use Terms.{nat_tests, never_clean, no_answer, None, not, Nothing, ones, Option, or_true, Origin, past_wrote, Pin}
-use Terms.{pin_at, pin_of, PinState, place_at, PointAssertion, port_basis, port_machine, PortDriver, PortRepresents}
-use Terms.{PortState, put, put_mode, rank_of, refl, RefreshBody, refreshed, RefreshPortDirection, Reservations, Right}
-use Terms.{sets, Shortens, Some, subst, sym, tells_nothing, true, TurnsTo, value_of, wanted_of, wants, Within, work}
-use Terms.{World, world_after, writes_latches, ℕ}
+use Terms.{nat_tests, never_clean, no_answer, None, not, Nothing, ones, Option, or_true, Origin, past_wrote, Pin, pin_at, pin_of, PinState, place_at, PointAssertion, port_basis, port_machine, PortTable, PortRepresents, PortState, put, put_mode, rank_of, refl, RefreshBody, refreshed, RefreshPortDirection, Reservations, Right, sets, Shortens, Some, subst, sym, tells_nothing, true, TurnsTo, value_of, wanted_of, wants, Within, work, World, world_after, writes_latches, ℕ}
 use Rattle.port_driver.specs.laws.RefinementRight.{written_agrees, with_fixed, may_halves, IsSilentMove, calm_halves}
 use Rattle.port_driver.specs.laws.RefinementRight.{past_halves, sends_halves, may_dry, dry_halves}
 use Rattle.port_driver.specs.laws.Halves.{halves_after, length-after, put_none, put_whole, put_written}
@@ -26,13 +22,13 @@ abbrev pub refresh_left : RefreshBody → ℕ
 refresh_left (bodies.Write d n) = 1 + (3 - n)
 
 -- it is this driver
-pub data Same (d : PortDriver) : PortDriver → Type 0 where
+pub data Same (d : PortTable) : PortTable → Type 0 where
   Is_same : Same d d
 
-abbrev pub refresh_spot : (d : PortDriver) → RefreshBody → PointAssertion (port_basis d)
+abbrev pub refresh_spot : (d : PortTable) → RefreshBody → PointAssertion (port_basis d)
 refresh_spot d (bodies.Write e n) = Within n [] (λ below f w s o t. Same d e × IsThisFrame (Called RefreshPortDirection) fresh_history o t × Alone below × (n < 4) × (error_by d RefreshPortDirection (not s.initialised) ≡ None))
 
-abbrev pub refresh_bodies : (d : PortDriver) → LongBodies (port_basis d) RefreshBody
+abbrev pub refresh_bodies : (d : PortTable) → LongBodies (port_basis d) RefreshBody
 refresh_bodies d = record { work_of = refresh_work; takes = refresh_takes; fuel = refresh_left; room = refresh_left; clean = λ k. false; assertion = refresh_spot d }
 
 under : (n : ℕ) → nat_lt n 3 ≡ true → n < 3
@@ -66,7 +62,7 @@ same_latch (Some k) x = by k.direction_changeable
     by true = refl
     by false = refl
 
-module _ (d : PortDriver) where
+module _ (d : PortTable) where
   -- one more of its writes
   wrote : (chip : Chip) (w : World) (s : PortState) (n received : ℕ) → PortRepresents d [] n chip w s → PortRepresents d [] (n + 1) (chip_after chip (half_write d Fixed n) received) w s
   wrote chip w s n received h =

@@ -24,15 +24,12 @@ impl Body for RefreshBody {
     }
 
     fn took(&mut self, _value: u32) -> BodyTaken {
-        match *self {
-            RefreshBody::Write(driver, write) => {
-                if write < 3 {
-                    *self = RefreshBody::Write(driver, write + 1);
-                    goes()
-                } else {
-                    acts_with(nothing(), Epilogue::Nothing)
-                }
+        match self {
+            RefreshBody::Write(_, write) if *write < 3 => {
+                *write += 1;
+                goes()
             }
+            RefreshBody::Write(..) => acts_with(nothing(), Epilogue::Nothing),
         }
     }
 }

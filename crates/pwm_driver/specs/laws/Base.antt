@@ -1,15 +1,13 @@
 -- What a family of short bodies owes: they hold nothing, and run in one window.
--- From RefinementRight.
+-- From RefinementRight, service_outline: Acts, service_outline: ShortServices.
 -- Used by Output, DeInit, Serve, Notify, Rest and 2 more.
 use Rattle.std.proofs.Common.{◌≡◌, ◌≤◌, []}
 use Rattle.pwm_driver.specs.Terms
 use Terms.{above, AreLong, AreRight, arith, AsksNone, Bodies, BodyTaken, Bool, Call, Called, Chip, DeInit}
 use Terms.{DisableNotification, EnableNotification, Entered, false, GetOutputState, happened, Init, is_reset_service}
-use Terms.{Lag, Level, level_leaves, LongBodies, Move, never_clean, Option, Order, Origin, over, Pulses, pwm_basis}
-use Terms.{pwm_may, PwmDriver, PwmState, refl, Reservations, RightAt, service_of, SetDutyCycle, SetOutputToIdle}
-use Terms.{SetPeriodAndDuty, short, short_right, Shortens, subst, sym, Tick, Told, true, World, world_after, ℕ}
+use Terms.{Lag, Level, level_leaves, LongBodies, Move, never_clean, Option, Order, Origin, over, Pulses, pwm_basis, pwm_may, PwmTable, PwmState, refl, Reservations, RightAt, service_of, SetDutyCycle, SetOutputToIdle, SetPeriodAndDuty, short, short_right, Shortens, subst, sym, Tick, Told, true, World, world_after, ℕ}
 use Rattle.service_outline.specs.Outline.{At}
-use Rattle.pwm_driver.specs.declared.call.Call.TheVariants.{Channel}
+use Rattle.pwm_machine.specs.declared.call.Call.TheVariants.{Channel}
 use Rattle.pwm_driver.specs.laws.RefinementRight.{basis_right, plain_move}
 
 -- what holds at a place, at a time
@@ -37,7 +35,7 @@ asks_none (Channel c SetOutputToIdle) = refl
 asks_none (Channel c (EnableNotification edge)) = refl
 asks_none (Channel c DisableNotification) = refl
 
-module _ (d : PwmDriver) where
+module _ (d : PwmTable) where
   asks : (o : Origin Call) → AsksNone (pwm_basis d) o
   asks (Called c) = (asks_none c, λ w s. refl)
   asks (Entered l) = λ n held chip w s h. tt

@@ -1,5 +1,5 @@
 -- Pwm_DeInit: its steps, what holds at each, and that they are right.
--- From Units, Parts, Base, Look.
+-- From Units, Base, Parts, service_outline: Words, service_outline: Sweep and 2 more.
 -- Used by Lawful, Windows, service/deinit/rt, Made.
 use Rattle.std.proofs.Common.{◌≡◌, ◌≢◌, ◌+◌, ◌-◌, ◌<◌, ◌≤◌, ◌&&◌, [], ◌∷◌, ◌∙◌, if◌then◌else◌}
 use Rattle.pwm_driver.specs.Terms
@@ -8,10 +8,7 @@ use Terms.{Channel, channel_of, Chip, chip_after, DeInitBody, Disable, each_but,
 use Terms.{false, goes, has_bit-zero, Idle, Is_after, Is_before, Is_own, is_some, IsBegun, IsQuiet, KindAgrees, KINDS}
 use Terms.{Lag, length-set, level, LINES, Load, LongBodies, MarksAgree, missed_after, Move, nat_lt, nat_tests}
 use Terms.{no_answer, None, not, Nothing, only, Option, Origin, output_in, over, Own, period_word, polarity_of, Pulse}
-use Terms.{pulse_at, pulse_at-other, pulse_at-same, PulseEdges, PulseIdle, Pulses, pwm_basis, pwm_machine, pwm_may}
-use Terms.{PwmDriver, PwmRepresents, PwmState, refl, Reservations, settled, Shortens, Some, stands-move, StandsIn}
-use Terms.{STATE, StepsTo, stored_other, stored_same, Stores, subst, sym, table, table_at, tells_nothing, Told, true}
-use Terms.{UnitAgrees, World, Write, ℕ}
+use Terms.{pulse_at, pulse_at-other, pulse_at-same, PulseEdges, PulseIdle, Pulses, pwm_basis, pwm_machine, pwm_may, PwmTable, PwmRepresents, PwmState, refl, Reservations, settled, Shortens, Some, stands-move, StandsIn, STATE, StepsTo, stored_other, stored_same, Stores, subst, sym, table, table_at, tells_nothing, Told, true, UnitAgrees, World, Write, ℕ}
 use Rattle.pwm_driver.specs.declared.service.deinit.DeInitBody.TheVariants.{Store, Choose, Keep, Rest}
 use Rattle.pwm_driver.specs.laws.{Base.{AllGood, steady_above, family, family_right}, Look.{Passed}, Units.{chip_with}}
 use Rattle.pwm_driver.specs.laws.{Units.{none_held, setup_kept, waved_at, off_lines, never, kinds_not_state}}
@@ -19,13 +16,13 @@ use Rattle.pwm_driver.specs.laws.{Units.{kinds_not_period, idle_written}}
 use Rattle.chip_pulses.specs.Pulses as pulses
 use Rattle.chip_pulses.specs.declared.pulse.Output.TheVariants as units
 use Rattle.chip_pulses.specs.declared.pulse.Pulse as unit
-use Rattle.pwm_driver.specs.declared.call.Call.TheVariants as calls
+use Rattle.pwm_machine.specs.declared.call.Call.TheVariants as calls
 
 abbrev pub rest_of : ℕ → Option Channel → Move
 rest_of c None = Load STATE
 rest_of c (Some k) = Write (PulseIdle c) (level k.idle_high)
 
-abbrev pub rest : PwmDriver → ℕ → Move
+abbrev pub rest : PwmTable → ℕ → Move
 rest d c = rest_of c (channel_of d c)
 
 abbrev pub deinit_work : DeInitBody → Move
@@ -50,10 +47,10 @@ deinit_left (Keep d) = 9
 deinit_left (Rest d c) = 1 + (7 - c)
 
 -- the units of configured channels from this one on are not yet idle
-abbrev pub from : PwmDriver → ℕ → ℕ → Bool
+abbrev pub from : PwmTable → ℕ → ℕ → Bool
 from d c k = is_some (channel_of d k) && not (nat_lt k c)
 
-abbrev pub deinit_gap : PwmDriver → DeInitBody → Lag
+abbrev pub deinit_gap : PwmTable → DeInitBody → Lag
 deinit_gap d (Store e) = settled
 deinit_gap d (Disable e) = record settled { units = from d 0; kinds = λ k. true }
 deinit_gap d (Choose e) = record settled { units = from d 0; kinds = λ k. true }
@@ -66,17 +63,17 @@ pub record IsEnded (k : Channel) (now : ℕ) (x : Pulse) : Type 0 where
   pub off : x.notified ≡ None
   pub past : x.since ≤ now
 
-abbrev pub AreEnded : PwmDriver → ℕ → PwmState → Type 0
+abbrev pub AreEnded : PwmTable → ℕ → PwmState → Type 0
 AreEnded d now s = (s.initialised ≡ false) × ((c : ℕ) (k : Channel) → c < 8 → channel_of d c ≡ Some k → IsEnded k now (pulse_at s c))
 
-abbrev pub deinit_holds : PwmDriver → Pulses → ℕ → PwmState → DeInitBody → Origin Call → Option Told → Type 0
+abbrev pub deinit_holds : PwmTable → Pulses → ℕ → PwmState → DeInitBody → Origin Call → Option Told → Type 0
 deinit_holds d f now s (Store e) o t = Before calls.DeInit o t × Own d e × Passed d s calls.DeInit × (s.initialised ≡ true)
 deinit_holds d f now s (Disable e) o t = After calls.DeInit tells_nothing o t × Own d e × AreEnded d now s
 deinit_holds d f now s (Choose e) o t = After calls.DeInit tells_nothing o t × Own d e × AreEnded d now s
 deinit_holds d f now s (Keep e) o t = After calls.DeInit tells_nothing o t × Own d e × AreEnded d now s × (f.edges ≡ 0)
 deinit_holds d f now s (Rest e c) o t = After calls.DeInit tells_nothing o t × Own d e × AreEnded d now s × (c < 8)
 
-abbrev pub deinit_bodies : (d : PwmDriver) → LongBodies (pwm_basis d) DeInitBody
+abbrev pub deinit_bodies : (d : PwmTable) → LongBodies (pwm_basis d) DeInitBody
 deinit_bodies d = family d deinit_work deinit_takes deinit_left (deinit_gap d) (deinit_holds d)
 
 -- ---- what is held, and the machine's channels
@@ -85,7 +82,7 @@ right_any : (held : Reservations) (on on1 : Bool) → on ≡ true → AllRight o
 right_any [] on on1 e h = tt
 right_any (x ∷ xs) on on1 e h = absurd (let f = h.1 in cc)
 
-abbrev ended_state : PwmDriver → World → PwmState → PwmState
+abbrev ended_state : PwmTable → World → PwmState → PwmState
 ended_state d w s = record { initialised = false; channels = table (λ c. ended (channel_of d c) w.now (pulse_at s c)) }
 
 ended_quiet : (k : Option Channel) (now : ℕ) (x : Pulse) → (k ≡ None → IsQuiet x) → IsQuiet (ended k now x)
@@ -109,7 +106,7 @@ state_not_kinds e = absurd (omega (arith, e))
 state_not_period : (c : ℕ) → period_word c ≢ STATE
 state_not_period c e = absurd (omega (arith, e))
 
-module _ (d : PwmDriver) where
+module _ (d : PwmTable) where
   switched_off : (below : Reservations) (chip : Chip) (w : World) (s : PwmState) → s.initialised ≡ true → PwmRepresents d below settled chip w s → PwmRepresents d below (deinit_gap d (Disable d)) (chip_after chip (Stores STATE 0) 0) w (ended_state d w s)
   switched_off below chip w s on h = record {
     right = right_any below s.initialised false on h.right;
@@ -272,7 +269,7 @@ module _ (d : PwmDriver) where
   later f now now1 s (Keep e) o t le (a, b, g, i) = (a, b, ended_later now now1 s le g, i)
   later f now now1 s (Rest e c) o t le (a, b, g, i) = (a, b, ended_later now now1 s le g, i)
 
-  rest_shortens : (e : PwmDriver) (c : ℕ) (q : Bool) → nat_lt c 7 ≡ q → Shortens deinit_left (Rest e c) (if q then (Rest e (c + 1), goes) else (Rest e c, ends None no_answer Nothing))
+  rest_shortens : (e : PwmTable) (c : ℕ) (q : Bool) → nat_lt c 7 ≡ q → Shortens deinit_left (Rest e c) (if q then (Rest e (c + 1), goes) else (Rest e c, ends None no_answer Nothing))
   rest_shortens e c true i = let less : c < 7 = grind (arith, nat_tests) in omega (arith, less)
   rest_shortens e c false i = omega arith
 

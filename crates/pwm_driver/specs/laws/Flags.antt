@@ -1,5 +1,5 @@
 -- The flags of all channels: what a read gives, and what a write clears.
--- From Parts, Changes, Units.
+-- From Parts, pwm_machine: Channels, pwm_machine: Changes, service_outline: Sweep, Units.
 -- Used by Serve, Notify.
 use Rattle.std.proofs.Common.{◌≡◌, ◌≢◌, ◌+◌, ◌*◌, ◌/◌, ◌%◌, ◌<◌, ◌≤◌, ◌^◌, ◌&&◌, ◌||◌, ◌==◌, ◌∙◌, if◌then◌else◌}
 use Rattle.pwm_driver.specs.Terms
@@ -7,10 +7,9 @@ use Terms.{after_write, ap, arith, bits_of-lt, Bool, Both, both, both_falling, b
 use Terms.{channel_of, channel_other, channel_same, Chip, chip_after, chosen, cleared, each_but, Falling, false}
 use Terms.{flags_of, flags_to, GivesWay, has_bit, has_bit-bits_of, has_channel-cleared, HasChannel, Idle, is_flagged}
 use Terms.{is_marked_by, is_some, IsBegun, IsQuiet, KindAgrees, length, level_of, MarksAgree, None, not_it, not_low}
-use Terms.{Option, Output, past_it, period_word, polarity_of, Pulse, pulse_at, pulse_at-cleared, PulseFlags, Pulses}
-use Terms.{PwmDriver, PwmEdge, PwmRepresents, PwmState, refl, Reservations, Rising, Runs, settled, Some, stands}
-use Terms.{stands-move, subst, sym, true, turns_between, TurnsBetween, UnitAgrees, with_pulse, word_of, World, Write, ℕ}
-use Rattle.pwm_driver.specs.laws.{Changes.{times_of, of_times}, Units.{none_held}}
+use Terms.{Option, Output, past_it, period_word, polarity_of, Pulse, pulse_at, pulse_at-cleared, PulseFlags, Pulses, PwmTable, PwmEdge, PwmRepresents, PwmState, refl, Reservations, Rising, Runs, settled, Some, stands, stands-move, subst, sym, true, turns_between, TurnsBetween, UnitAgrees, with_pulse, word_of, World, Write, ℕ}
+use Rattle.pwm_machine.specs.laws.{Changes.{times_of, of_times}}
+use Rattle.pwm_driver.specs.laws.{Units.{none_held}}
 use Rattle.chip_pulses.specs.Pulses as pulses
 use Rattle.chip_pulses.specs.declared.pulse.Pulse as unit
 
@@ -82,7 +81,7 @@ unflagged_agrees high now time p x n at h = record { output = h.output; begun = 
     by None = tt
     by (Some edge) = record { rising = at; falling = at; kept = neither edge }
 
-pub flags_cleared : (d : PwmDriver) (below : Reservations) (chip : Chip) (w : World) (s : PwmState) (c : ℕ) (x : Pulse) (kinds words : ℕ → Bool) → c < 8 → s.initialised ≡ true → is_some (channel_of d c) ≡ true → x.period ≡ (pulse_at s c).period → ((k : ℕ) → k ≢ c → kinds k ≡ false) → KindAgrees chip.pulses.edges c x.notified → UnitAgrees (polarity_of (channel_of d c)) w.now (unflagged chip.pulses.time (pulses.pulse_at chip.pulses c)) x → PwmRepresents d below (record settled { kinds = kinds; words = words }) chip w s → PwmRepresents d below (record settled { words = words }) (chip_after chip (Write PulseFlags (both c)) 0) w (with_pulse s c x)
+pub flags_cleared : (d : PwmTable) (below : Reservations) (chip : Chip) (w : World) (s : PwmState) (c : ℕ) (x : Pulse) (kinds words : ℕ → Bool) → c < 8 → s.initialised ≡ true → is_some (channel_of d c) ≡ true → x.period ≡ (pulse_at s c).period → ((k : ℕ) → k ≢ c → kinds k ≡ false) → KindAgrees chip.pulses.edges c x.notified → UnitAgrees (polarity_of (channel_of d c)) w.now (unflagged chip.pulses.time (pulses.pulse_at chip.pulses c)) x → PwmRepresents d below (record settled { kinds = kinds; words = words }) chip w s → PwmRepresents d below (record settled { words = words }) (chip_after chip (Write PulseFlags (both c)) 0) w (with_pulse s c x)
 flags_cleared d below chip w s c x kinds words lt on there period rest kind new h = record {
   right = h.right;
   setup = none_held d below s.initialised (chip_after chip (Write PulseFlags (both c)) 0) on h.right;

@@ -1,18 +1,16 @@
 -- Pwm_Init: its steps, and what holds at each.
--- From Parts.
+-- From Parts, pwm_machine: Channels.
 -- Used by InitRight, service/init/rt, Lawful, Windows, InitWrites and 1 more.
 use Rattle.std.proofs.Common.{◌≡◌, ◌+◌, ◌-◌, ◌/◌, ◌%◌, ◌<◌, ◌≤◌, ◌&&◌, [], ◌∷◌, ◌∙◌, if◌then◌else◌}
 use Rattle.pwm_driver.specs.Terms
 use Terms.{absolute, Act, ap, arith, begins_word, below_test, BodyTaken, Bool, by_eight, Call, Called, Channel}
 use Terms.{channel_of, Commit, committed_after, Enable, EnableSet, ends, false, FrameHistory, fresh_history, goes}
 use Terms.{InitBody, is_some, IsThisFrame, Lag, level, LINES, List, Load, LongBodies, Move, nat_lt, no_answer, None}
-use Terms.{Nothing, Option, Origin, Own, Part, period_word, PointAssertion, PulseCommit, PulseDuty, PulsePeriod}
-use Terms.{PulsePolarity, Pulses, pwm_basis, pwm_may, PwmDriver, PwmState, refl, Reservations, resets_chip, settled}
-use Terms.{Setup, Some, STATE, Stores, suc, Sweep, sweep, Sweeping, true, Within, World, Write, zero, ℕ}
+use Terms.{Nothing, Option, Origin, Own, Part, period_word, PointAssertion, PulseCommit, PulseDuty, PulsePeriod, PulsePolarity, Pulses, pwm_basis, pwm_may, PwmTable, PwmState, refl, Reservations, resets_chip, settled, Setup, Some, STATE, Stores, suc, Sweep, sweep, Sweeping, true, Within, World, Write, zero, ℕ}
 use Rattle.pwm_driver.specs.declared.service.init.InitBody.TheVariants.{Store}
 use Rattle.chip_pulses.specs.Pulses as pulses
 use Rattle.chip_pulses.specs.declared.pulse.Output.TheVariants as units
-use Rattle.pwm_driver.specs.declared.call.Call.TheVariants as calls
+use Rattle.pwm_machine.specs.declared.call.Call.TheVariants as calls
 
 -- ---- the defaults, with the mask open
 
@@ -45,7 +43,7 @@ abbrev pub commit_of : ℕ → Option Channel → Move
 commit_of c None = Load STATE
 commit_of c (Some k) = Write (PulseCommit c) 1
 
-abbrev pub commit : PwmDriver → ℕ → Move
+abbrev pub commit : PwmTable → ℕ → Move
 commit d c = commit_of c (channel_of d c)
 
 abbrev pub init_work : InitBody → Move
@@ -74,14 +72,14 @@ pub data Alone : Reservations → Type 0 where
   Is_alone : Alone []
 
 -- the defaults are this driver's
-pub data IsSetup (d : PwmDriver) : Setup → Type 0 where
+pub data IsSetup (d : PwmTable) : Setup → Type 0 where
   Is_setup : IsSetup d (record { driver = d })
 
 -- a call that has done nothing yet but write defaults
-abbrev pub IsSetting : PwmDriver → Setup → Reservations → Origin Call → FrameHistory → Type 0
+abbrev pub IsSetting : PwmTable → Setup → Reservations → Origin Call → FrameHistory → Type 0
 IsSetting d r below o t = IsThisFrame (Called calls.Init) fresh_history o t × Alone below × IsSetup d r
 
-abbrev pub setting_up : (d : PwmDriver) → Sweeping (pwm_basis d) Setup InitBody
+abbrev pub setting_up : (d : PwmTable) → Sweeping (pwm_basis d) Setup InitBody
 setting_up d = record { count = setup_count; move = setup_move; after = setup_after; hold = λ r i. written i; place = λ r below o t. IsSetting d r below o t }
 
 -- a configured channel runs by its defaults, from the time of its commit
@@ -92,7 +90,7 @@ pub record Runs (k : Channel) (now : ℕ) (time : Option ℕ) (f : Pulses) (c : 
   pub output : (pulses.pulse_at f c).output ≡ units.Runs (record { start = start; wave = record { period = k.period_ticks; duty = absolute k.period_ticks k.duty_cycle_default; high = k.polarity_high } })
 
 -- the channels below this one do
-abbrev pub HaveBegun : PwmDriver → ℕ → Pulses → ℕ → (ℕ → Option ℕ) → Type 0
+abbrev pub HaveBegun : PwmTable → ℕ → Pulses → ℕ → (ℕ → Option ℕ) → Type 0
 HaveBegun d upto f now times = (c : ℕ) (k : Channel) → c < 8 → c < upto → channel_of d c ≡ Some k → Runs k now (times c) f c
 
 -- the past of the call with these commits
@@ -100,22 +98,22 @@ abbrev pub with_commits : (ℕ → Option ℕ) → FrameHistory
 with_commits times = record fresh_history { committed = times }
 
 -- a call that has made the commits below this channel
-abbrev pub IsBeginning : PwmDriver → ℕ → Reservations → Pulses → ℕ → PwmState → Origin Call → FrameHistory → Type 0
+abbrev pub IsBeginning : PwmTable → ℕ → Reservations → Pulses → ℕ → PwmState → Origin Call → FrameHistory → Type 0
 IsBeginning d upto below f now s o t = (times : ℕ → Option ℕ) × IsThisFrame (Called calls.Init) (with_commits times) o t × Alone below × (s.initialised ≡ false) × HaveBegun d upto f now times
 
 -- the units of configured channels below this one run already
-abbrev pub begun_below : PwmDriver → ℕ → Lag
+abbrev pub begun_below : PwmTable → ℕ → Lag
 begun_below d upto = record settled { units = λ k. is_some (channel_of d k) && nat_lt k upto }
 
-abbrev pub init_spot : (d : PwmDriver) → InitBody → PointAssertion (pwm_basis d)
+abbrev pub init_spot : (d : PwmTable) → InitBody → PointAssertion (pwm_basis d)
 init_spot d (Commit e c) = Within (begun_below d c) (written 32) (λ below f w s o t. IsBeginning d c below f w.now s o t × Own d e × (c < 8))
 init_spot d Enable = Within (begun_below d 8) (written 32) (λ below f w s o t. IsBeginning d 8 below f w.now s o t)
 init_spot d Store = Within (record (begun_below d 8) { lines = Some true }) (written 32) (λ below f w s o t. IsBeginning d 8 below f w.now s o t)
 
-abbrev pub init_bodies : (d : PwmDriver) → LongBodies (pwm_basis d) InitBody
+abbrev pub init_bodies : (d : PwmTable) → LongBodies (pwm_basis d) InitBody
 init_bodies d = record { work_of = init_work; takes = init_takes; fuel = init_left; room = init_left; clean = λ k. false; assertion = init_spot d }
 
-abbrev pub begin_bodies : (d : PwmDriver) → LongBodies (pwm_basis d) (Sweep Setup InitBody)
+abbrev pub begin_bodies : (d : PwmTable) → LongBodies (pwm_basis d) (Sweep Setup InitBody)
 begin_bodies d = sweep (setting_up d) (init_bodies d)
 
 -- ---- the writes of defaults: they may be made, reset and commit nothing, and begin no serial word

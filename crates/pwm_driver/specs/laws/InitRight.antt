@@ -1,5 +1,5 @@
 -- The commits of Pwm_Init, its act, and that its steps are right.
--- From Init, Parts, Units, Base, InitWrites and 2 more.
+-- From Init, Units, Base, InitWrites, Parts and 9 more.
 -- Used by Lawful.
 use Rattle.std.proofs.Common.{◌≡◌, ◌+◌, ◌*◌, ◌/◌, ◌%◌, ◌<◌, ◌≤◌, ◌&&◌, ◌||◌, [], ◌∙◌, if◌then◌else◌}
 use Rattle.pwm_driver.specs.Terms
@@ -8,11 +8,7 @@ use Terms.{Channel, channel_of, Chip, chip_after, Commit, committed_after, cond,
 use Terms.{eq_other, eq_self, error_by, false, FrameHistory, fresh_history, goes, has_bit, has_bit-or, InitBody}
 use Terms.{is_closed, Is_own, is_shared, is_some, Is_this_frame, IsQuiet, IsSetUp, KindAgrees, KINDS, LINES, Load}
 use Terms.{MakesTo, missed_after, Move, nat_lt, nat_tests, never_clean, no_answer, None, not, Nothing, Option, or_true}
-use Terms.{Origin, output_in, period_in, period_word, place_at, plain_makes, plain_turns, polarity_of, pulse_at}
-use Terms.{pulse_at-other, pulse_at-same, PulseCommit, Pulses, pwm_basis, pwm_machine, pwm_may, PwmDriver}
-use Terms.{PwmRepresents, PwmState, refl, Reservations, Right, settled, Setup, Shortens, Some, stands-move, started}
-use Terms.{STATE, stored_other, stored_same, Stores, subst, sweep_right, sym, table, table_at, tells_nothing, time_or}
-use Terms.{true, TurnsMask, TurnsTo, UnitAgrees, value_of, with_at, with_holds, word_of, World, world_after, Write, ℕ}
+use Terms.{Origin, output_in, period_in, period_word, place_at, plain_makes, plain_turns, polarity_of, pulse_at, pulse_at-other, pulse_at-same, PulseCommit, Pulses, pwm_basis, pwm_machine, pwm_may, PwmTable, PwmRepresents, PwmState, refl, Reservations, Right, settled, Setup, Shortens, Some, stands-move, started, STATE, stored_other, stored_same, Stores, subst, sweep_right, sym, table, table_at, tells_nothing, time_or, true, TurnsMask, TurnsTo, UnitAgrees, value_of, with_at, with_holds, word_of, World, world_after, Write, ℕ}
 use Rattle.pwm_driver.specs.declared.service.init.InitBody.TheVariants.{Store}
 use Rattle.pwm_driver.specs.laws.{Base.{pulses_of, foot_later, now_later}, RefinementRight.{basis_right}}
 use Rattle.pwm_driver.specs.laws.{Init.{IsPlain, Is_alone, Is_setup, IsSetting, Runs, HaveBegun, with_commits}}
@@ -24,11 +20,11 @@ use Rattle.pwm_driver.specs.laws.{Units.{waved_at}}
 use Rattle.chip_pulses.specs.Pulses as pulses
 use Rattle.chip_pulses.specs.declared.pulse.Output.TheVariants as units
 use Rattle.chip_pulses.specs.declared.pulse.Pulse as unit
-use Rattle.pwm_driver.specs.declared.call.Call.TheVariants as calls
+use Rattle.pwm_machine.specs.declared.call.Call.TheVariants as calls
 
 -- ---- a commit
 
-module _ (d : PwmDriver) where
+module _ (d : PwmTable) where
   -- a channel of these is held open from its commit on
   opened_here : (c : ℕ) (k : Channel) → channel_of d c ≡ Some k → is_some (channel_of d c) && nat_lt c (c + 1) ≡ true
   opened_here c k e = ap (λ o. is_some o && nat_lt c (c + 1)) e ∙ now c
@@ -103,7 +99,7 @@ module _ (d : PwmDriver) where
 
 -- ---- the act
 
-module _ (d : PwmDriver) (times : ℕ → Option ℕ) (chip : Chip) (w : World) (s : PwmState) (received : ℕ) (b : HaveBegun d 8 (pulses_of chip) w.now times) (h : PwmRepresents d (one 32) (record (begun_below d 8) { lines = Some true }) chip w s) where
+module _ (d : PwmTable) (times : ℕ → Option ℕ) (chip : Chip) (w : World) (s : PwmState) (received : ℕ) (b : HaveBegun d 8 (pulses_of chip) w.now times) (h : PwmRepresents d (one 32) (record (begun_below d 8) { lines = Some true }) chip w s) where
   abbrev now_of : ℕ → ℕ
   now_of c = time_or w.now (times c)
 
@@ -158,7 +154,7 @@ module _ (d : PwmDriver) (times : ℕ → Option ℕ) (chip : Chip) (w : World) 
 
 -- ---- the steps of the window
 
-module _ (d : PwmDriver) (chip : Chip) (w : World) (s : PwmState) where
+module _ (d : PwmTable) (chip : Chip) (w : World) (s : PwmState) where
   lines_set : (received : ℕ) → PwmRepresents d (one 32) (begun_below d 8) chip w s → PwmRepresents d (one 32) (record (begun_below d 8) { lines = Some true }) (chip_after chip (Write EnableSet LINES) received) w s
   lines_set received h = record {
     right = h.right;
@@ -203,7 +199,7 @@ module _ (d : PwmDriver) (chip : Chip) (w : World) (s : PwmState) where
       next = (acted d times chip w s y b h, record { may = (refl, refl); served = false; owed = refl; shown = λ e. absurd (cc); report = refl });
     }
 
-module _ (d : PwmDriver) where
+module _ (d : PwmTable) where
   steps : (below : Reservations) (chip : Chip) (w : World) (s : PwmState) (k : InitBody) (o : Origin Call) (y : ℕ) (t : FrameHistory) (m : ℕ → Bool) → AssertedAt (pwm_basis d) (init_bodies d) below chip w s k o t → Right (pwm_basis d) (init_bodies d) below chip w s k o y t m
   steps below chip w s (Commit e c) o y t m (h, ((times, Is_this_frame, Is_alone, off, b), Is_own, lt)) = commits d chip w s (value_of chip (commit d c)) y times (missed_after (pwm_machine d) w s m) off c lt h b (channel_of d c) refl
   steps below chip w s Enable o y t m (h, (times, Is_this_frame, Is_alone, off, b)) = (lines_set d chip w s y h, (times, Is_this_frame, Is_alone, off, b))
@@ -231,14 +227,14 @@ module _ (d : PwmDriver) where
   commit_plain c None = refl
   commit_plain c (Some k) = refl
 
-  next_shortens : (e : PwmDriver) (c : ℕ) (q : Bool) → nat_lt c 7 ≡ q → Shortens init_left (Commit e c) (if q then (Commit e (c + 1), goes) else (Enable, goes))
+  next_shortens : (e : PwmTable) (c : ℕ) (q : Bool) → nat_lt c 7 ≡ q → Shortens init_left (Commit e c) (if q then (Commit e (c + 1), goes) else (Enable, goes))
   next_shortens e c true i = let few : c < 7 = grind (arith, nat_tests) in omega (arith, few)
   next_shortens e c false i = omega arith
 
-  abbrev next_place : PwmDriver → ℕ → Bool → InitBody × BodyTaken
+  abbrev next_place : PwmTable → ℕ → Bool → InitBody × BodyTaken
   next_place e c q = if q then (Commit e (c + 1), goes) else (Enable, goes)
 
-  next_turns : (e : PwmDriver) (c : ℕ) (made : Move) → is_shared made ≡ false → (q : Bool) → nat_lt c 7 ≡ q → TurnsMask 32 true (is_closed (init_spot d (next_place e c q).0)) (init_left (Commit e c)) (init_left (next_place e c q).0) made (next_place e c q).1.event (next_place e c q).1.done
+  next_turns : (e : PwmTable) (c : ℕ) (made : Move) → is_shared made ≡ false → (q : Bool) → nat_lt c 7 ≡ q → TurnsMask 32 true (is_closed (init_spot d (next_place e c q).0)) (init_left (Commit e c)) (init_left (next_place e c q).0) made (next_place e c q).1.event (next_place e c q).1.done
   next_turns e c made plain true i = let few : c < 7 = grind (arith, nat_tests) in plain_turns 32 true true _ _ made None None plain (refl, omega (arith, few))
   next_turns e c made plain false i = plain_turns 32 true true _ _ made None None plain (refl, omega arith)
 

@@ -1,19 +1,16 @@
 -- A write of the defaults of Pwm_Init, of those that are held.
--- From Units, Init, Output.
+-- From Units, service_outline: Words, Init, service_outline: Sweep, Output.
 -- Used by InitRight.
 use Rattle.std.proofs.Common.{◌≡◌, ◌≢◌, ◌+◌, ◌*◌, ◌/◌, ◌<◌, ◌==◌, [], ◌∷◌, ◌∙◌}
 use Rattle.pwm_driver.specs.Terms
 use Terms.{absolute, arith, Called, Channel, channel_of, Chip, chip_after, duty_in, each_but, IsSetUp, KINDS, level}
-use Terms.{None, none, not, Option, period_in, period_word, polarity_of, pulse_at, pulse_at-other, pulse_at-same}
-use Terms.{PulseDuty, PulsePeriod, PulsePolarity, PwmDriver, PwmRepresents, PwmState, refl, Reservations, settled, Some}
-use Terms.{stands-move, StandsIn, STATE, stored_other, stored_same, Stores, subst, suc, sym, Wave, word_of, World}
-use Terms.{Write, zero, ℕ}
+use Terms.{None, none, not, Option, period_in, period_word, polarity_of, pulse_at, pulse_at-other, pulse_at-same, PulseDuty, PulsePeriod, PulsePolarity, PwmTable, PwmRepresents, PwmState, refl, Reservations, settled, Some, stands-move, StandsIn, STATE, stored_other, stored_same, Stores, subst, suc, sym, Wave, word_of, World, Write, zero, ℕ}
 use Rattle.pwm_driver.specs.laws.{Init.{defaults, part}, Output.{level_set}, Units.{chip_with, never, off_lines}}
 use Rattle.pwm_driver.specs.laws.{Units.{off_set, period_below, period_not_kinds, period_not_state, period_other}}
 use Rattle.pwm_driver.specs.laws.{Units.{waved}}
 use Rattle.chip_pulses.specs.Pulses as pulses
 use Rattle.chip_pulses.specs.declared.pulse.Pulse as unit
-use Rattle.pwm_driver.specs.declared.call.Call.TheVariants as calls
+use Rattle.pwm_machine.specs.declared.call.Call.TheVariants as calls
 
 -- ---- one more default is written
 
@@ -59,7 +56,7 @@ module _ (k : Option Channel) (i c word : ℕ) (v : Wave) (h : IsSetUp k i c wor
 abbrev pub one : ℕ → Reservations
 one i = record { by = Called calls.Init; what = record { upto = i }; acted = None } ∷ []
 
-module _ (d : PwmDriver) where
+module _ (d : PwmTable) where
   module _ (i c : ℕ) (chip : Chip) (w : World) (s : PwmState) (at : i / 4 ≡ c) (lt : c < 8) (h : PwmRepresents d (one i) settled chip w s) where
     abbrev p : unit.Pulse
     p = pulses.pulse_at chip.pulses c

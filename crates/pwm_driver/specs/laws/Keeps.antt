@@ -1,14 +1,12 @@
 -- The driver keeps to its module: registers, words and lines of others are nothing to it.
--- From RefinementRight, Lawful, Parts.
+-- From RefinementRight, Lawful, pwm_machine: Channels.
 -- Used by mcal_drivers: proofs/Joining.
 use Rattle.std.proofs.Common.{◌≡◌, ◌+◌, ◌-◌, ◌/◌, ◌%◌, ◌<◌, ◌≤◌, ◌^◌, ◌==◌, ◌&&◌, ◌||◌, if◌then◌else◌}
 use Rattle.pwm_driver.specs.Terms
 use Terms.{and_first, arith, Asked, Bool, Channel, channel_of, channel_of_line, EnableClear, EnableSet, EnablesOthers}
 use Terms.{EnablesWithin, entering, false, has_bit, has_lines, is_for_lines, is_of, is_own_word, is_pulse, is_some}
 use Terms.{KeepsTo, Load, may_name, may_write, module_of_line, module_of_register, module_of_word, Move, names_there}
-use Terms.{NamesOthers, NamesWithin, nat_lt, nat_tests, None, not, not-unless, Option, owns_written, PulseCommit}
-use Terms.{PulseDuty, PulseEdges, PulseFlags, PulseIdle, PulseOut, PulsePeriod, PulsePolarity, Pwm, pwm_owns, PwmDriver}
-use Terms.{Read, refl, Reg, services_driver, Some, Store, true, within_eight, Write, WritesOthers, WritesWithin, ℕ}
+use Terms.{NamesOthers, NamesWithin, nat_lt, nat_tests, None, not, not-unless, Option, owns_written, PulseCommit, PulseDuty, PulseEdges, PulseFlags, PulseIdle, PulseOut, PulsePeriod, PulsePolarity, Pwm, pwm_owns, PwmTable, Read, refl, Reg, services_driver, Some, Store, true, within_eight, Write, WritesOthers, WritesWithin, ℕ}
 use Rattle.step_runner.specs.Whose.{only}
 use Rattle.pwm_driver.specs.laws.{RefinementRight.{lines_parts, other_line}, Lawful.{pwm, body_by}}
 
@@ -108,7 +106,7 @@ handled : (k : Option Channel) → is_some (entering {Asked = Asked} (body_by k)
 handled None h = cc
 handled (Some k) h = refl
 
-line_of : (d : PwmDriver) (l : ℕ) → is_some (channel_of_line d l) ≡ true → is_of (only Pwm) (module_of_line l) ≡ true
+line_of : (d : PwmTable) (l : ℕ) → is_some (channel_of_line d l) ≡ true → is_of (only Pwm) (module_of_line l) ≡ true
 line_of d l h = by (nat_lt l 8) refl h
   where
     by : (q : Bool) → nat_lt l 8 ≡ q → is_some (if q then None else channel_of d (l - 8)) ≡ true → is_of (only Pwm) (module_of_line l) ≡ true
@@ -119,7 +117,7 @@ line_of d l h = by (nat_lt l 8) refl h
         own_line l le (omega (arith, few, le))
 
 -- it is the pulses' alone
-pub keeps_pulses : (d : PwmDriver) → KeepsTo (only Pwm) (services_driver (pwm d))
+pub keeps_pulses : (d : PwmTable) → KeepsTo (only Pwm) (services_driver (pwm d))
 keeps_pulses d = record {
   may = λ o made h. within made (and_first (may_name made) (names_there made) h);
   owns = λ o made h. others made h;

@@ -1,6 +1,6 @@
 -- The pulse driver, as the outline and the runner see it, and that it is lawful.
--- From Look, Made, Windows, DeInit, Init and 9 more.
--- Used by frames/rt, Keeps, mcal_drivers: Laws, caller/rt, mcal_system: proofs/Resting and 3 more.
+-- From Look, Made, Windows, DeInit, Init and 16 more.
+-- Used by frames/rt, Keeps, mcal_drivers: Laws, caller/rt, mcal_system: proofs/Resting and 4 more.
 use Rattle.std.proofs.Common.{◌≡◌, ◌+◌, ◌-◌, ◌<◌, ◌≤◌, ◌==◌, [], ◌∷◌, ◌∙◌, if◌then◌else◌}
 use Rattle.pwm_driver.specs.Terms
 use Terms.{Act, Acts, acts_by, AllLet, AllRight, answer_refused, ap, AreLong, AreServices, arith, Asked, asks_no}
@@ -10,11 +10,7 @@ use Terms.{DisableNotification, Done, EnableNotification, EnableSet, ends, Enter
 use Terms.{false, First, FitsPwm, Follows, FrameHistory, fresh_history, Goes, goes, idles_at, InitBody, Is_before}
 use Terms.{is_closed, Is_own, Is_serving, is_some, Is_this_frame, IsLawful, Kinds, known_within, LINES, List}
 use Terms.{LongBodies, Looked, MadeUnless, MakesWrites, mark_of, Move, must_by, nat_lt, nat_tests, no_answer, no_units}
-use Terms.{None, none_on, none_unless, not, Nothing, Open, Opens, Option, Origin, Outcome, outcome, Place, plain_sees}
-use Terms.{pwm_basis, pwm_machine, pwm_setting, PwmDriver, PwmRepresents, PwmState, refl, Refused, Reservations, Second}
-use Terms.{SeesTo, Services, services_driver, services_lawful, SetDutyCycle, SetOutputToIdle, SetPeriodAndDuty, settled}
-use Terms.{Setup, Short, short_gave, short_left, short_move, Some, Starts, STATE, steps_of, subst, Sweep, sym}
-use Terms.{tells_error, Told, true, value_of, word_of, World, Write, writes_after, WritesOn, ℕ}
+use Terms.{None, none_on, none_unless, not, Nothing, Open, Opens, Option, Origin, Outcome, outcome, Place, plain_sees, pwm_basis, pwm_machine, pwm_setting, PwmTable, PwmRepresents, PwmState, refl, Refused, Reservations, Second, SeesTo, Services, services_driver, services_lawful, SetDutyCycle, SetOutputToIdle, SetPeriodAndDuty, settled, Setup, Short, short_gave, short_left, short_move, Some, Starts, STATE, steps_of, subst, Sweep, sym, tells_error, Told, true, value_of, word_of, World, Write, writes_after, WritesOn, ℕ}
 use Rattle.service_outline.specs.Both.{both}
 use Rattle.pwm_driver.specs.laws.{Base.{asks_none}, Bodies.{PwmBody, serve_body}, DeInit.{rest, deinit_work}}
 use Rattle.pwm_driver.specs.laws.{DeInit.{deinit_takes, deinit_holds, deinit_bodies, deinit_right}}
@@ -28,12 +24,12 @@ use Rattle.pwm_driver.specs.laws.{Notify.{notify_right}, Output.{output_bodies, 
 use Rattle.pwm_driver.specs.laws.{Rest.{rest_right}, Serve.{serve_work, serve_takes, serve_bodies, serve_right}}
 use Rattle.pwm_driver.specs.laws.{Windows.{pwm_seen, setup_sees, setup_unseen, deinit_sees, output_sees, rest_sees}}
 use Rattle.pwm_driver.specs.laws.{Windows.{notify_plain, serve_plain}}
-use Rattle.pwm_driver.specs.declared.call.Call.TheVariants as calls
+use Rattle.pwm_machine.specs.declared.call.Call.TheVariants as calls
 use Rattle.pwm_driver.specs.declared.service.deinit.DeInitBody.TheVariants as deinits
 use Rattle.pwm_driver.specs.declared.service.output.OutputBody.TheVariants as outputs
 use Rattle.pwm_driver.specs.declared.service.init.InitBody.TheVariants as inits
 
-abbrev pub pwm_bodies : (d : PwmDriver) → LongBodies (pwm_basis d) PwmBody
+abbrev pub pwm_bodies : (d : PwmTable) → LongBodies (pwm_basis d) PwmBody
 pwm_bodies d = both (both (begin_bodies d) (deinit_bodies d)) (both (both (output_bodies d) (both (rest_bodies d) (notify_bodies d))) (serve_bodies d))
 
 -- the most steps of a call's body: Pwm_Init writes 32 defaults
@@ -48,13 +44,13 @@ body_by None = None
 body_by (Some k) = Some (serve_body (Kinds k.number))
 
 -- Pwm_Init and Pwm_DeInit have made the writes that lie before their place, and another call owes none
-abbrev pub pwm_written : PwmDriver → PwmBody → Call → List Move → Type 0
+abbrev pub pwm_written : PwmTable → PwmBody → Call → List Move → Type 0
 pwm_written d (First (First k)) c writes = (c ≡ calls.Init) × init_written d k.place writes
 pwm_written d (First (Second k)) c writes = (c ≡ calls.DeInit) × deinit_written d k writes
 pwm_written d (Second k) c writes = must_by d c ≡ []
 
 -- the driver; any call may be made
-abbrev pub pwm : PwmDriver → Services PwmState Call Asked PwmBody
+abbrev pub pwm : PwmTable → Services PwmState Call Asked PwmBody
 pwm d = record {
   basis = pwm_basis d;
   bodies = pwm_bodies d;
@@ -70,7 +66,7 @@ pwm d = record {
   body_of = λ line. body_by (channel_of_line d line);
 }
 
-bodies_right : (d : PwmDriver) → AreLong (pwm_basis d) (pwm_bodies d)
+bodies_right : (d : PwmTable) → AreLong (pwm_basis d) (pwm_bodies d)
 bodies_right d =
     let g = pwm_basis d in
     let whole = both_right g (begin_bodies d) (deinit_bodies d) (init_right d) (deinit_right d) in
@@ -81,7 +77,7 @@ bodies_right d =
 
 -- ---- windows
 
-sees : (d : PwmDriver) (k : PwmBody) (x : ℕ) → SeesTo pwm_seen (is_closed ((pwm_bodies d).assertion k)) ((pwm_bodies d).work_of k) k ((pwm_bodies d).takes k x)
+sees : (d : PwmTable) (k : PwmBody) (x : ℕ) → SeesTo pwm_seen (is_closed ((pwm_bodies d).assertion k)) ((pwm_bodies d).work_of k) k ((pwm_bodies d).takes k x)
 sees d (First (First k)) x = setup_sees d k x
 sees d (First (Second k)) x = deinit_sees k x
 sees d (Second (First (First k))) x = output_sees k x
@@ -90,7 +86,7 @@ sees d (Second (First (Second (Second k)))) x = let p = notify_takes k x in plai
 sees d (Second (Second k)) x = let p = serve_takes k x in plain_sees true (serve_work k) p.1.event p.1.done (serve_plain k)
 
 -- a call that begins hasn't acted
-unseen : (d : PwmDriver) (below : Reservations) (chip : Chip) (w : World) (s : PwmState) (k : PwmBody) (call : Call) → AssertedAt (pwm_basis d) (pwm_bodies d) below chip w s k (Called call) fresh_history → Starts (pwm_seen k)
+unseen : (d : PwmTable) (below : Reservations) (chip : Chip) (w : World) (s : PwmState) (k : PwmBody) (call : Call) → AssertedAt (pwm_basis d) (pwm_bodies d) below chip w s k (Called call) fresh_history → Starts (pwm_seen k)
 unseen d below chip w s (First (First k)) call h = setup_unseen k.place
 unseen d below chip w s (First (Second (deinits.Store e))) call h = tt
 unseen d below chip w s (First (Second (deinits.Disable e))) call h = begun_after (pwm_machine d) (Called call) h.1.told _ h.1.is h.1.at.0
@@ -110,17 +106,17 @@ error_in_out None = None
 error_in_out (Some out) = out.told.error
 
 -- beside a Pwm_Init no Pwm_Init begins
-blocked : (d : PwmDriver) (o : Origin Call) → o ≡ Called calls.Init → blocks (class_of calls.Init) (mark_of (pwm_setting d) o) ≡ true
+blocked : (d : PwmTable) (o : Origin Call) → o ≡ Called calls.Init → blocks (class_of calls.Init) (mark_of (pwm_setting d) o) ≡ true
 blocked d o e = ap (λ (x : Origin Call). blocks (class_of calls.Init) (mark_of (pwm_setting d) x)) e
 
-alone : (d : PwmDriver) (on : Bool) (below : Reservations) → AllRight on below → AllLet (pwm_setting d) (class_of calls.Init) below → Alone below
+alone : (d : PwmTable) (on : Bool) (below : Reservations) → AllRight on below → AllLet (pwm_setting d) (class_of calls.Init) below → Alone below
 alone d on [] right lets = Is_alone
 alone d on (h ∷ hs) right lets = absurd (let f = sym (blocked d h.by right.0) ∙ lets.0 in cc)
 
 not_none : (k : Option Channel) → k ≡ None → is_some k ≡ true → ⊥
 not_none k e i = let f : is_some k ≡ false = ap (λ x. is_some x) e in cc
 
-module _ (d : PwmDriver) (fits : FitsPwm d) (below : Reservations) (chip : Chip) (w : World) (s : PwmState) (h : PwmRepresents d below settled chip w s) where
+module _ (d : PwmTable) (fits : FitsPwm d) (below : Reservations) (chip : Chip) (w : World) (s : PwmState) (h : PwmRepresents d below settled chip w s) where
   abbrev Looks : Call → Looked PwmBody → Type 0
   Looks call l = Decides (pwm d) below chip w s call l
 
@@ -173,14 +169,14 @@ handled_by None = refl
 handled_by (Some k) = refl
 
 -- the body is that of the handler of a configured channel, whose line this is
-pub record Handles (d : PwmDriver) (line : ℕ) (k : PwmBody) : Type 0 where
+pub record Handles (d : PwmTable) (line : ℕ) (k : PwmBody) : Type 0 where
   pub number : ℕ
   pub at : line ≡ number + 8
   pub channel : Channel
   pub known : channel_of d number ≡ Some channel
   pub is : serve_body (Kinds number) ≡ k
 
-module _ (d : PwmDriver) (fits : FitsPwm d) where
+module _ (d : PwmTable) (fits : FitsPwm d) where
   entered_by : (line : ℕ) (k : PwmBody) (q : Option Channel) → channel_of_line d line ≡ q → body_by q ≡ Some k → Handles d line k
   entered_by line k None e is = absurd (cc)
   entered_by line k (Some x) e is = by (nat_lt line 8) refl e
@@ -321,5 +317,5 @@ module _ (d : PwmDriver) (fits : FitsPwm d) where
   lawful = services_lawful (pwm d) pwm_right
 
 -- it leaves the peripheral rate alone, and has no watchdog
-pub slow_pulses : (d : PwmDriver) (chip : Chip) (w : World) (ps : List (Short Asked PwmBody × Open Call)) (s : PwmState) → FitsPwm d → (services_driver (pwm d)).relates chip w ps s → (services_driver (pwm d)).setting.machine.rate s ≤ 16
+pub slow_pulses : (d : PwmTable) (chip : Chip) (w : World) (ps : List (Short Asked PwmBody × Open Call)) (s : PwmState) → FitsPwm d → (services_driver (pwm d)).relates chip w ps s → (services_driver (pwm d)).setting.machine.rate s ≤ 16
 slow_pulses d chip w ps s fits h = omega arith

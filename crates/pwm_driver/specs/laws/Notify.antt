@@ -1,5 +1,5 @@
 -- Pwm_EnableNotification and Pwm_DisableNotification: their steps, what holds at each, and that they are right.
--- From Parts, Base, Flags, Units, Look.
+-- From Parts, Base, pwm_machine: Channels, Flags, Units and 3 more.
 -- Used by Lawful, service/notify/rt, Windows.
 use Rattle.std.proofs.Common.{◌≡◌, ◌≢◌, ◌+◌, ◌<◌, ◌≤◌, ◌^◌, ◌&&◌, ◌||◌, ◌∙◌}
 use Rattle.pwm_driver.specs.Terms
@@ -8,17 +8,13 @@ use Terms.{both_other, both_rising, by_eight, Call, Channel, channel_of, channel
 use Terms.{Chip, chip_after, Choose, Clear, clear_apart, DisableNotification, Drop, each_but, EnableNotification, ends}
 use Terms.{eq_other, eq_self, Falling, falls, false, Find, goes, has_bit, has_bit-or, has_bit-without, has_one}
 use Terms.{has_other, Is_after, Is_before, is_some, IsQuiet, KindAgrees, KINDS, kinds, Lag, Loads, LongBodies, Move}
-use Terms.{no_answer, None, not, not_it, not_low, Nothing, NotifyBody, only, Option, Origin, outcome, past_it}
-use Terms.{period_word, polarity_of, pulse_at, PulseEdges, PulseFlags, Pulses, pwm_basis, PwmDriver, PwmEdge}
-use Terms.{PwmRepresents, PwmState, refl, Reservations, rises, Rising, set_apart, settled, Shortens, Some, stands-move}
-use Terms.{STATE, Store, stored_other, stored_same, subst, switched, sym, tells_nothing, Told, true, UnitAgrees}
-use Terms.{with_kinds, with_pulse, without, word_of, World, Write, ℕ}
+use Terms.{no_answer, None, not, not_it, not_low, Nothing, NotifyBody, only, Option, Origin, outcome, past_it, period_word, polarity_of, pulse_at, PulseEdges, PulseFlags, Pulses, pwm_basis, PwmTable, PwmEdge, PwmRepresents, PwmState, refl, Reservations, rises, Rising, set_apart, settled, Shortens, Some, stands-move, STATE, Store, stored_other, stored_same, subst, switched, sym, tells_nothing, Told, true, UnitAgrees, with_kinds, with_pulse, without, word_of, World, Write, ℕ}
 use Rattle.pwm_driver.specs.declared.service.notify.NotifyBody.TheVariants.{Load, Keep}
 use Rattle.pwm_driver.specs.laws.{Base.{AllGood, steady_above, family, family_right}, Flags.{begun_later}}
 use Rattle.pwm_driver.specs.laws.{Flags.{unflagged_agrees, flags_cleared}, Look.{MayAct}, Units.{none_held}}
 use Rattle.pwm_driver.specs.laws.{Units.{kinds_not_state, kinds_not_period}}
 use Rattle.chip_pulses.specs.Pulses as pulses
-use Rattle.pwm_driver.specs.declared.call.Call.TheVariants as calls
+use Rattle.pwm_machine.specs.declared.call.Call.TheVariants as calls
 
 abbrev pub notify_work : NotifyBody → Move
 notify_work (Load c edge) = Loads KINDS
@@ -58,10 +54,10 @@ on_call c edge = calls.Channel c (EnableNotification edge)
 abbrev pub off_call : ℕ → Call
 off_call c = calls.Channel c DisableNotification
 
-abbrev pub Asks : PwmDriver → PwmState → ℕ → Call → Origin Call → Option Told → Type 0
+abbrev pub Asks : PwmTable → PwmState → ℕ → Call → Origin Call → Option Told → Type 0
 Asks d s c call o t = Before call o t × (k : Channel) × MayAct d s c call k
 
-abbrev pub notify_holds : PwmDriver → Pulses → ℕ → PwmState → NotifyBody → Origin Call → Option Told → Type 0
+abbrev pub notify_holds : PwmTable → Pulses → ℕ → PwmState → NotifyBody → Origin Call → Option Told → Type 0
 notify_holds d f now s (Load c edge) o t = Asks d s c (on_call c edge) o t
 notify_holds d f now s (Choose c k) o t = (edge : PwmEdge) × Asks d s c (on_call c edge) o t × (k ≡ with_kinds f.edges c edge)
 notify_holds d f now s (Clear c k) o t = (edge : PwmEdge) × Asks d s c (on_call c edge) o t × (f.edges ≡ k) × KindAgrees f.edges c (Some edge)
@@ -69,7 +65,7 @@ notify_holds d f now s (Find c) o t = Asks d s c (off_call c) o t
 notify_holds d f now s (Drop k) o t = (c : ℕ) × Asks d s c (off_call c) o t × (k ≡ without f.edges (both c))
 notify_holds d f now s (Keep k) o t = (call : Call) × After call tells_nothing o t × (f.edges ≡ k) × (s.initialised ≡ true)
 
-abbrev pub notify_bodies : (d : PwmDriver) → LongBodies (pwm_basis d) NotifyBody
+abbrev pub notify_bodies : (d : PwmTable) → LongBodies (pwm_basis d) NotifyBody
 notify_bodies d = family d notify_work notify_takes notify_left notify_gap (notify_holds d)
 
 -- ---- the bits of a channel among all
@@ -114,7 +110,7 @@ with_other e c k edge lt few ne nf = has_bit-or (without e (both c)) (kinds c ed
 others_same : (e e1 c k : ℕ) (n : Option PwmEdge) → k < 8 → k ≢ c → ((j : ℕ) → j < 16 → j ≢ c → j ≢ c + 8 → has_bit e1 j ≡ has_bit e j) → c < 8 → KindAgrees e k n → KindAgrees e1 k n
 others_same e e1 c k n lt ne same here h = record { rising = same k (omega (arith, lt)) ne (past_it c k lt) ∙ h.rising; falling = same (k + 8) (omega (arith, lt)) (not_low c k here) (not_it c k ne) ∙ h.falling }
 
-module _ (d : PwmDriver) where
+module _ (d : PwmTable) where
   -- the changes of a channel are chosen
   chosen_now : (below : Reservations) (chip : Chip) (w : World) (s : PwmState) (c : ℕ) (edge : PwmEdge) → c < 8 → s.initialised ≡ true → PwmRepresents d below settled chip w s → PwmRepresents d below (choosing c) (chip_after chip (Write PulseEdges (with_kinds chip.pulses.edges c edge)) 0) w s
   chosen_now below chip w s c edge lt on h = record {

@@ -1,5 +1,5 @@
 -- Pwm_SetDutyCycle and Pwm_SetPeriodAndDuty: their steps, what holds at each, and that they are right.
--- From Units, Base, Parts, Look.
+-- From Units, Base, pwm_machine: Channels, Parts, Look.
 -- Used by service/output/rt, Lawful, Windows, InitWrites, InitRight.
 use Rattle.std.proofs.Common.{◌≡◌, ◌<◌, ◌≤◌, ◌==◌, ◌∙◌, if◌then◌else◌}
 use Rattle.pwm_driver.specs.Terms
@@ -7,16 +7,13 @@ use Terms.{absolute, Act, acts, acts_by, After, ap, AreLong, arith, Before, behi
 use Terms.{by_eight, Call, Channel, channel_of, channel_same, channel_work, ChannelCall, Chip, chip_after, Duty, ends}
 use Terms.{eq_self, false, goes, Is_after, Is_before, Keep, Lag, level, Loads, LongBodies, missed_after, Move}
 use Terms.{no_answer, None, none, not, Nothing, only, Option, Origin, outcome, OutputBody, over, Period, period_word}
-use Terms.{Polarity, polarity_of, Pulse, pulse_at, pulse_at-same, PulseCommit, PulseDuty, PulsePeriod, PulsePolarity}
-use Terms.{Pulses, put_out, pwm_basis, pwm_machine, pwm_may, PwmDriver, PwmRepresents, PwmState, refl, Reservations}
-use Terms.{set_to, SetDutyCycle, SetPeriodAndDuty, settled, Shortens, Some, some_is, stands-move, StandsIn, StepsTo}
-use Terms.{Store, subst, sym, tells_nothing, Told, true, UnitAgrees, Want, Wave, with_new, with_pulse, World, Write, ℕ}
+use Terms.{Polarity, polarity_of, Pulse, pulse_at, pulse_at-same, PulseCommit, PulseDuty, PulsePeriod, PulsePolarity, Pulses, put_out, pwm_basis, pwm_machine, pwm_may, PwmTable, PwmRepresents, PwmState, refl, Reservations, set_to, SetDutyCycle, SetPeriodAndDuty, settled, Shortens, Some, some_is, stands-move, StandsIn, StepsTo, Store, subst, sym, tells_nothing, Told, true, UnitAgrees, Want, Wave, with_new, with_pulse, World, Write, ℕ}
 use Rattle.pwm_driver.specs.declared.service.output.OutputBody.TheVariants.{Load, Commit}
 use Rattle.pwm_driver.specs.laws.{Base.{AllGood, steady_above, family, family_right, pulses_of}, Look.{MayAct}}
 use Rattle.pwm_driver.specs.laws.{Units.{chip_with, unit_set, both_set, waved, perioded, commit_agrees, period_kept}}
 use Rattle.chip_pulses.specs.Pulses as pulses
 use Rattle.chip_pulses.specs.declared.pulse.Pulse as unit
-use Rattle.pwm_driver.specs.declared.call.Call.TheVariants as calls
+use Rattle.pwm_machine.specs.declared.call.Call.TheVariants as calls
 
 abbrev pub output_work : OutputBody → Move
 output_work (Load r) = Loads (period_word r.channel)
@@ -56,7 +53,7 @@ IsLast true period x = Unit {0}
 IsLast false period x = period ≡ x.period
 
 -- a call that sets the output so, of a configured channel
-pub record Wants (d : PwmDriver) (s : PwmState) (r : Want) (o : Origin Call) (t : Option Told) : Type 0 where
+pub record Wants (d : PwmTable) (s : PwmState) (r : Want) (o : Origin Call) (t : Option Told) : Type 0 where
   pub call : Before (calls.Channel r.channel (asked_by r.keeps r.period r.duty)) o t
   pub channel : Channel
   pub may : MayAct d s r.channel (calls.Channel r.channel (asked_by r.keeps r.period r.duty)) channel
@@ -66,7 +63,7 @@ pub record Wants (d : PwmDriver) (s : PwmState) (r : Want) (o : Origin Call) (t 
 abbrev pub wave_at : Pulses → ℕ → Wave
 wave_at f c = (pulses.pulse_at f c).wave
 
-abbrev pub output_holds : PwmDriver → Pulses → ℕ → PwmState → OutputBody → Origin Call → Option Told → Type 0
+abbrev pub output_holds : PwmTable → Pulses → ℕ → PwmState → OutputBody → Origin Call → Option Told → Type 0
 output_holds d f now s (Load r) o t = Before (calls.Channel r.channel (SetDutyCycle r.duty)) o t × (k : Channel) × MayAct d s r.channel (calls.Channel r.channel (SetDutyCycle r.duty)) k × (r.high ≡ k.polarity_high) × (r.keeps ≡ false)
 output_holds d f now s (Period r) o t = Wants d s r o t
 output_holds d f now s (Duty r) o t = Wants d s r o t × ((wave_at f r.channel).period ≡ r.period)
@@ -74,7 +71,7 @@ output_holds d f now s (Polarity r) o t = Wants d s r o t × ((wave_at f r.chann
 output_holds d f now s (Commit r) o t = Wants d s r o t × (wave_at f r.channel ≡ record { period = r.period; duty = absolute r.period r.duty; high = r.high })
 output_holds d f now s (Keep r) o t = After (calls.Channel r.channel (SetPeriodAndDuty r.period r.duty)) tells_nothing o t × (r.channel < 8) × (s.initialised ≡ true) × (r.period ≡ (pulse_at s r.channel).period)
 
-abbrev pub output_bodies : (d : PwmDriver) → LongBodies (pwm_basis d) OutputBody
+abbrev pub output_bodies : (d : PwmTable) → LongBodies (pwm_basis d) OutputBody
 output_bodies d = family d output_work output_takes output_left output_gap (output_holds d)
 
 may_load : (c : ℕ) → c < 8 → pwm_may (Loads (period_word c)) ≡ true
@@ -90,7 +87,7 @@ pub level_set : (high : Bool) → not (level high == 0) ≡ high
 level_set true = refl
 level_set false = refl
 
-loaded : (d : PwmDriver) (s : PwmState) (r : Want) (o : Origin Call) (t : Option Told) (k : Channel) (x : ℕ) (q : Bool) → q ≡ false → r.keeps ≡ q → Before (calls.Channel r.channel (SetDutyCycle r.duty)) o t → MayAct d s r.channel (calls.Channel r.channel (SetDutyCycle r.duty)) k → r.high ≡ k.polarity_high → x ≡ (pulse_at s r.channel).period → Wants d s (record r { period = x }) o t
+loaded : (d : PwmTable) (s : PwmState) (r : Want) (o : Origin Call) (t : Option Told) (k : Channel) (x : ℕ) (q : Bool) → q ≡ false → r.keeps ≡ q → Before (calls.Channel r.channel (SetDutyCycle r.duty)) o t → MayAct d s r.channel (calls.Channel r.channel (SetDutyCycle r.duty)) k → r.high ≡ k.polarity_high → x ≡ (pulse_at s r.channel).period → Wants d s (record r { period = x }) o t
 loaded d s r o t k x true g e b i h is = absurd (cc)
 loaded d s r o t k x false g e b i h is = record {
   call = subst (λ z. Before (calls.Channel r.channel (asked_by z x r.duty)) o t) (sym e) b;
@@ -100,7 +97,7 @@ loaded d s r o t k x false g e b i h is = record {
   last = subst (λ z. IsLast z x (pulse_at s r.channel)) (sym e) is;
 }
 
-module _ (d : PwmDriver) (below : Reservations) (chip : Chip) (w : World) (s : PwmState) (r : Want) (o : Origin Call) (t : Option Told) (i : Wants d s r o t) (h : PwmRepresents d below settled chip w s) where
+module _ (d : PwmTable) (below : Reservations) (chip : Chip) (w : World) (s : PwmState) (r : Want) (o : Origin Call) (t : Option Told) (i : Wants d s r o t) (h : PwmRepresents d below settled chip w s) where
   abbrev p : unit.Pulse
   p = pulses.pulse_at chip.pulses r.channel
 
@@ -121,7 +118,7 @@ module _ (d : PwmDriver) (below : Reservations) (chip : Chip) (w : World) (s : P
       let whole = perioded i.channel.polarity_high w.now (pulses.taken chip.pulses.time p) (put_out (Some i.channel) w.now (with_new w.now r.period (absolute r.period r.duty) x.output) x) r.period made in
       both_set d below chip w s r.channel i.may.lt i.may.on (some_is _ i.channel i.may.known) (pulses.taken chip.pulses.time p) (set_to (Some i.channel) w.now r.period r.duty x) after same refl (stands-move chip w (Write (PulseCommit r.channel) 1) 0 h.outside) (subst (λ z. UnitAgrees (polarity_of z) w.now (pulses.taken chip.pulses.time p) (set_to (Some i.channel) w.now r.period r.duty x)) (sym i.may.known) whole) h
 
-module _ (d : PwmDriver) where
+module _ (d : PwmTable) where
   abbrev Commits : Reservations → Chip → World → PwmState → Want → Origin Call → Option Told → (ℕ → Bool) → Bool → Type 0
   Commits below chip w s r o t m q = StepsTo (over (pwm_basis d) below) (steady_above d output_work output_takes output_left output_gap (output_holds d) below) (chip_after chip (Write (PulseCommit r.channel) 1) 0) w s o (Write (PulseCommit r.channel) 1) false t m (if q then (Keep r, acts) else (Commit r, ends (Some Act) no_answer Nothing))
 

@@ -1,5 +1,5 @@
 -- The basis keeps what it owes: at the start, in time, under moves elsewhere and over a reset.
--- From Parts, Relation.
+-- From service_outline: Words, pwm_machine: Channels, service_outline: There, pwm_machine: Relation, FlagRelation.
 -- Used by Serve, Keeps, Base, Lawful, InitRight and 1 more.
 use Rattle.std.proofs.Common.{◌≡◌, ◌+◌, ◌-◌, ◌/◌, ◌%◌, ◌<◌, ◌≤◌, ◌^◌, ◌&&◌, ◌||◌, ◌==◌, [], ◌∷◌, ◌∙◌, if◌then◌else◌}
 use Rattle.pwm_driver.specs.Terms
@@ -12,17 +12,13 @@ use Terms.{is_masked, is_own_word, is_pending, is_shared, is_some, IsBasis, IsQu
 use Terms.{Lag, length, Level, level_at, level_leaves, line-pulse, LinesAgree, Load, may_name, may_write, MayCome, Move}
 use Terms.{move_there, names_there, nat_lt, nat_tests, None, not, Option, Order, Outcome, outcome, owns_written}
 use Terms.{period_word, PinFlip, polarity_of, PowerOn, Pulse, pulse_at, PulseCommit, PulseDuty, PulseEdges, PulseFlags}
-use Terms.{PulseIdle, PulseOut, PulsePeriod, PulsePolarity, pulses_fresh, pwm_basis, pwm_may, pwm_owns, pwm_setting}
-use Terms.{PwmDriver, PwmEdge, PwmRepresents, PwmState, rate-left, Read, ready, ready_by, Reason, refl, Reg}
-use Terms.{Reservations, reset_chip, ResetRequest, resets_chip, rises, Rising, SerialData, set_apart, sets_rate}
-use Terms.{settled, silent, slice_index-blank, slice_index_or, Some, some_same, SOURCES, stands-event, stands-move}
-use Terms.{stands-reset, StandsIn, STATE, Steady, Store, stores_in, subst, sym, tells_nothing, Tick, TimerLow, true}
-use Terms.{UnitAgrees, within, word_apart, word_later, word_of, work, World, world_after, Write, ℕ}
-use Rattle.pwm_driver.specs.declared.call.Call.TheVariants.{Channel}
-use Rattle.pwm_driver.specs.laws.Relation.{level_same, flagged_same}
+use Terms.{PulseIdle, PulseOut, PulsePeriod, PulsePolarity, pulses_fresh, pwm_basis, pwm_may, pwm_owns, pwm_setting, PwmTable, PwmEdge, PwmRepresents, PwmState, rate-left, Read, ready, ready_by, Reason, refl, Reg, Reservations, reset_chip, ResetRequest, resets_chip, rises, Rising, SerialData, set_apart, sets_rate, settled, silent, slice_index-blank, slice_index_or, Some, some_same, SOURCES, stands-event, stands-move, stands-reset, StandsIn, STATE, Steady, Store, stores_in, subst, sym, tells_nothing, Tick, TimerLow, true, UnitAgrees, within, word_apart, word_later, word_of, work, World, world_after, Write, ℕ}
+use Rattle.pwm_machine.specs.declared.call.Call.TheVariants.{Channel}
+use Rattle.pwm_machine.specs.laws.Relation.{level_same}
+use Rattle.pwm_driver.specs.laws.FlagRelation.{flagged_same}
 use Rattle.chip_pulses.specs.Pulses as pulses
 use Rattle.chip_pulses.specs.declared.pulse.Pulse as unit
-use Rattle.pwm_driver.specs.declared.driver.Channel as configured
+use Rattle.pwm_machine.specs.declared.table.Channel as configured
 
 -- ---- after a reset
 
@@ -35,7 +31,7 @@ silent_agrees high now = record { output = refl; begun = tt; past = omega arith;
 no_bit : (k : ℕ) → has_bit 0 k ≡ false
 no_bit k = has_bit-zero k
 
-reset_agrees : (d : PwmDriver) (chip : Chip) (w : World) (reason : Reason) → StandsIn chip w → PwmRepresents d [] settled (reset_chip chip reason) w first_state
+reset_agrees : (d : PwmTable) (chip : Chip) (w : World) (reason : Reason) → StandsIn chip w → PwmRepresents d [] settled (reset_chip chip reason) w first_state
 reset_agrees d chip w reason h = record {
   right = tt;
   setup = tt;
@@ -54,14 +50,14 @@ reset_agrees d chip w reason h = record {
 period_low : (c : ℕ) → c < 8 → is_own_word (period_word c) ≡ true
 period_low c lt = by_eight (λ i. is_own_word (period_word i) ≡ true) refl refl refl refl refl refl refl refl c lt
 
-same_setup : (d : PwmDriver) (held : Reservations) (chip chip1 : Chip) → chip1.pulses.pulses ≡ chip.pulses.pulses → ((k : ℕ) → is_own_word k ≡ true → word_of chip1 k ≡ word_of chip k) → AllSetUp d held chip → AllSetUp d held chip1
+same_setup : (d : PwmTable) (held : Reservations) (chip chip1 : Chip) → chip1.pulses.pulses ≡ chip.pulses.pulses → ((k : ℕ) → is_own_word k ≡ true → word_of chip1 k ≡ word_of chip k) → AllSetUp d held chip → AllSetUp d held chip1
 same_setup d [] chip chip1 e words h = tt
 same_setup d (x ∷ xs) chip chip1 e words h = (λ c lt. subst (λ v. IsSetUp (channel_of d c) x.what.upto c v (pulses.pulse_at chip1.pulses c).wave) (sym (words (period_word c) (period_low c lt))) (subst (λ ps. IsSetUp (channel_of d c) x.what.upto c (word_of chip (period_word c)) (slice_index_or ps c pulses.silent).wave) (sym e) (h.0 c lt)), same_setup d xs chip chip1 e words h.1)
 
 unit_later : (high : Bool) (now later : ℕ) (p : unit.Pulse) (x : Pulse) → now ≤ later → UnitAgrees high now p x → UnitAgrees high later p x
 unit_later high now later p x le h = let past = h.past in record { output = h.output; begun = h.begun; past = omega (arith, past, le); marks = h.marks }
 
-pub same_agrees : (d : PwmDriver) (held : Reservations) (gap : Lag) (chip chip1 : Chip) (w w1 : World) (s : PwmState) → StandsIn chip1 w1 → w.now ≤ w1.now → chip1.pulses.pulses ≡ chip.pulses.pulses → chip1.pulses.edges ≡ chip.pulses.edges → ((k : ℕ) → is_own_word k ≡ true → word_of chip1 k ≡ word_of chip k) → ((c : ℕ) → c < 8 → has_bit chip1.control.enabled (c + 8) ≡ has_bit chip.control.enabled (c + 8)) → PwmRepresents d held gap chip w s → PwmRepresents d held gap chip1 w1 s
+pub same_agrees : (d : PwmTable) (held : Reservations) (gap : Lag) (chip chip1 : Chip) (w w1 : World) (s : PwmState) → StandsIn chip1 w1 → w.now ≤ w1.now → chip1.pulses.pulses ≡ chip.pulses.pulses → chip1.pulses.edges ≡ chip.pulses.edges → ((k : ℕ) → is_own_word k ≡ true → word_of chip1 k ≡ word_of chip k) → ((c : ℕ) → c < 8 → has_bit chip1.control.enabled (c + 8) ≡ has_bit chip.control.enabled (c + 8)) → PwmRepresents d held gap chip w s → PwmRepresents d held gap chip1 w1 s
 same_agrees d held gap chip chip1 w w1 s outside le units edges words enabled h = record {
   right = h.right;
   setup = same_setup d held chip chip1 units words h.setup;
@@ -85,7 +81,7 @@ same_agrees d held gap chip chip1 w w1 s outside le units edges words enabled h 
 word_low : (k : ℕ) → is_own_word k ≡ true → k < SOURCES
 word_low k e = let lt : k < 24640 = grind (arith, nat_tests) in omega (arith, lt)
 
-later_agrees : (d : PwmDriver) (held : Reservations) (gap : Lag) (chip : Chip) (w : World) (s : PwmState) (order : Order) → MayCome (pwm_setting d) held chip w s order → PwmRepresents d held gap chip w s → PwmRepresents d held gap (happened chip order) (world_after w chip.clock.rate order) s
+later_agrees : (d : PwmTable) (held : Reservations) (gap : Lag) (chip : Chip) (w : World) (s : PwmState) (order : Order) → MayCome (pwm_setting d) held chip w s order → PwmRepresents d held gap chip w s → PwmRepresents d held gap (happened chip order) (world_after w chip.clock.rate order) s
 later_agrees d held gap chip w s order come h = by_order order (stands-event chip w order (fills_there (pwm_setting d) (is_masked chip) w s come.frames order come.free) h.outside) (λ k own. word_later chip order k h.outside.all.words (word_low k own))
   where
     by_order : (order : Order) → StandsIn (happened chip order) (world_after w chip.clock.rate order) → ((k : ℕ) → is_own_word k ≡ true → word_of (happened chip order) k ≡ word_of chip k) → PwmRepresents d held gap (happened chip order) (world_after w chip.clock.rate order) s
@@ -154,7 +150,7 @@ unstored : (made : Move) → pwm_owns made ≡ false → stores_in is_own_word m
 unstored (Store k v) e = e
 unstored _ e = refl
 
-apart_agrees : (d : PwmDriver) (held : Reservations) (gap : Lag) (chip : Chip) (w : World) (s : PwmState) (made : Move) (received : ℕ) → pwm_owns made ≡ false → PwmRepresents d held gap chip w s → PwmRepresents d held gap (chip_after chip made received) w s
+apart_agrees : (d : PwmTable) (held : Reservations) (gap : Lag) (chip : Chip) (w : World) (s : PwmState) (made : Move) (received : ℕ) → pwm_owns made ≡ false → PwmRepresents d held gap chip w s → PwmRepresents d held gap (chip_after chip made received) w s
 apart_agrees d held gap chip w s made received e h = same_agrees d held gap chip (chip_after chip made received) w w s (stands-move chip w made received h.outside) (omega arith) (ap (λ b. b.pulses) (pulses_apart chip made received e)) (ap (λ b. b.edges) (pulses_apart chip made received e)) (λ k own. word_apart is_own_word chip made received k (unstored made e) own) (λ c lt. enabled_apart chip made received c e lt) h
 
 -- ---- what a frame may do
@@ -243,7 +239,7 @@ chosen_is Rising false b = refl
 chosen_is Falling a b = refl
 chosen_is Both a b = refl
 
-pub due_here : (d : PwmDriver) (held : Reservations) (chip : Chip) (w : World) (s : PwmState) (c : ℕ) → c < 8 → PwmRepresents d held settled chip w s → pulses.is_due chip.pulses c ≡ is_marked_by (pulse_at s c).notified (polarity_of (channel_of d c)) w.now (pulse_at s c)
+pub due_here : (d : PwmTable) (held : Reservations) (chip : Chip) (w : World) (s : PwmState) (c : ℕ) → c < 8 → PwmRepresents d held settled chip w s → pulses.is_due chip.pulses c ≡ is_marked_by (pulse_at s c).notified (polarity_of (channel_of d c)) w.now (pulse_at s c)
 due_here d held chip w s c lt h = due_by chip.pulses.edges c (pulse_at s c).notified (pulses.is_flagged true p chip.pulses.time) (pulses.is_flagged false p chip.pulses.time) (h.kinds c lt refl) ∙ by (pulse_at s c).notified refl
   where
     p : unit.Pulse
@@ -259,16 +255,16 @@ number_small line le lt = omega (arith, le, lt)
 number_back : (line : ℕ) → 8 ≤ line → line - 8 + 8 ≡ line
 number_back line le = omega (arith, le)
 
-of_line : (d : PwmDriver) (line : ℕ) → 8 ≤ line → channel_of_line d line ≡ channel_of d (line - 8)
+of_line : (d : PwmTable) (line : ℕ) → 8 ≤ line → channel_of_line d line ≡ channel_of d (line - 8)
 of_line d line le = ap (λ q. if q then None else channel_of d (line - 8)) (not_low line le)
   where
     not_low : (line : ℕ) → 8 ≤ line → nat_lt line 8 ≡ false
     not_low line le = grind (arith, nat_tests)
 
-pub quiet_none : (d : PwmDriver) (w : World) (s : PwmState) (c : ℕ) → IsQuiet (pulse_at s c) → is_marked_by (pulse_at s c).notified (polarity_of (channel_of d c)) w.now (pulse_at s c) ≡ false
+pub quiet_none : (d : PwmTable) (w : World) (s : PwmState) (c : ℕ) → IsQuiet (pulse_at s c) → is_marked_by (pulse_at s c).notified (polarity_of (channel_of d c)) w.now (pulse_at s c) ≡ false
 quiet_none d w s c q = ap (λ n. is_marked_by n (polarity_of (channel_of d c)) w.now (pulse_at s c)) q.off
 
-pub due_line : (d : PwmDriver) (held : Reservations) (chip : Chip) (w : World) (s : PwmState) (line : ℕ) → 8 ≤ line → line < 16 → PwmRepresents d held settled chip w s → is_pending chip line ≡ ready d w s line
+pub due_line : (d : PwmTable) (held : Reservations) (chip : Chip) (w : World) (s : PwmState) (line : ℕ) → 8 ≤ line → line < 16 → PwmRepresents d held settled chip w s → is_pending chip line ≡ ready d w s line
 due_line d held chip w s line le lt h =
     line-pulse chip line le lt
     ∙ (ap (λ q. q && has_bit chip.control.enabled line) (due_here d held chip w s (line - 8) (number_small line le lt) h)
@@ -297,7 +293,7 @@ due_line d held chip w s line le lt h =
     by (Some k) true e i a = on_there _ _ (enabled s.initialised i a) ∙ (ap (λ o. is_marked_by x.notified (polarity_of o) w.now x) e ∙ sym (ap (λ q. q && is_marked_by x.notified k.polarity_high w.now x) i))
     by (Some k) false e i a = none_there _ _ (quiet_none d w s c (h.clean i c (number_small line le lt))) ∙ sym (ap (λ q. q && is_marked_by x.notified k.polarity_high w.now x) i)
 
-pends : (d : PwmDriver) (held : Reservations) (chip : Chip) (w : World) (s : PwmState) (line : ℕ) → not (nat_lt line 8) && nat_lt line 16 ≡ true → PwmRepresents d held settled chip w s → is_pending chip line ≡ ready d w s line
+pends : (d : PwmTable) (held : Reservations) (chip : Chip) (w : World) (s : PwmState) (line : ℕ) → not (nat_lt line 8) && nat_lt line 16 ≡ true → PwmRepresents d held settled chip w s → is_pending chip line ≡ ready d w s line
 pends d held chip w s line e h = let l = line_in line e in due_line d held chip w s line l.0 l.1 h
 
 unready : (k : Option configured.Channel) (w : World) (s : PwmState) (c : ℕ) → is_some k ≡ false → ready_by k w s c ≡ false
@@ -308,7 +304,7 @@ ready_used : (k : Option configured.Channel) (w : World) (s : PwmState) (c : ℕ
 ready_used None w s c e = absurd (cc)
 ready_used (Some k) w s c e = refl
 
-used_line : (d : PwmDriver) (line : ℕ) → is_some (channel_of_line d line) ≡ true → not (nat_lt line 8) && nat_lt line 16 ≡ true
+used_line : (d : PwmTable) (line : ℕ) → is_some (channel_of_line d line) ≡ true → not (nat_lt line 8) && nat_lt line 16 ≡ true
 used_line d line e = by (nat_lt line 8) refl e
   where
     few : (line : ℕ) → nat_lt line 8 ≡ false → line - 8 < 8 → nat_lt line 16 ≡ true
@@ -320,7 +316,7 @@ used_line d line e = by (nat_lt line 8) refl e
 
 -- ---- the outputs
 
-pub outputs_same : (d : PwmDriver) (held : Reservations) (chip : Chip) (w : World) (s : PwmState) (c : ℕ) → c < 8 → PwmRepresents d held settled chip w s → pulses.level_at chip.pulses c ≡ level_at d w s c
+pub outputs_same : (d : PwmTable) (held : Reservations) (chip : Chip) (w : World) (s : PwmState) (c : ℕ) → c < 8 → PwmRepresents d held settled chip w s → pulses.level_at chip.pulses c ≡ level_at d w s c
 outputs_same d held chip w s c lt h =
     let u = h.units c lt refl in
     ap (λ o. pulses.output_level o chip.pulses.time) u.output
@@ -332,20 +328,20 @@ outputs_same d held chip w s c lt h =
 
 -- ---- errors
 
-work_tells : (d : PwmDriver) (w : World) (s : PwmState) (call : Call) (times : ℕ → ℕ) → (work d w s call times).told.error ≡ None
+work_tells : (d : PwmTable) (w : World) (s : PwmState) (call : Call) (times : ℕ → ℕ) → (work d w s call times).told.error ≡ None
 work_tells d w s Init times = refl
 work_tells d w s DeInit times = refl
 work_tells d w s (GetOutputState c) times = refl
 work_tells d w s (Channel c call) times = refl
 
-acts_leave : (d : PwmDriver) (w : World) (s : PwmState) (call : Call) (times : ℕ → ℕ) (e : Option ErrorName) → ErrorLeaves s (acts_by d w s call times e)
+acts_leave : (d : PwmTable) (w : World) (s : PwmState) (call : Call) (times : ℕ → ℕ) (e : Option ErrorName) → ErrorLeaves s (acts_by d w s call times e)
 acts_leave d w s call times None some = absurd (let k = subst (λ x. IsSome x) (work_tells d w s call times) some in cc)
 acts_leave d w s call times (Some e) some = (refl, refl)
 
-error_leaves : (d : PwmDriver) (w : World) (s : PwmState) (call : Call) (times : ℕ → ℕ) (out : Outcome PwmState) → happens d w s (Acts call times) ≡ Some out → ErrorLeaves s out
+error_leaves : (d : PwmTable) (w : World) (s : PwmState) (call : Call) (times : ℕ → ℕ) (out : Outcome PwmState) → happens d w s (Acts call times) ≡ Some out → ErrorLeaves s out
 error_leaves d w s call times out is = subst (λ o. ErrorLeaves s o) (some_same is) (acts_leave d w s call times (error_by d call (not s.initialised)))
 
-pub basis_right : (d : PwmDriver) → IsBasis (pwm_basis d)
+pub basis_right : (d : PwmTable) → IsBasis (pwm_basis d)
 basis_right d = record {
   starts = λ chip w wired stands. reset_agrees d chip w PowerOn stands;
   moves = λ held chip w s order come. refl;

@@ -1,20 +1,16 @@
 -- Pwm_SetOutputToIdle and Pwm_GetOutputState: their step, and that it is right.
--- From Base, Units, Parts, Look, RefinementRight.
+-- From Base, Units, Look, Parts, pwm_machine: Channels and 1 more.
 -- Used by service/rest/rt, Lawful, Windows.
 use Rattle.std.proofs.Common.{◌≡◌, ◌<◌, ◌≤◌, ◌==◌, ◌∙◌}
 use Rattle.pwm_driver.specs.Terms
 use Terms.{Act, acts_by, answers, ap, AreLong, arith, Ask, Before, below_test, bit_of, BodyTaken, Bool, Call, Called}
 use Terms.{Channel, channel_of, channel_work, Chip, chip_after, ends, false, Idle, Is_before, Lag, level, level_answer}
-use Terms.{level_at, LongBodies, missed_after, Move, no_answer, None, none, Nothing, Option, Origin, outcome, over}
-use Terms.{polarity_of, pulse_at, PulseIdle, PulseOut, Pulses, put_out, pwm_basis, pwm_machine, PwmDriver}
-use Terms.{PwmRepresents, PwmState, Read, refl, Reservations, Rest, RestBody, SetOutputToIdle, settled, Shortens, Some}
-use Terms.{some_is, stands-move, StandsIn, StepsTo, subst, sym, tells_nothing, Told, true, UnitAgrees, with_pulse}
-use Terms.{World, Write, ℕ}
+use Terms.{level_at, LongBodies, missed_after, Move, no_answer, None, none, Nothing, Option, Origin, outcome, over, polarity_of, pulse_at, PulseIdle, PulseOut, Pulses, put_out, pwm_basis, pwm_machine, PwmTable, PwmRepresents, PwmState, Read, refl, Reservations, Rest, RestBody, SetOutputToIdle, settled, Shortens, Some, some_is, stands-move, StandsIn, StepsTo, subst, sym, tells_nothing, Told, true, UnitAgrees, with_pulse, World, Write, ℕ}
 use Rattle.pwm_driver.specs.laws.{Base.{AllGood, steady_above, family, family_right}, RefinementRight.{outputs_same}}
 use Rattle.pwm_driver.specs.laws.{Look.{Passed, MayAct}, Units.{both_set, put_agrees, idle_written}}
 use Rattle.chip_pulses.specs.Pulses as pulses
 use Rattle.chip_pulses.specs.declared.pulse.Output.TheVariants as units
-use Rattle.pwm_driver.specs.declared.call.Call.TheVariants as calls
+use Rattle.pwm_machine.specs.declared.call.Call.TheVariants as calls
 
 abbrev pub rest_work : RestBody → Move
 rest_work (Rest c high) = Write (PulseIdle c) (level high)
@@ -33,11 +29,11 @@ rest_gap k = settled
 abbrev pub rest_call : ℕ → Call
 rest_call c = calls.Channel c SetOutputToIdle
 
-abbrev pub rest_holds : PwmDriver → Pulses → ℕ → PwmState → RestBody → Origin Call → Option Told → Type 0
+abbrev pub rest_holds : PwmTable → Pulses → ℕ → PwmState → RestBody → Origin Call → Option Told → Type 0
 rest_holds d f now s (Rest c high) o t = Before (rest_call c) o t × (k : Channel) × MayAct d s c (rest_call c) k × (high ≡ k.idle_high)
 rest_holds d f now s (Ask c) o t = Before (calls.GetOutputState c) o t × Passed d s (calls.GetOutputState c) × (c < 8)
 
-abbrev pub rest_bodies : (d : PwmDriver) → LongBodies (pwm_basis d) RestBody
+abbrev pub rest_bodies : (d : PwmTable) → LongBodies (pwm_basis d) RestBody
 rest_bodies d = family d rest_work rest_takes rest_left rest_gap (rest_holds d)
 
 -- ---- the write, and the read
@@ -46,7 +42,7 @@ level_read : (b : Bool) → (bit_of b == 1) ≡ b
 level_read true = refl
 level_read false = refl
 
-module _ (d : PwmDriver) where
+module _ (d : PwmTable) where
   rested : (below : Reservations) (chip : Chip) (w : World) (s : PwmState) (c : ℕ) (k : Channel) → MayAct d s c (rest_call c) k → PwmRepresents d below settled chip w s → PwmRepresents d below settled (chip_after chip (Write (PulseIdle c) (level k.idle_high)) 0) w (with_pulse s c (put_out (Some k) w.now (Idle k.idle_high) (pulse_at s c)))
   rested below chip w s c k i h =
       let x = pulse_at s c in

@@ -1,15 +1,11 @@
 -- The handler of a channel's line: its steps, what holds at each, and that they are right.
--- From Base, Flags, RefinementRight.
+-- From Base, Flags, RefinementRight, service_outline: StepKinds.
 -- Used by Lawful, service/serve/rt, Windows.
 use Rattle.std.proofs.Common.{◌≡◌, ◌+◌, ◌-◌, ◌<◌, ◌≤◌, ◌&&◌, ◌∙◌, if◌then◌else◌}
 use Rattle.pwm_driver.specs.Terms
 use Terms.{ap, AreLong, arith, BodyTaken, Bool, both, Call, Channel, channel_number, channel_of, Chip, ends, Entered}
 use Terms.{false, flags_of, forgotten, goes, has_bit, is_marked_by, Is_serving, is_some, KINDS, Lag, line-pulse, Load}
-use Terms.{LongBodies, missed_after, Move, nat_lt, nat_tests, no_answer, None, none, not, notes, Nothing, One, Option}
-use Terms.{or_true, Origin, over, polarity_of, pulse_at, PulseFlags, Pulses, pwm_basis, pwm_machine, PwmDriver}
-use Terms.{PwmNotification, PwmRepresents, PwmState, Read, ready, ready_by, refl, Reservations, Serve, ServeBody}
-use Terms.{served, Serving, settled, Shortens, Some, stands, StepsTo, subst, sym, Told, true, with_pulse, World, Write}
-use Terms.{ℕ}
+use Terms.{LongBodies, missed_after, Move, nat_lt, nat_tests, no_answer, None, none, not, notes, Nothing, One, Option, or_true, Origin, over, polarity_of, pulse_at, PulseFlags, Pulses, pwm_basis, pwm_machine, PwmTable, PwmNotification, PwmRepresents, PwmState, Read, ready, ready_by, refl, Reservations, Serve, ServeBody, served, Serving, settled, Shortens, Some, stands, StepsTo, subst, sym, Told, true, with_pulse, World, Write, ℕ}
 use Rattle.pwm_driver.specs.laws.Base.{AllGood, steady_above, family, family_right}
 use Rattle.pwm_driver.specs.laws.Flags.{stands_due, unflagged_agrees, flags_cleared, marked_later}
 use Rattle.pwm_driver.specs.laws.RefinementRight.{due_here, due_line, quiet_none}
@@ -35,16 +31,16 @@ abbrev pub serve_gap : ServeBody → Lag
 serve_gap k = settled
 
 -- it is the handler of a configured channel
-abbrev pub IsHandler : PwmDriver → ℕ → Origin Call → Option Told → Type 0
+abbrev pub IsHandler : PwmTable → ℕ → Origin Call → Option Told → Type 0
 IsHandler d c o t = Serving (c + 8) o t × (c < 8) × (k : Channel) × (channel_of d c ≡ Some k)
 
 -- from the look to the serving the mark stands
-abbrev pub serve_holds : PwmDriver → Pulses → ℕ → PwmState → ServeBody → Origin Call → Option Told → Type 0
+abbrev pub serve_holds : PwmTable → Pulses → ℕ → PwmState → ServeBody → Origin Call → Option Told → Type 0
 serve_holds d f now s (places.Kinds c) o t = IsHandler d c o t
 serve_holds d f now s (places.Look c k) o t = IsHandler d c o t × (k ≡ f.edges)
 serve_holds d f now s (places.Clear c) o t = IsHandler d c o t × (is_marked_by (pulse_at s c).notified (polarity_of (channel_of d c)) now (pulse_at s c) ≡ true)
 
-abbrev pub serve_bodies : (d : PwmDriver) → LongBodies (pwm_basis d) ServeBody
+abbrev pub serve_bodies : (d : PwmTable) → LongBodies (pwm_basis d) ServeBody
 serve_bodies d = family d serve_work serve_takes serve_left serve_gap (serve_holds d)
 
 number_back : (c : ℕ) → c + 8 - 8 ≡ c
@@ -53,7 +49,7 @@ number_back c = omega arith
 not_low : (c : ℕ) → nat_lt (c + 8) 8 ≡ false
 not_low c = grind (arith, nat_tests)
 
-module _ (d : PwmDriver) where
+module _ (d : PwmTable) where
   -- a marked channel is one of an initialised module
   ready_on : (below : Reservations) (chip : Chip) (w : World) (s : PwmState) (c : ℕ) → c < 8 → PwmRepresents d below settled chip w s → is_marked_by (pulse_at s c).notified (polarity_of (channel_of d c)) w.now (pulse_at s c) ≡ true → s.initialised ≡ true
   ready_on below chip w s c lt h r = by s.initialised refl

@@ -1,17 +1,14 @@
 -- One pulse unit and one channel of the machine change together.
--- From Relation, Parts.
+-- From pwm_machine: Relation, pwm_machine: Channels, service_outline: Words, service_outline: Sweep, FlagRelation.
 -- Used by DeInit, InitWrites, Output, InitRight, Notify and 2 more.
 use Rattle.std.proofs.Common.{◌≡◌, ◌≢◌, ◌<◌, ◌||◌, [], ◌∷◌, ◌∙◌}
 use Rattle.pwm_driver.specs.Terms
 use Terms.{AllRight, AllSetUp, ap, arith, behind, Bool, Channel, channel_of, channel_other, channel_same, Chip}
 use Terms.{chip_after, chosen, each_but, eq_other, false, is_marked_by, is_notified, is_some, IsBegun, IsQuiet, IsSetUp}
 use Terms.{KindAgrees, KINDS, length, length-set, level, level_of, LinesAgree, MarksAgree, None, none, Option, Output}
-use Terms.{output_in, period_word, polarity_of, Pulse, pulse_at, pulse_at-other, pulse_at-same, PulseIdle, Pulses}
-use Terms.{put_out, PwmDriver, PwmEdge, PwmRepresents, PwmState, refl, Reservations, settled, Some, stands-move}
-use Terms.{StandsIn, STATE, Store, stored_other, stored_same, subst, sym, true, turns, turns_to, UnitAgrees, UnitsAgree}
-use Terms.{Wave, with_new, with_pulse, word_of, WORDS, World, Write, ℕ}
-use Rattle.pwm_driver.specs.laws.Relation.{level_same, flagged_same, chosen_or, chosen_turns, committed_same}
-use Rattle.pwm_driver.specs.laws.Relation.{with_new_begun}
+use Terms.{output_in, period_word, polarity_of, Pulse, pulse_at, pulse_at-other, pulse_at-same, PulseIdle, Pulses, put_out, PwmTable, PwmEdge, PwmRepresents, PwmState, refl, Reservations, settled, Some, stands-move, StandsIn, STATE, Store, stored_other, stored_same, subst, sym, true, turns, turns_to, UnitAgrees, UnitsAgree, Wave, with_new, with_pulse, word_of, WORDS, World, Write, ℕ}
+use Rattle.pwm_machine.specs.laws.Relation.{level_same, chosen_or, chosen_turns, committed_same, with_new_begun}
+use Rattle.pwm_driver.specs.laws.FlagRelation.{flagged_same}
 use Rattle.chip_pulses.specs.Pulses as pulses
 use Rattle.chip_pulses.specs.declared.pulse.Output.TheVariants as units
 use Rattle.chip_pulses.specs.declared.pulse.Pulse as unit
@@ -67,11 +64,11 @@ commit_agrees k now time p x period duty at is h =
 
 -- ---- one channel of all
 
-pub none_held : (d : PwmDriver) (held : Reservations) (on : Bool) (chip : Chip) → on ≡ true → AllRight on held → AllSetUp d held chip
+pub none_held : (d : PwmTable) (held : Reservations) (on : Bool) (chip : Chip) → on ≡ true → AllRight on held → AllSetUp d held chip
 none_held d [] on chip e h = tt
 none_held d (x ∷ xs) on chip e h = absurd (let f = h.1 in cc)
 
-units_set : (d : PwmDriver) (b : Pulses) (w : World) (s s1 : PwmState) (opened opened1 : ℕ → Bool) (c : ℕ) (p1 : unit.Pulse) → length b.pulses ≡ 8 → c < 8 → UnitsAgree d opened b w s → (opened1 c ≡ false → UnitAgrees (polarity_of (channel_of d c)) w.now p1 (pulse_at s1 c)) → ((k : ℕ) → k < 8 → k ≢ c → opened1 k ≡ false → (opened k ≡ false) × (pulse_at s1 k ≡ pulse_at s k)) → UnitsAgree d opened1 (pulses.with_pulse b c p1) w s1
+units_set : (d : PwmTable) (b : Pulses) (w : World) (s s1 : PwmState) (opened opened1 : ℕ → Bool) (c : ℕ) (p1 : unit.Pulse) → length b.pulses ≡ 8 → c < 8 → UnitsAgree d opened b w s → (opened1 c ≡ false → UnitAgrees (polarity_of (channel_of d c)) w.now p1 (pulse_at s1 c)) → ((k : ℕ) → k < 8 → k ≢ c → opened1 k ≡ false → (opened k ≡ false) × (pulse_at s1 k ≡ pulse_at s k)) → UnitsAgree d opened1 (pulses.with_pulse b c p1) w s1
 units_set d b w s s1 opened opened1 c p1 size lt h new rest k below closed =
     each_but (λ i. i < 8 → opened1 i ≡ false → UnitAgrees (polarity_of (channel_of d i)) w.now (pulses.pulse_at (pulses.with_pulse b c p1) i) (pulse_at s1 i)) c
     (λ l g. subst (λ p. UnitAgrees (polarity_of (channel_of d c)) w.now p (pulse_at s1 c)) (sym (pulse_at-same b c p1 (record { all = size; within = lt }))) (new g)) k
@@ -82,7 +79,7 @@ units_set d b w s s1 opened opened1 c p1 size lt h new rest k below closed =
 abbrev pub chip_with : Chip → ℕ → unit.Pulse → Chip
 chip_with chip c p = record chip { pulses = pulses.with_pulse chip.pulses c p }
 
-module _ (d : PwmDriver) (below : Reservations) (chip : Chip) (w : World) (s : PwmState) (c : ℕ) (lt : c < 8) (on : s.initialised ≡ true) (there : is_some (channel_of d c) ≡ true) where
+module _ (d : PwmTable) (below : Reservations) (chip : Chip) (w : World) (s : PwmState) (c : ℕ) (lt : c < 8) (on : s.initialised ≡ true) (there : is_some (channel_of d c) ≡ true) where
   unused_with : (x : Pulse) → ((k : ℕ) → k < 8 → channel_of d k ≡ None → IsQuiet (pulse_at s k)) → (k : ℕ) → k < 8 → channel_of d k ≡ None → IsQuiet (pulse_at (with_pulse s c x) k)
   unused_with x h k l = each_but (λ i. i < 8 → channel_of d i ≡ None → IsQuiet (pulse_at (with_pulse s c x) i)) c
       (λ i e. absurd (let f : is_some (channel_of d c) ≡ false = ap (λ o. is_some o) e in cc)) k
@@ -142,7 +139,7 @@ period_below c lt = omega (arith, lt)
 pub period_other : (c k : ℕ) → k ≢ c → period_word k ≢ period_word c
 period_other c k ne e = ne (omega (arith, e))
 
-pub period_kept : (d : PwmDriver) (below : Reservations) (chip : Chip) (w : World) (s : PwmState) (c v : ℕ) → c < 8 → s.initialised ≡ true → v ≡ (pulse_at s c).period → PwmRepresents d below (behind (period_word c)) chip w s → PwmRepresents d below settled (chip_after chip (Store (period_word c) v) 0) w s
+pub period_kept : (d : PwmTable) (below : Reservations) (chip : Chip) (w : World) (s : PwmState) (c v : ℕ) → c < 8 → s.initialised ≡ true → v ≡ (pulse_at s c).period → PwmRepresents d below (behind (period_word c)) chip w s → PwmRepresents d below settled (chip_after chip (Store (period_word c) v) 0) w s
 period_kept d below chip w s c v lt on is h = record {
   right = h.right;
   setup = none_held d below s.initialised (chip_after chip (Store (period_word c) v) 0) on h.right;
@@ -183,7 +180,7 @@ pub never : {A : Type 0} (on : Bool) → on ≡ false → on ≡ true → A
 never on e f = absurd (let g = sym e ∙ f in cc)
 
 -- waves and words that stay keep what is written
-pub setup_kept : (d : PwmDriver) (held : Reservations) (chip chip1 : Chip) → ((c : ℕ) → c < 8 → (pulses.pulse_at chip1.pulses c).wave ≡ (pulses.pulse_at chip.pulses c).wave) → ((c : ℕ) → c < 8 → word_of chip1 (period_word c) ≡ word_of chip (period_word c)) → AllSetUp d held chip → AllSetUp d held chip1
+pub setup_kept : (d : PwmTable) (held : Reservations) (chip chip1 : Chip) → ((c : ℕ) → c < 8 → (pulses.pulse_at chip1.pulses c).wave ≡ (pulses.pulse_at chip.pulses c).wave) → ((c : ℕ) → c < 8 → word_of chip1 (period_word c) ≡ word_of chip (period_word c)) → AllSetUp d held chip → AllSetUp d held chip1
 setup_kept d [] chip chip1 waves words h = tt
 setup_kept d (x ∷ xs) chip chip1 waves words h = (λ c lt. subst (λ v. IsSetUp (channel_of d c) x.what.upto c v (pulses.pulse_at chip1.pulses c).wave) (sym (words c lt)) (subst (λ v. IsSetUp (channel_of d c) x.what.upto c (word_of chip (period_word c)) v) (sym (waves c lt)) (h.0 c lt)), setup_kept d xs chip chip1 waves words h.1)
 
@@ -192,7 +189,7 @@ pub waved_at : (chip : Chip) (c k : ℕ) (p : unit.Pulse) → length chip.pulses
 waved_at chip c k p size lt e = each_but (λ i. (pulses.pulse_at (pulses.with_pulse chip.pulses c p) i).wave ≡ (pulses.pulse_at chip.pulses i).wave) c (ap (λ y. y.wave) (pulse_at-same chip.pulses c p (record { all = size; within = lt })) ∙ e) k (λ ne. ap (λ y. y.wave) (pulse_at-other chip.pulses c k p ne))
 
 -- the unit is another one, and nothing of the machine is
-pub off_set : (d : PwmDriver) (held held1 : Reservations) (chip : Chip) (w : World) (s : PwmState) (c : ℕ) (p : unit.Pulse) (opened opened1 : ℕ → Bool) → c < 8 → s.initialised ≡ false → AllRight s.initialised held1 → AllSetUp d held1 (chip_with chip c p) → StandsIn (chip_with chip c p) w → (opened1 c ≡ false → UnitAgrees (polarity_of (channel_of d c)) w.now p (pulse_at s c)) → ((k : ℕ) → k ≢ c → opened1 k ≡ false → opened k ≡ false) → PwmRepresents d held (record settled { units = opened }) chip w s → PwmRepresents d held1 (record settled { units = opened1 }) (chip_with chip c p) w s
+pub off_set : (d : PwmTable) (held held1 : Reservations) (chip : Chip) (w : World) (s : PwmState) (c : ℕ) (p : unit.Pulse) (opened opened1 : ℕ → Bool) → c < 8 → s.initialised ≡ false → AllRight s.initialised held1 → AllSetUp d held1 (chip_with chip c p) → StandsIn (chip_with chip c p) w → (opened1 c ≡ false → UnitAgrees (polarity_of (channel_of d c)) w.now p (pulse_at s c)) → ((k : ℕ) → k ≢ c → opened1 k ≡ false → opened k ≡ false) → PwmRepresents d held (record settled { units = opened }) chip w s → PwmRepresents d held1 (record settled { units = opened1 }) (chip_with chip c p) w s
 off_set d held held1 chip w s c p opened opened1 lt off right setup outside new others h = record {
   right = right;
   setup = setup;

@@ -1,12 +1,10 @@
 -- What frames have done in their windows: each commit and each idling stands in the window in which its call acts.
--- From Init, DeInit, Output, Rest, Bodies and 2 more.
+-- From Init, DeInit, service_outline: Seen, Output, Rest and 3 more.
 -- Used by Lawful.
 use Rattle.std.proofs.Common.{◌≡◌, ◌+◌, ◌/◌, ◌%◌, if◌then◌else◌}
 use Rattle.pwm_driver.specs.Terms
 use Terms.{Acted, Acting, At, BodyTaken, Bool, Channel, channel_of, Closes, DeInitBody, Done, ends, false, First}
-use Terms.{Follows, goes, InitBody, is_closed, is_windowed, Loads, nat_lt, no_answer, None, Nothing, NotifyBody, Opens}
-use Terms.{Option, OutputBody, Place, place_of, Plain, plain_sees, PwmDriver, refl, RestBody, Second, Sees, sees_if}
-use Terms.{SeesTo, ServeBody, Setup, Some, Starts, STATE, subst, suc, Sweep, sym, true, WindowHistory, zero, ℕ}
+use Terms.{Follows, goes, InitBody, is_closed, is_windowed, Loads, nat_lt, no_answer, None, Nothing, NotifyBody, Opens, Option, OutputBody, Place, place_of, Plain, plain_sees, PwmTable, refl, RestBody, Second, Sees, sees_if, SeesTo, ServeBody, Setup, Some, Starts, STATE, subst, suc, Sweep, sym, true, WindowHistory, zero, ℕ}
 use Rattle.pwm_driver.specs.laws.{Bodies.{PwmBody}, DeInit.{rest_of, rest, deinit_work, deinit_takes}, Init.{part_by}}
 use Rattle.pwm_driver.specs.laws.{Init.{defaults, setup_move, commit_of, begin_bodies}, Notify.{notify_work}}
 use Rattle.pwm_driver.specs.laws.{Output.{output_work, output_takes}, Rest.{rest_work, rest_takes}, Serve.{serve_work}}
@@ -71,7 +69,7 @@ commit_sees None c false a b = tt
 commit_sees (Some k) c true a b = (λ e. refl, tt)
 commit_sees (Some k) c false a b = (λ e. refl, tt)
 
-pub setup_sees : (d : PwmDriver) (k : Sweep Setup InitBody) (x : ℕ) → SeesTo (λ (p : Sweep Setup InitBody). setup_seen p.place) (is_closed ((begin_bodies d).assertion k)) ((begin_bodies d).work_of k) k ((begin_bodies d).takes k x)
+pub setup_sees : (d : PwmTable) (k : Sweep Setup InitBody) (x : ℕ) → SeesTo (λ (p : Sweep Setup InitBody). setup_seen p.place) (is_closed ((begin_bodies d).assertion k)) ((begin_bodies d).work_of k) k ((begin_bodies d).takes k x)
 setup_sees d k x = by k.objects k.place
   where
     by : (r : Setup) (p : Place InitBody) → let k1 : Sweep Setup InitBody = record { objects = r; place = p } in SeesTo (λ (q : Sweep Setup InitBody). setup_seen q.place) (is_closed ((begin_bodies d).assertion k1)) ((begin_bodies d).work_of k1) k1 ((begin_bodies d).takes k1 x)

@@ -1,9 +1,10 @@
 ghost use Rattle.std.specs.Prelude.{◌≡◌};
 ghost use Rattle.pwm_driver.specs.laws.Init as spec;
 
-use crate::driver::{Channel, PwmDriver};
+use crate::driver::PwmDriver;
 use crate::words::{LINES, STATE, absolute, level, period_word};
 use mcal_base::{Move, Reg};
+use pwm_machine::{Channel, PwmTable};
 use service_outline::{Body, BodyTaken, Epilogue, Objects, acts_with, goes, nothing};
 
 /// The defaults of all channels, four objects each, written with the mask open: the word of the period, and the registers
@@ -43,7 +44,7 @@ impl Objects for Setup {
     }
 
     fn after(&self) -> InitBody {
-        InitBody::Commit(self.driver, 0)
+        InitBody::Commit(*self.driver, 0)
     }
 }
 
@@ -79,7 +80,7 @@ fn defaults(channel: Option<Channel>) -> (u32, u32, bool)
 #[derive(Clone, Copy)]
 pub enum InitBody {
     /// It commits a channel that is configured, and goes on with the next number.
-    Commit(PwmDriver, u8),
+    Commit(PwmTable, u8),
     /// It enables the lines.
     Enable,
     /// It acts, and the module is initialised.
@@ -95,7 +96,7 @@ impl Body for InitBody {
 
     fn next(&self) -> Move {
         match *self {
-            InitBody::Commit(driver, number) => commit(driver, number),
+            InitBody::Commit(table, number) => commit(table, number),
             InitBody::Enable => Move::Write(Reg::EnableSet, LINES),
             InitBody::Store => Move::Store(STATE, 1),
         }
@@ -103,8 +104,8 @@ impl Body for InitBody {
 
     fn took(&mut self, _value: u32) -> BodyTaken {
         let (after, taken) = match *self {
-            InitBody::Commit(driver, number) if number < 7 => {
-                (InitBody::Commit(driver, number + 1), goes())
+            InitBody::Commit(table, number) if number < 7 => {
+                (InitBody::Commit(table, number + 1), goes())
             }
             InitBody::Commit(..) => (InitBody::Enable, goes()),
             InitBody::Enable => (InitBody::Store, goes()),
@@ -116,10 +117,10 @@ impl Body for InitBody {
 }
 
 /// The commit of a channel, and nothing where it isn't configured.
-fn commit(driver: PwmDriver, number: u8) -> Move
-    ensures { result ≡ spec.commit driver number }
+fn commit(table: PwmTable, number: u8) -> Move
+    ensures { result ≡ spec.commit table number }
 {
-    match driver.channel(u32::from(number)) {
+    match table.channel(u32::from(number)) {
         Some(_) => Move::Write(Reg::PulseCommit(u32::from(number)), 1),
         None => Move::Load(STATE),
     }

@@ -12,7 +12,7 @@ use Rattle.mcal_base.specs.declared.moves.Move.{Move}
 use Rattle.mcal_base.specs.declared.moves.Move.TheVariants.{Read, Write, Load, Store, Mask, Unmask, Note, Report}
 use Rattle.run_model.specs.World.{World, world_after}
 use Rattle.run_model.specs.Machine.{Happening, Moves, Restarts, Outcome, tells_nothing, outcome}
-use Rattle.run_model.specs.Frame.{Origin, Called, Entered, Open, opened, is_shared, brought_by, state_after, state_by, outcome_of, happening_at}
+use Rattle.run_model.specs.Frame.{Origin, Called, Entered, Open, opened, is_shared, is_wait, brought_by, state_after, state_by, outcome_of, happening_at}
 use Rattle.run_model.specs.declared.class.Class.{Class}
 use Rattle.run_model.specs.declared.class.Tag.{Tag}
 use Rattle.run_model.specs.Legal.{has_line, is_left_waiting, LeavesNone}
@@ -29,6 +29,7 @@ use Rattle.service_outline.specs.declared.short.Short.TheVariants.{Calling, Load
 use Rattle.service_outline.specs.Fuel.{tell_fuel, short_fuel, short_room}
 use Rattle.service_outline.specs.Short.{short_move, short_left, ending_gave, tells}
 use Rattle.service_outline.specs.Services.{ReservedBy, MayCome, Rates, Steady, Agreed, owners, IsLower, AllLower, IsLeveled, is_closed, holds_at, gap_at, Elsewhere, AllLet, mark_of, Services, AreEndingServices, Leaves, Waits, AllWait, IsTop, Relates, with_holds, holds_by, holds_in, services_driver, entering}
+use Rattle.service_outline.specs.laws.Seen.{waits_open}
 use Rattle.service_outline.specs.laws.Steps.{KeepsAt, short_steps, settled_at, stays_at}
 
 entering_same : (Asked : Type 0) {Body : Type 0} (q : Option Body) → is_some (entering {Asked = Asked} q) ≡ is_some q
@@ -289,6 +290,22 @@ module _ {State Call Asked Body : Type 0} (d : Services State Call Asked Body) {
   own held chip w (Telling n) o s h = own_tells o.origin n.owed
   own held chip w (Returning a) o s h = law.own_word o.origin
 
+  -- it waits for a word with the mask open
+  tells_at_once : {X : Type 0} (owed : Epilogue) → is_wait (tells d.word owed) ≡ true → X
+  tells_at_once Nothing e = absurd (cc)
+  tells_at_once (Error x) e = absurd (cc)
+  tells_at_once (One k) e = absurd (cc)
+  tells_at_once (Two k j) e = absurd (cc)
+
+  opens : (held : List (ReservedBy Call d.basis.Reservation)) (chip : Chip) (w : World) (f : Short Asked Body) (o : Open Call) (s : State) → IsTop d held chip w s f o → is_wait (short_move d.word d.bodies.work_of f) ≡ true → o.inside ≡ false
+  opens held chip w (Calling c) o s h e = absurd (cc)
+  opens held chip w (Loading c) o s h e = absurd (cc)
+  opens held chip w (Entering k) o s h e = absurd (cc)
+  opens held chip w (Inside k) o s h e = let made = d.bodies.work_of k in let t = d.bodies.takes k (value_of chip made) in ap (λ x. x.inside) h.form ∙ waits_open (d.seen k) (d.seen t.0) (is_closed (d.bodies.assertion k)) made t.1.event t.1.done (law.windows held chip w s k o.origin h.past h.at) e
+  opens held chip w (Opening n) o s h e = absurd (cc)
+  opens held chip w (Telling n) o s h e = tells_at_once n.owed e
+  opens held chip w (Returning a) o s h e = absurd (cc)
+
   -- a frame has steps left, and in a window moves of that
   tells_some : (owed : Epilogue) → 0 < tell_fuel owed
   tells_some Nothing = omega arith
@@ -392,6 +409,7 @@ module _ {State Call Asked Body : Type 0} (d : Services State Call Asked Body) {
     steps = λ chip w f o ps s received come few masked out h. short_steps d law chip w received f o ps s come few h;
     there = λ chip w f o ps s h. there (holds_in d ps) chip w f o s h.0;
     own = λ chip w f o ps s h. own (holds_in d ps) chip w f o s h.0;
+    opens = λ chip w f o ps s h. opens (holds_in d ps) chip w f o s h.0;
     lasts = lasts;
     roomy = λ chip w f o ps s h e. roomy (holds_in d ps) chip w f o s h.0 e;
     moves = moves;

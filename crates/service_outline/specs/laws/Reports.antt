@@ -5,9 +5,9 @@ use Rattle.mcal_base.specs.declared.answer.Answer.{Answer}
 use Rattle.mcal_base.specs.declared.error_name.ErrorName.{ErrorName}
 use Rattle.mcal_base.specs.declared.moves.DevError.{DevError}
 use Rattle.det_errors.specs.Reports.{reported}
-use Rattle.run_model.specs.Machine.{Machine}
+use Rattle.run_model.specs.Machine.{Machine, tells_error}
 use Rattle.run_model.specs.Frame.{Called, report_as}
-use Rattle.service_outline.specs.Done.{owed_report, owed_error, tells_error}
+use Rattle.service_outline.specs.Done.{owed_report, owed_error}
 use Rattle.service_outline.specs.Outline.{TellsAs, error_in, notices_in}
 
 report_of_owed : (r : Option DevError) → r ≡ error_in (owed_report r)

@@ -6,20 +6,23 @@ use Rattle.std.specs.List.{Contains, list_any}
 use Rattle.std.proofs.lemmas.Bool.{or_from, or_left, or_right}
 use Rattle.chip_model.specs.Chip.{Chip, value_of}
 use Rattle.mcal_base.specs.declared.answer.Answer.{Answer}
+use Rattle.mcal_base.specs.declared.moves.DevError.{DevError}
 use Rattle.mcal_base.specs.declared.moves.Event.{Event}
 use Rattle.mcal_base.specs.declared.moves.Move.{Move}
 use Rattle.mcal_base.specs.declared.moves.Move.TheVariants.{Read, Write, Load, Store, Mask, Unmask, Note, Report}
+use Rattle.mcal_base.specs.declared.notice.Notice.{Notice}
 use Rattle.mcal_base.specs.declared.register.Reg.{Reg}
+use Rattle.mcal_base.specs.declared.register.Reg.TheVariants.{SerialWait}
 use Rattle.run_model.specs.World.{World}
 use Rattle.run_model.specs.Machine.{Told, Machine}
-use Rattle.run_model.specs.Frame.{Origin, Called, Entered, is_shared, is_act, since_after, acts_after}
+use Rattle.run_model.specs.Frame.{Origin, Called, Entered, is_shared, is_wait, is_act, since_after, acts_after}
 use Rattle.run_model.specs.Legal.{low_half, commits, idles, commits_at_act, idles_at_act, is_beside_act, ComesAfter, WindowRight}
 use Rattle.service_outline.specs.declared.done.Done.{Done}
 use Rattle.service_outline.specs.declared.done.BodyTaken.{BodyTaken}
 use Rattle.service_outline.specs.Outline.{After, Is_after, Serving, Is_serving}
 use Rattle.service_outline.specs.FrameHistory.{FrameHistory, fresh_history, past_of}
 use Rattle.service_outline.specs.Services.{ReservedBy, Services, AreEnding, AssertedAt, is_closed}
-use Rattle.service_outline.specs.WindowHistory.{sets_output, is_windowed, WindowHistory, Plain, HasRead, Acting, Acted, IsSeen, MayOpen, LetsOpen, Starts, LeadsTo, Ends, Leads, ReadsAfter, Sees, SeesTo}
+use Rattle.service_outline.specs.WindowHistory.{sets_output, is_windowed, WindowHistory, Plain, HasRead, Acting, Acted, IsSeen, MayOpen, LetsOpen, Starts, LeadsTo, Ends, Leads, ReadsAfter, ReadsRight, Sees, SeesTo}
 
 -- ---- truth
 
@@ -114,11 +117,20 @@ reads_right : (was : WindowHistory) (closed : Bool) (since : List Move) (acts : 
 reads_right was closed since acts None l h = tt
 reads_right was closed since acts (Some r) l h = let i = subst (λ x. IsSeen x since acts) l.1 h in (l.0, i.1)
 
+read_right : (was : WindowHistory) (closed : Bool) (since : List Move) (acts : Bool) (r : Reg) → ReadsRight was closed r → IsSeen was since acts → ComesAfter closed since (low_half r)
+read_right was closed since acts (SerialWait u) l h = tt
+read_right was closed since acts r l h = reads_right was closed since acts (low_half r) l h
+
+-- a wait stands with the mask open
+pub waits_open : (was is : WindowHistory) (closed : Bool) (made : Move) (e : Option Event) (left : Option Done) → Sees was closed made e is left → is_wait made ≡ true → closed ≡ false
+waits_open was is closed (Read (SerialWait u)) e left l w = l.0
+waits_open was is closed _ e left l w = cc
+
 pub opens_right : {State Call : Type 0} (mac : Machine State Call) (origin : Origin Call) (since : List Move) (acts more : Bool) → MayOpen since acts → list_any (is_beside_act mac origin) since ≡ true → acts || more ≡ true
 opens_right mac origin since acts more ok h = or_left acts more (ok (any_more (is_beside_act mac origin) sets_output (beside_sets mac origin) since h))
 
 pub window_right : {State Call : Type 0} (mac : Machine State Call) (origin : Origin Call) (was is : WindowHistory) (closed : Bool) (since : List Move) (acts : Bool) (made : Move) (e : Option Event) (left : Option Done) → Sees was closed made e is left → IsSeen was since acts → WindowRight (is_beside_act mac origin) closed since (acts || is_act e) made
-window_right mac origin was is closed since acts (Read r) e left l h = reads_right was closed since acts (low_half r) l.0 h
+window_right mac origin was is closed since acts (Read r) e left l h = read_right was closed since acts r l.0 h
 window_right mac origin was is closed since acts (Write r v) e left l h = λ i. l.0 (beside_sets mac origin (Write r v) i)
 window_right mac origin was is closed since acts (Load k) e left l h = tt
 window_right mac origin was is closed since acts (Store k v) e left l h = tt
@@ -160,13 +172,21 @@ quiet_leads : (made : Move) (e : Option Event) (left : Option Done) → sets_out
 quiet_leads made e None h = h
 quiet_leads made e (Some n) h = λ i. not_both (sets_output made) h i
 
+first_false : (a b : Bool) → a || b ≡ false → a ≡ false
+first_false true b h = absurd (cc)
+first_false false b h = refl
+
 low_none : (closed : Bool) (low : Option Reg) → is_some low ≡ false → ReadsAfter Plain closed low
 low_none closed None h = tt
 low_none closed (Some r) h = absurd (cc)
 
--- a step that is neither the read of a high half nor a write that sets an output
+plain_reads : (closed : Bool) (r : Reg) → is_windowed (Read r) ≡ false → ReadsRight Plain closed r
+plain_reads closed (SerialWait u) h = absurd (cc)
+plain_reads closed r h = low_none closed (low_half r) (first_false (is_some (low_half r)) (is_wait (Read r)) h)
+
+-- a step that is neither a read of a high half nor a write that sets an output nor a wait
 pub plain_sees : (closed : Bool) (made : Move) (e : Option Event) (left : Option Done) → is_windowed made ≡ false → Sees Plain closed made e Plain left
-plain_sees closed (Read r) e left h = (low_none closed (low_half r) h, quiet_leads (Read r) e left refl)
+plain_sees closed (Read r) e left h = (plain_reads closed r h, quiet_leads (Read r) e left refl)
 plain_sees closed (Write r v) e left h = (λ i. not_both (sets_output (Write r v)) h i, quiet_leads (Write r v) e left h)
 plain_sees closed (Load k) e left h = quiet_leads (Load k) e left refl
 plain_sees closed (Store k v) e left h = quiet_leads (Store k v) e left refl
@@ -180,22 +200,54 @@ pub sees_if : {Body : Type 0} (seen : Body → WindowHistory) (closed : Bool) (m
 sees_if seen closed made k true a b h i = h
 sees_if seen closed made k false a b h i = i
 
--- bodies whose frames may do nothing of that kind, at places that are plain
-pub free_windows : {State Call Asked Body : Type 0} (d : Services State Call Asked Body) {ends_with : Body → Option Answer} → AreEnding d.basis d.bodies ends_with → ((k : Body) → d.seen k ≡ Plain) → ((origin : Origin Call) (made : Move) → d.basis.setting.may origin made ≡ true → is_windowed made ≡ false) → (below : List (ReservedBy Call d.basis.Reservation)) (chip : Chip) (w : World) (s : State) (k : Body) (origin : Origin Call) (past : FrameHistory) → AssertedAt d.basis d.bodies below chip w s k origin past → SeesTo d.seen (is_closed (d.bodies.assertion k)) (d.bodies.work_of k) k (d.bodies.takes k (value_of chip (d.bodies.work_of k)))
-free_windows d law plain free below chip w s k origin past h =
-    let made = d.bodies.work_of k in
-    let p = d.bodies.takes k (value_of chip made) in
-    subst (λ x. Sees x (is_closed (d.bodies.assertion k)) made p.1.event (d.seen p.0) p.1.done) (sym (plain k)) (subst (λ x. Sees Plain (is_closed (d.bodies.assertion k)) made p.1.event x p.1.done) (sym (plain p.0)) (plain_sees (is_closed (d.bodies.assertion k)) made p.1.event p.1.done (free_by made (law.own below chip w s k origin past h))))
-  where
-    free_by : (made : Move) → is_shared made || d.basis.setting.may origin made ≡ true → is_windowed made ≡ false
-    free_by (Read r) i = free origin (Read r) i
-    free_by (Write r v) i = free origin (Write r v) i
-    free_by (Load n) i = refl
-    free_by (Store n v) i = refl
-    free_by Mask i = refl
-    free_by Unmask i = refl
-    free_by (Note n) i = refl
-    free_by (Report e) i = refl
+-- a wait with the mask open
+wait_sees : (made : Move) (e : Option Event) (left : Option Done) → is_wait made ≡ true → Sees Plain false made e Plain left
+wait_sees (Read (SerialWait u)) e left h = (refl, quiet_leads (Read (SerialWait u)) e left refl)
+wait_sees _ e left h = absurd (cc)
+
+-- what is so of the moves that turn the mask and tell, and of those that a frame may make, is so of each move that it makes
+of_moves : (X : Move → Type 0) (may : Move → Bool) → X Mask → X Unmask → ((n : Notice) → X (Note n)) → ((e : DevError) → X (Report e)) → ((made : Move) → may made ≡ true → X made) → (made : Move) → is_shared made || may made ≡ true → X made
+of_moves X may closes opens notes reports others (Read r) i = others (Read r) i
+of_moves X may closes opens notes reports others (Write r v) i = others (Write r v) i
+of_moves X may closes opens notes reports others (Load n) i = others (Load n) i
+of_moves X may closes opens notes reports others (Store n v) i = others (Store n v) i
+of_moves X may closes opens notes reports others Mask i = closes
+of_moves X may closes opens notes reports others Unmask i = opens
+of_moves X may closes opens notes reports others (Note n) i = notes n
+of_moves X may closes opens notes reports others (Report e) i = reports e
+
+module _ {State Call Asked Body : Type 0} (d : Services State Call Asked Body) {ends_with : Body → Option Answer} (law : AreEnding d.basis d.bodies ends_with) (plain : (k : Body) → d.seen k ≡ Plain) where
+  -- what a body's step at a place owes of its window
+  abbrev SeesAt : Chip → Body → Type 0
+  SeesAt chip k = SeesTo d.seen (is_closed (d.bodies.assertion k)) (d.bodies.work_of k) k (d.bodies.takes k (value_of chip (d.bodies.work_of k)))
+
+  -- at places that are plain
+  plain_at : (chip : Chip) (k : Body) → let p = d.bodies.takes k (value_of chip (d.bodies.work_of k)) in Sees Plain (is_closed (d.bodies.assertion k)) (d.bodies.work_of k) p.1.event Plain p.1.done → SeesAt chip k
+  plain_at chip k h =
+      let made = d.bodies.work_of k in
+      let p = d.bodies.takes k (value_of chip made) in
+      subst (λ x. Sees x (is_closed (d.bodies.assertion k)) made p.1.event (d.seen p.0) p.1.done) (sym (plain k)) (subst (λ x. Sees Plain (is_closed (d.bodies.assertion k)) made p.1.event x p.1.done) (sym (plain p.0)) h)
+
+  -- bodies whose frames may do nothing of that kind
+  pub free_windows : ((origin : Origin Call) (made : Move) → d.basis.setting.may origin made ≡ true → is_windowed made ≡ false) → (below : List (ReservedBy Call d.basis.Reservation)) (chip : Chip) (w : World) (s : State) (k : Body) (origin : Origin Call) (past : FrameHistory) → AssertedAt d.basis d.bodies below chip w s k origin past → SeesAt chip k
+  free_windows free below chip w s k origin past h =
+      let made = d.bodies.work_of k in
+      let p = d.bodies.takes k (value_of chip made) in
+      plain_at chip k (plain_sees (is_closed (d.bodies.assertion k)) made p.1.event p.1.done (of_moves (λ m. is_windowed m ≡ false) (d.basis.setting.may origin) refl refl (λ n. refl) (λ e. refl) (free origin) made (law.own below chip w s k origin past h)))
+
+  -- bodies whose frames may do nothing of that kind but wait, where the mask is open
+  pub waiting_windows : ((origin : Origin Call) (made : Move) → d.basis.setting.may origin made ≡ true → is_windowed made ≡ is_wait made) → ((k : Body) → is_wait (d.bodies.work_of k) ≡ true → is_closed (d.bodies.assertion k) ≡ false) → (below : List (ReservedBy Call d.basis.Reservation)) (chip : Chip) (w : World) (s : State) (k : Body) (origin : Origin Call) (past : FrameHistory) → AssertedAt d.basis d.bodies below chip w s k origin past → SeesAt chip k
+  waiting_windows free opens below chip w s k origin past h = plain_at chip k (by (is_wait made) refl)
+    where
+      made : Move
+      made = d.bodies.work_of k
+
+      p : Body × BodyTaken
+      p = d.bodies.takes k (value_of chip made)
+
+      by : (q : Bool) → is_wait made ≡ q → Sees Plain (is_closed (d.bodies.assertion k)) made p.1.event Plain p.1.done
+      by true e = subst (λ b. Sees Plain b made p.1.event Plain p.1.done) (sym (opens k e)) (wait_sees made p.1.event p.1.done e)
+      by false e = plain_sees (is_closed (d.bodies.assertion k)) made p.1.event p.1.done (of_moves (λ m. is_windowed m ≡ is_wait m) (d.basis.setting.may origin) refl refl (λ n. refl) (λ x. refl) (free origin) made (law.own below chip w s k origin past h) ∙ e)
 
 -- ---- a frame that has done nothing yet
 

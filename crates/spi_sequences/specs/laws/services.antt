@@ -1,3 +1,4 @@
+pub mod AtOnce
 pub mod Bodies
 pub mod CancelRight
 pub mod CancelSteps

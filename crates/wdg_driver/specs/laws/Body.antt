@@ -1,4 +1,6 @@
 -- The services of the watchdog: their steps, what holds at each, and that they are right.
+-- From service_outline: Words, service_outline: Acts, RefinementRight.
+-- Used by Lawful, service/rt.
 use Rattle.std.proofs.Common.{◌≡◌, ℕ, ◌<◌, Bool, true, false, not, nat_lt, Option, Some, None, refl, sym, ◌∙◌, ap, subst, arith}
 use Rattle.std.specs.Prelude.{if◌then◌else◌, is_some}
 use Rattle.std.proofs.lemmas.Bool.{lt-ltb}
@@ -12,10 +14,10 @@ use Rattle.mcal_base.specs.declared.moves.Move.{Move}
 use Rattle.mcal_base.specs.declared.moves.Move.TheVariants.{Write, Load, Store}
 use Rattle.mcal_base.specs.declared.register.Reg.TheVariants.{WatchdogLoad}
 use Rattle.run_model.specs.World.{World}
-use Rattle.run_model.specs.Machine.{Told, no_answer, outcome}
+use Rattle.run_model.specs.Machine.{Told, no_answer, outcome, named, answers}
 use Rattle.run_model.specs.Frame.{Origin}
 use Rattle.run_model.proofs.OutsideLaws.{stands-move}
-use Rattle.service_outline.specs.Done.{goes, acts as acts_on, ends, named, answers}
+use Rattle.service_outline.specs.Done.{goes, acts as acts_on, ends}
 use Rattle.service_outline.specs.Fuel.{Shortens}
 use Rattle.service_outline.specs.Outline.{Bodies, At, RightAt, AreRight, Before, Is_before, After, Is_after}
 use Rattle.service_outline.specs.declared.done.BodyTaken.{BodyTaken}
@@ -23,19 +25,20 @@ use Rattle.service_outline.specs.declared.done.Epilogue.TheVariants.{Nothing}
 use Rattle.service_outline.specs.laws.Acts.{never_clean}
 use Rattle.service_outline.specs.laws.Words.{stored_same, stored_other}
 use Rattle.wdg_driver.specs.Bounds.{may}
-use Rattle.wdg_driver.specs.Checks.{error_by}
+use Rattle.wdg_machine.specs.Checks.{error_by}
 use Rattle.wdg_driver.specs.Refinement.{Lag, settled, both_behind, timeout_behind, WatchRepresents, WdgRepresents, wdg_ground}
-use Rattle.wdg_driver.specs.Machine.{WdgState, started, set_mode, acts_by, acts}
-use Rattle.wdg_driver.specs.Table.{allows}
-use Rattle.wdg_driver.specs.Words.{mode_word, state_word, narrow, load_of}
-use Rattle.wdg_driver.specs.declared.call.Call.{Call}
-use Rattle.wdg_driver.specs.declared.call.Call.TheVariants.{SetMode}
-use Rattle.wdg_driver.specs.declared.driver.WdgDriver.{WdgDriver}
+use Rattle.wdg_machine.specs.Machine.{WdgState, started, set_mode, acts_by, acts}
+use Rattle.wdg_machine.specs.Table.{allows}
+use Rattle.wdg_machine.specs.Numbers.{narrow}
+use Rattle.wdg_driver.specs.Words.{mode_word, state_word, load_of}
+use Rattle.wdg_machine.specs.declared.call.Call.{Call}
+use Rattle.wdg_machine.specs.declared.call.Call.TheVariants.{SetMode}
+use Rattle.wdg_machine.specs.declared.table.WdgTable.{WdgTable}
 use Rattle.wdg_driver.specs.declared.service.Says.{Says}
 use Rattle.wdg_driver.specs.declared.service.Says.TheVariants.{Silent, Accepted}
 use Rattle.wdg_driver.specs.declared.service.WdgBody.{WdgBody}
 use Rattle.wdg_driver.specs.declared.service.WdgBody.TheVariants.{Look, Start, KeepMode, KeepTimeout}
-use Rattle.wdg_driver.specs.declared.timing.Timing.{Timing}
+use Rattle.wdg_machine.specs.declared.table.Timing.{Timing}
 use Rattle.wdg_driver.specs.declared.words.TheConstants.{STATE, TIMEOUT}
 use Rattle.wdg_driver.specs.laws.RefinementRight.{loaded_agrees}
 
@@ -70,7 +73,7 @@ wdg_gap (KeepMode x a) = both_behind
 wdg_gap (KeepTimeout x a) = timeout_behind
 
 -- the call starts the watchdog with this, whenever it acts
-pub record IsStart (d : WdgDriver) (s : WdgState) (x : Timing) (a : Says) (call : Call) : Type 0 where
+pub record IsStart (d : WdgTable) (s : WdgState) (x : Timing) (a : Says) (call : Call) : Type 0 where
   pub is : (w : World) → acts d w s call ≡ outcome (started w x.mode x.timeout) (answers (answer_of a))
   pub few : x.timeout < 65536
 
@@ -80,17 +83,17 @@ pub record IsKept (s : WdgState) (x : Timing) : Type 0 where
   pub timeout : s.timeout ≡ x.timeout
 
 -- the call sets a mode that it may set
-pub record IsSetting (d : WdgDriver) (s : WdgState) (m : WdgMode) : Type 0 where
+pub record IsSetting (d : WdgTable) (s : WdgState) (m : WdgMode) : Type 0 where
   pub pass : error_by d (SetMode (Some m)) (not (is_some s.mode)) ≡ None
   pub allowed : allows d m ≡ true
 
-abbrev pub wdg_holds : WdgDriver → WdgState → WdgBody → Origin Call → Option Told → Type 0
+abbrev pub wdg_holds : WdgTable → WdgState → WdgBody → Origin Call → Option Told → Type 0
 wdg_holds d s (Look m) o t = Before (SetMode (Some m)) o t × IsSetting d s m
 wdg_holds d s (Start x a) o t = (call : Call) × Before call o t × IsStart d s x a call
 wdg_holds d s (KeepMode x a) o t = (call : Call) × After call (answers (answer_of a)) o t × IsKept s x
 wdg_holds d s (KeepTimeout x a) o t = (call : Call) × After call (answers (answer_of a)) o t × IsKept s x
 
-abbrev pub wdg_bodies : (d : WdgDriver) → Bodies (wdg_ground d) WdgBody
+abbrev pub wdg_bodies : (d : WdgTable) → Bodies (wdg_ground d) WdgBody
 wdg_bodies d = record { work_of = wdg_work; takes = wdg_takes; fuel = wdg_left; gap_of = wdg_gap; clean = λ k. false; place = λ f w s k o t. wdg_holds d s k o t }
 
 shortens : (k : WdgBody) (v : ℕ) → Shortens wdg_left k (wdg_takes k v)
@@ -132,7 +135,7 @@ timeout_kept chip w s n is h = record {
   few = h.few;
 }
 
-module _ (d : WdgDriver) where
+module _ (d : WdgTable) where
   -- the timeout that stands in its word
   set_is : (chip : Chip) (w : World) (s : WdgState) (m : WdgMode) → IsSetting d s m → WdgRepresents settled chip w s → IsStart d s (record { mode = m; timeout = narrow (word_of chip TIMEOUT) }) Accepted (SetMode (Some m))
   set_is chip w s m i h =

@@ -1,4 +1,6 @@
 -- The driver keeps to its module: registers, words and lines of others are nothing to it.
+-- From Lawful.
+-- Used by mcal_drivers: proofs/Joining.
 use Rattle.std.proofs.Common.{◌≡◌, ℕ, ◌<◌, ◌≤◌, ◌&&◌, true, false, refl, arith}
 use Rattle.std.proofs.lemmas.Bool.{lt-ltb, le-ltb}
 use Rattle.std.proofs.lemmas.Bool.Decides.{nat_tests}
@@ -13,7 +15,7 @@ use Rattle.service_outline.specs.There.{names_there}
 use Rattle.step_runner.specs.Whose.{only, is_of, module_of_register, module_of_word, WritesWithin, NamesWithin, WritesOthers, NamesOthers, KeepsTo}
 use Rattle.step_runner.proofs.Whose.{not-unless}
 use Rattle.wdg_driver.specs.Bounds.{is_register, is_own_word, owns}
-use Rattle.wdg_driver.specs.declared.driver.WdgDriver.{WdgDriver}
+use Rattle.wdg_machine.specs.declared.table.WdgTable.{WdgTable}
 use Rattle.wdg_driver.specs.laws.Lawful.{wdg}
 
 own_register : (r : Reg) → is_register r ≡ true → is_of (only Wdg) (module_of_register r) ≡ true
@@ -50,7 +52,7 @@ others (Store k v) h = not-unless (is_own_word k) (is_of (only Wdg) (module_of_w
 others _ h = refl
 
 -- it is the watchdog's alone
-pub keeps_watchdog : (d : WdgDriver) → KeepsTo (only Wdg) (driver_of (wdg d))
+pub keeps_watchdog : (d : WdgTable) → KeepsTo (only Wdg) (driver_of (wdg d))
 keeps_watchdog d = record {
   may = λ o made h. within made (and_first (owns made) (names_there made) h);
   owns = λ o made h. others made h;

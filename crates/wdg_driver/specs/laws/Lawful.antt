@@ -1,4 +1,6 @@
 -- The watchdog's driver, as the outline and the runner see it, and that it owes nothing.
+-- From Body, Look, service_outline: Reports, service_outline: Seen, RefinementRight.
+-- Used by frames/rt, mcal_drivers: proofs/Hosting, mcal_drivers: Laws, caller/rt, Keeps and 3 more.
 use Rattle.std.proofs.Common.{List, ◌≡◌, ℕ, ◌+◌, ◌<◌, ◌≤◌, Bool, true, false, ◌==◌, not, nat_lt, Option, Some, None, refl, sym, ◌∙◌, ap, subst, arith}
 use Rattle.std.specs.Prelude.{is_some}
 use Rattle.std.proofs.lemmas.Bool.Decides.{nat_tests}
@@ -8,9 +10,8 @@ use Rattle.mcal_base.specs.declared.config.wdg.WdgMode.{WdgMode}
 use Rattle.mcal_base.specs.declared.config.wdg.WdgMode.TheVariants.{Off, Slow, Fast}
 use Rattle.mcal_base.specs.declared.error_name.ErrorName.{ErrorName}
 use Rattle.run_model.specs.World.{World}
-use Rattle.run_model.specs.Machine.{no_answer, outcome}
+use Rattle.run_model.specs.Machine.{no_answer, outcome, named, answers, tells_error}
 use Rattle.run_model.specs.Frame.{Open, Called}
-use Rattle.service_outline.specs.Done.{named, answers, tells_error}
 use Rattle.service_outline.specs.Outline.{Outlined, IsOutlined, LooksRight, Is_before}
 use Rattle.service_outline.specs.WindowHistory.{Plain, is_windowed}
 use Rattle.service_outline.specs.ShortServices.{driver_of}
@@ -18,15 +19,16 @@ use Rattle.service_outline.specs.declared.body.Looked.{Looked}
 use Rattle.service_outline.specs.declared.short.Short.{Short}
 use Rattle.service_outline.specs.laws.Reports.{error_told}
 use Rattle.service_outline.specs.laws.Seen.{plain_sees}
-use Rattle.wdg_driver.specs.Checks.{error_by, answer_refused}
+use Rattle.wdg_machine.specs.Checks.{error_by, answer_refused}
 use Rattle.wdg_driver.specs.Refinement.{settled, WdgRepresents, wdg_ground}
-use Rattle.wdg_driver.specs.Machine.{WdgState, set_mode, set_timeout, acts_by, wdg_machine}
-use Rattle.wdg_driver.specs.Table.{allows, FitsWdg}
-use Rattle.wdg_driver.specs.Words.{mode_word, state_word, mode_in, narrow}
+use Rattle.wdg_machine.specs.Machine.{WdgState, set_mode, set_timeout, acts_by, wdg_machine}
+use Rattle.wdg_machine.specs.Table.{allows, FitsWdg}
+use Rattle.wdg_machine.specs.Numbers.{narrow}
+use Rattle.wdg_driver.specs.Words.{mode_word, state_word, mode_in}
 use Rattle.wdg_driver.specs.declared.asked.Asked.{Asked}
-use Rattle.wdg_driver.specs.declared.call.Call.{Call}
-use Rattle.wdg_driver.specs.declared.call.Call.TheVariants.{Init, SetMode, SetTriggerCondition}
-use Rattle.wdg_driver.specs.declared.driver.WdgDriver.{WdgDriver}
+use Rattle.wdg_machine.specs.declared.call.Call.{Call}
+use Rattle.wdg_machine.specs.declared.call.Call.TheVariants.{Init, SetMode, SetTriggerCondition}
+use Rattle.wdg_machine.specs.declared.table.WdgTable.{WdgTable}
 use Rattle.wdg_driver.specs.declared.service.WdgBody.{WdgBody}
 use Rattle.wdg_driver.specs.declared.service.WdgBody.TheVariants.{Look, Start, KeepMode, KeepTimeout}
 use Rattle.wdg_driver.specs.declared.words.TheConstants.{STATE}
@@ -35,7 +37,7 @@ use Rattle.wdg_driver.specs.laws.RefinementRight.{ground_right}
 use Rattle.wdg_driver.specs.laws.Look.{sets, begun_by, looked_by, wdg_looked}
 
 -- the driver; any call may be made, and its body has at most four steps
-abbrev pub wdg : WdgDriver → Outlined WdgState Call Asked WdgBody
+abbrev pub wdg : WdgTable → Outlined WdgState Call Asked WdgBody
 wdg d = record {
   basis = wdg_ground d;
   bodies = wdg_bodies d;
@@ -69,16 +71,16 @@ off_word (Some Slow) = refl
 off_word (Some Fast) = refl
 
 -- a call without an error names a mode, and of an initialised module a timeout of at most the largest
-no_mode : (d : WdgDriver) (u : Bool) → error_by d (SetMode None) u ≡ None → ⊥
+no_mode : (d : WdgTable) (u : Bool) → error_by d (SetMode None) u ≡ None → ⊥
 no_mode d true e = cc
 no_mode d false e = cc
 
-few_ticks : (d : WdgDriver) (n : ℕ) (u q : Bool) → nat_lt d.max_ticks n ≡ q → error_by d (SetTriggerCondition n) u ≡ None → (u ≡ false) × (q ≡ false)
+few_ticks : (d : WdgTable) (n : ℕ) (u q : Bool) → nat_lt d.max_ticks n ≡ q → error_by d (SetTriggerCondition n) u ≡ None → (u ≡ false) × (q ≡ false)
 few_ticks d n true q e h = absurd (cc)
 few_ticks d n false true e h = absurd (let f = ap (λ b. b) e in cc)
 few_ticks d n false false e h = (refl, refl)
 
-module _ (d : WdgDriver) (fits : FitsWdg d) (chip : Chip) (w : World) (s : WdgState) (h : WdgRepresents settled chip w s) where
+module _ (d : WdgTable) (fits : FitsWdg d) (chip : Chip) (w : World) (s : WdgState) (h : WdgRepresents settled chip w s) where
   abbrev Looks : Call → Looked WdgBody → Type 0
   Looks call l = LooksRight (wdg d) chip w s call l
 
@@ -124,7 +126,7 @@ module _ (d : WdgDriver) (fits : FitsWdg d) (chip : Chip) (w : World) (s : WdgSt
 
 -- ---- the laws
 
-pub lawful : (d : WdgDriver) → FitsWdg d → IsOutlined (wdg d)
+pub lawful : (d : WdgTable) → FitsWdg d → IsOutlined (wdg d)
 lawful d fits = record {
   basis = ground_right d;
   bodies = bodies_right d;
@@ -143,5 +145,5 @@ lawful d fits = record {
 }
 
 -- it leaves the peripheral rate alone
-pub slow_watchdog : (d : WdgDriver) (chip : Chip) (w : World) (ps : List (Short Asked WdgBody × Open Call)) (s : WdgState) → FitsWdg d → (driver_of (wdg d)).relates chip w ps s → (driver_of (wdg d)).setting.machine.rate s ≤ 16
+pub slow_watchdog : (d : WdgTable) (chip : Chip) (w : World) (ps : List (Short Asked WdgBody × Open Call)) (s : WdgState) → FitsWdg d → (driver_of (wdg d)).relates chip w ps s → (driver_of (wdg d)).setting.machine.rate s ≤ 16
 slow_watchdog d chip w ps s fits h = omega arith

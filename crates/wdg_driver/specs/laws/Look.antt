@@ -1,20 +1,23 @@
 -- The load of the state word: what it decides for each call.
+-- Used by Lawful, asked/rt.
 use Rattle.std.specs.Prelude.{ℕ, ◌==◌, Bool, if◌then◌else◌, List, Option, Some, None}
 use Rattle.mcal_base.specs.declared.answer_name.AnswerName.TheVariants.{ENotOk}
 use Rattle.mcal_base.specs.declared.config.wdg.WdgMode.{WdgMode}
 use Rattle.mcal_base.specs.declared.error_name.ErrorName.{ErrorName}
-use Rattle.service_outline.specs.Done.{owed_error, named}
+use Rattle.run_model.specs.Machine.{named}
+use Rattle.service_outline.specs.Done.{owed_error}
 use Rattle.service_outline.specs.declared.body.Looked.{Looked}
 use Rattle.service_outline.specs.declared.body.Looked.TheVariants.{Refused, Goes}
 use Rattle.service_outline.specs.declared.done.Done.{Done}
 use Rattle.service_outline.specs.declared.done.Epilogue.TheVariants.{Nothing}
-use Rattle.wdg_driver.specs.Checks.{service_of, facts_by, error_by, answer_refused, reporting}
-use Rattle.wdg_driver.specs.Table.{allows}
-use Rattle.wdg_driver.specs.Words.{mode_in, narrow}
+use Rattle.wdg_machine.specs.Checks.{service_of, facts_by, error_by, answer_refused, reporting}
+use Rattle.wdg_machine.specs.Table.{allows}
+use Rattle.wdg_machine.specs.Numbers.{narrow}
+use Rattle.wdg_driver.specs.Words.{mode_in}
 use Rattle.wdg_driver.specs.declared.asked.Asked.{Asked}
-use Rattle.wdg_driver.specs.declared.call.Call.TheVariants.{Init, SetMode, SetTriggerCondition}
-use Rattle.wdg_driver.specs.declared.call.Call.{Call}
-use Rattle.wdg_driver.specs.declared.driver.WdgDriver.{WdgDriver}
+use Rattle.wdg_machine.specs.declared.call.Call.TheVariants.{Init, SetMode, SetTriggerCondition}
+use Rattle.wdg_machine.specs.declared.call.Call.{Call}
+use Rattle.wdg_machine.specs.declared.table.WdgTable.{WdgTable}
 use Rattle.wdg_driver.specs.declared.service.Says.TheVariants.{Silent}
 use Rattle.wdg_driver.specs.declared.service.WdgBody.{WdgBody}
 use Rattle.wdg_driver.specs.declared.service.WdgBody.TheVariants.{Look, Start}
@@ -33,7 +36,7 @@ abbrev pub sets : WdgMode → (allowed : Bool) → Looked WdgBody
 sets m allowed = if allowed then Goes (Look m) else not_set
 
 -- what a call without an error goes on with, by the state word
-abbrev pub begun_by : WdgDriver → Call → ℕ → Looked WdgBody
+abbrev pub begun_by : WdgTable → Call → ℕ → Looked WdgBody
 begun_by d Init state = Goes (Start d.initial Silent)
 begun_by d (SetMode None) state = not_set
 begun_by d (SetMode (Some m)) state = sets m (allows d m)

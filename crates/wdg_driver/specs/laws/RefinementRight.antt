@@ -1,4 +1,6 @@
 -- The ground keeps what it owes: at the start, in time, under moves elsewhere and over a reset.
+-- From service_outline: Words, service_outline: There.
+-- Used by Body, Lawful.
 use Rattle.std.proofs.Common.{◌≡◌, ℕ, ◌+◌, ◌-◌, ◌*◌, ◌<◌, ◌≤◌, Bool, true, false, ◌&&◌, ◌==◌, not, nat_lt, Option, Some, None, refl, sym, ◌∙◌, ap, subst, arith}
 use Rattle.std.specs.Prelude.{is_some, IsSome, if◌then◌else◌, max, option_map}
 use Rattle.std.proofs.lemmas.Bool.{and_parts}
@@ -29,14 +31,14 @@ use Rattle.service_outline.specs.There.{names_there}
 use Rattle.service_outline.specs.laws.There.{move_there}
 use Rattle.service_outline.specs.laws.Words.{stores_in, word_apart, word_later, fills_there}
 use Rattle.wdg_driver.specs.Bounds.{owns, may, is_own_word, wdg_setting}
-use Rattle.wdg_driver.specs.Checks.{service_of, error_by}
+use Rattle.wdg_machine.specs.Checks.{service_of, error_by}
 use Rattle.wdg_driver.specs.Refinement.{Lag, settled, WatchRepresents, WdgRepresents, wdg_ground}
-use Rattle.wdg_driver.specs.Machine.{WdgState, first_state, unit_of, deadline_by, set_mode, set_timeout, work, acts_by, happens, expires}
-use Rattle.wdg_driver.specs.Table.{allows}
+use Rattle.wdg_machine.specs.Machine.{WdgState, first_state, unit_of, deadline_by, set_mode, set_timeout, work, acts_by, happens, expires}
+use Rattle.wdg_machine.specs.Table.{allows}
 use Rattle.wdg_driver.specs.Words.{load_by}
-use Rattle.wdg_driver.specs.declared.call.Call.{Call}
-use Rattle.wdg_driver.specs.declared.call.Call.TheVariants.{Init, SetMode, SetTriggerCondition}
-use Rattle.wdg_driver.specs.declared.driver.WdgDriver.{WdgDriver}
+use Rattle.wdg_machine.specs.declared.call.Call.{Call}
+use Rattle.wdg_machine.specs.declared.call.Call.TheVariants.{Init, SetMode, SetTriggerCondition}
+use Rattle.wdg_machine.specs.declared.table.WdgTable.{WdgTable}
 use Rattle.wdg_driver.specs.declared.words.TheConstants.{STATE, TIMEOUT}
 
 -- ---- the watchdog's time
@@ -105,7 +107,7 @@ watch_event : (chip : Chip) (order : Order) → (happened chip order).watchdog.w
 watch_event chip (Level p v) = level_leaves (λ c. c.watchdog.watch) chip p v refl
 watch_event chip _ = refl
 
-later_agrees : (d : WdgDriver) (gap : Lag) (chip : Chip) (w : World) (s : WdgState) (order : Order) → Comes (wdg_setting d) chip w s order → WdgRepresents gap chip w s → WdgRepresents gap (happened chip order) (world_after w chip.clock.rate order) s
+later_agrees : (d : WdgTable) (gap : Lag) (chip : Chip) (w : World) (s : WdgState) (order : Order) → Comes (wdg_setting d) chip w s order → WdgRepresents gap chip w s → WdgRepresents gap (happened chip order) (world_after w chip.clock.rate order) s
 later_agrees d gap chip w s order free h = same_agrees gap chip (happened chip order) w (world_after w chip.clock.rate order) s
     (stands-event chip w order (fills_there (wdg_setting d) (is_masked chip) w s free.frames order free.free) h.outside)
     (osc_later w chip.clock.rate order) (watch_event chip order)
@@ -153,7 +155,7 @@ asks_none (SetTriggerCondition n) = refl
 -- ---- errors
 
 -- what a call without an error does tells none
-work_tells : (d : WdgDriver) (w : World) (s : WdgState) (call : Call) → (work d w s call).told.error ≡ None
+work_tells : (d : WdgTable) (w : World) (s : WdgState) (call : Call) → (work d w s call).told.error ≡ None
 work_tells d w s Init = refl
 work_tells d w s (SetMode None) = refl
 work_tells d w s (SetMode (Some m)) = by (allows d m)
@@ -167,17 +169,17 @@ work_tells d w s (SetTriggerCondition n) = by s.mode
     by None = refl
     by (Some m) = refl
 
-acts_leave : (d : WdgDriver) (w : World) (s : WdgState) (call : Call) (e : Option ErrorName) → ErrorLeaves s (acts_by d w s call e)
+acts_leave : (d : WdgTable) (w : World) (s : WdgState) (call : Call) (e : Option ErrorName) → ErrorLeaves s (acts_by d w s call e)
 acts_leave d w s call None some = absurd (let k = subst (λ x. IsSome x) (work_tells d w s call) some in cc)
 acts_leave d w s call (Some e) some = (refl, refl)
 
-error_leaves : (d : WdgDriver) (w : World) (s : WdgState) (call : Call) (times : ℕ → ℕ) (out : Outcome WdgState) → happens d w s (Acts call times) ≡ Some out → ErrorLeaves s out
+error_leaves : (d : WdgTable) (w : World) (s : WdgState) (call : Call) (times : ℕ → ℕ) (out : Outcome WdgState) → happens d w s (Acts call times) ≡ Some out → ErrorLeaves s out
 error_leaves d w s call times out is = subst (λ o. ErrorLeaves s o) (given is) (acts_leave d w s call (error_by d call (not (is_some s.mode))))
   where
     given : {A : Type 0} {x y : A} → Some x ≡ Some y → x ≡ y
     given e = cc
 
-pub ground_right : (d : WdgDriver) → IsGround (wdg_ground d)
+pub ground_right : (d : WdgTable) → IsGround (wdg_ground d)
 ground_right d = record {
   starts = λ chip w wired h. reset_agrees chip w PowerOn h;
   moves = λ w s order. refl;

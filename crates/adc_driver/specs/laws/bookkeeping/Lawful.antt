@@ -13,6 +13,7 @@ use Terms.{no_duties, None, Notification, Option, owes_at, Plain, PulseCommit, P
 use Terms.{Reservations, Services, services_driver, services_lawful, Setup, SetupResultBuffer, short_left, short_move}
 use Terms.{Some, StartGroupConversion, STATE, steps_of, StopGroupConversion, Sweep, TimerHigh, true, word_of, World}
 use Terms.{Write, ℕ}
+use Rattle.mcal_base.specs.declared.register.Reg.TheVariants.{SerialWait}
 use Rattle.adc_driver.specs.laws.bookkeeping.RefinementRight.{bodies_right, ground_right}
 use Rattle.adc_machine.specs.Bounds as bounds
 use Rattle.adc_machine.specs.declared.call.Call.TheVariants as calls
@@ -61,6 +62,7 @@ module _ (d : AdcTable) (fuel room : AdcBody → ℕ) (inits : LongBodies (AdcGr
     no_windows (Read (TimerHigh c)) e = absurd (cc)
     no_windows (Read (CaptureCountHigh c)) e = absurd (cc)
     no_windows (Read (CaptureTimeHigh c)) e = absurd (cc)
+    no_windows (Read (SerialWait u)) e = absurd (cc)
     no_windows (Write (PulseCommit c) v) e = absurd (cc)
     no_windows (Write (PulseIdle c) v) e = absurd (cc)
     no_windows _ e = refl

@@ -16,8 +16,8 @@ use Rattle.mcal_base.specs.declared.moves.Unit.TheVariants.{Adc0, Adc1}
 use Rattle.mcal_base.specs.declared.register.Reg.TheVariants.{ConverterList, ConverterGo, ConverterAck, TriggerSet, TriggerClear, TriggerFlags}
 use Rattle.mcal_base.specs.declared.service.Service.{Service}
 use Rattle.mcal_base.specs.declared.service.Service.TheVariants as services
-use Rattle.run_model.specs.Machine.{no_answer}
-use Rattle.service_outline.specs.Done.{named, numbers, ends, owed_error}
+use Rattle.run_model.specs.Machine.{no_answer, named, numbers}
+use Rattle.service_outline.specs.Done.{ends, owed_error}
 use Rattle.service_outline.specs.declared.done.Done.{Done}
 use Rattle.service_outline.specs.declared.done.Epilogue.{Epilogue}
 use Rattle.service_outline.specs.declared.done.Epilogue.TheVariants.{Nothing}

@@ -5,8 +5,8 @@ use Rattle.mcal_base.specs.declared.answer.Answer.{Answer}
 use Rattle.mcal_base.specs.declared.answer_name.AnswerName.TheVariants.{EOk}
 use Rattle.mcal_base.specs.declared.moves.Move.{Move}
 use Rattle.mcal_base.specs.declared.moves.Move.TheVariants as moves
-use Rattle.run_model.specs.Machine.{no_answer}
-use Rattle.service_outline.specs.Done.{goes, ends, named_with}
+use Rattle.run_model.specs.Machine.{no_answer, named_with}
+use Rattle.service_outline.specs.Done.{goes, ends}
 use Rattle.service_outline.specs.declared.done.BodyTaken.{BodyTaken}
 use Rattle.service_outline.specs.declared.done.Epilogue.TheVariants.{Nothing}
 use Rattle.word_shapes.specs.TripleBuffer.{take_move, take_left, take_gave, take_start}

@@ -1,7 +1,7 @@
 -- The windows in which a claim ends: the search of what waits first, and the look at the claim.
 -- From services.KeepRight.
 -- Used by adc_driver: services.SeekSteps, adc_driver: services.LookRight.
-use Rattle.std.proofs.Common.{◌≡◌, ◌&&◌, [], ◌∷◌, ◌∙◌, if◌then◌else◌}
+use Rattle.std.proofs.Common.{◌≡◌, [], ◌∷◌, ◌∙◌, if◌then◌else◌}
 use Rattle.adc_turns.specs.Terms
 use Terms.{adc_bodies, adc_machine, AdcBody, AdcGround, AdcState, AdcTable, Agrees, and_parts, ap, arith, AssertedAt}
 use Terms.{body_ends, body_work, Bool, Call, Chip, choice, choice_next, choice_none, DecidedRight, ended_at, Entry}

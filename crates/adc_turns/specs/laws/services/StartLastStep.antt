@@ -49,7 +49,7 @@ asks_for s g e = by (group_at s g).waiting refl e
 go_makes : (d : AdcTable) (f r : AdcBody → ℕ) (below : Reservations) (chip : Chip) (w : World) (s : AdcState) (m : ℕ → Bool) (y u g left : ℕ) (c : Bool) (o : Origin Call) (p : FrameHistory) (clean : Bool) (v : ℕ) (j : AdcBody) → InWindow d (windows.Convert u g c) below w s o p → Agrees d below (chip_after chip (Write (ConverterGo u) left) y) w (started w s u g)
     → MakesTo (AdcGround d) (adc_bodies d f r) below chip (chip_after chip (Write (ConverterGo u) left) y) w s o (Write (ConverterGo u) left) clean v y p (missed_after (adc_machine d) w s m) (j, record { event = Some (events.Start (unit_named u)); done = Some (done no_answer) })
 go_makes d f r below chip w s m y u g left true _ _ clean v j (Is_this_frame, few, on, alone, first) h = record {
-  may = refl;
+  may = (refl, tt);
   stands = (named_converter u few, named_number u few);
   state = started w s u g;
   told = tells_nothing;
@@ -61,7 +61,7 @@ go_makes d f r below chip w s m y u g left true _ _ clean v j (Is_this_frame, fe
   next = (h, may_leave d w s m u few first.0);
 }
 go_makes d f r below chip w s m y u g left false _ _ clean v j (Has_acted a Is_this_frame, few, on, none, first) h = record {
-  may = refl;
+  may = (refl, λ q. ap is_some (ap (λ n. starts_on d w s n) (named_of u few) ∙ ap (λ n. starting w s u n) first.3));
   stands = (named_converter u few, named_number u few);
   state = started w s u g;
   told = tells_nothing;
@@ -73,7 +73,7 @@ go_makes d f r below chip w s m y u g left false _ _ clean v j (Has_acted a Is_t
   next = (h, may_end d u below (Called a) acted (missed_after (adc_machine d) w s m) (Has_acted a Is_this_frame));
 }
 go_makes d f r below chip w s m y u g left false _ _ clean v j (Has_served l own Is_this_frame, few, on, none, first) h = record {
-  may = refl;
+  may = (refl, tt);
   stands = (named_converter u few, named_number u few);
   state = started w s u g;
   told = tells_nothing;

@@ -1,6 +1,6 @@
 -- The moves of a window whose event comes after some of them, one after the other.
 -- Used by services.StartRight, adc_driver: bookkeeping.MayMove, services.StartLastStep and 2 more.
-use Rattle.std.proofs.Common.{◌≡◌, ◌≢◌, ◌+◌, ◌<◌, ◌&&◌, ◌||◌, ◌==◌, [], ◌∷◌, ◌++◌, ◌∙◌, if◌then◌else◌}
+use Rattle.std.proofs.Common.{◌≡◌, ◌+◌, ◌<◌, ◌&&◌, ◌||◌, ◌==◌, [], ◌∷◌, ◌++◌, ◌∙◌, if◌then◌else◌}
 use Rattle.adc_turns.specs.Terms
 use Terms.{AdcBody, AdcTable, after_making, ap, arith, body_takes, Bool, claim_ended, Continuation, ConverterGo}
 use Terms.{deed_move, deed_or_open, ends_claim, eq_other, eq_self, Event, false, is_some, length, length-append}

@@ -1,6 +1,6 @@
 use Rattle.std.proofs.Common.{ap, ◌∙◌}
-use Rattle.service_outline.specs.Done.{answers, number}
-use Rattle.dio_driver.specs.Accesses.{moved_down}
+use Rattle.run_model.specs.Machine.{answers, number}
+use Rattle.dio_machine.specs.Values.{moved_down}
 use Rattle.audit_clock.proofs.PortLevels.{value_same}
 use Rattle.audit_clock.proofs.ports.tells_value.Goals as goal
 

@@ -10,14 +10,14 @@ use Rattle.bench_top.proofs.top.run_and_report.Goals as goal
 
 pub returns-in_default-clause-concludes : goal.returns-in_default-clause-concludes
 returns-in_default-clause-concludes g c =
-    forgot_of (vec_len c.args.rack.now) (Runs c.args.printing c.args.config c.args.script.now) _ _ _ _ c.no_memory.ensures.status (left_empty (vec_len c.args.rack.now) (Runs c.args.printing c.args.config c.args.script.now) _ c.no_memory.ensures.journal) (c.no_memory.ensures.keeps (vec_len c.args.rack.now) (Runs c.args.printing c.args.config c.args.script.now))
+    forgot_of (vec_len c.args.rack.now) (Runs c.args.printing c.args.config c.args.script.now) _ _ c.no_memory.ensures.status refl refl (left_empty (vec_len c.args.rack.now) (Runs c.args.printing c.args.config c.args.script.now) _ c.no_memory.ensures.journal) (c.no_memory.ensures.keeps (vec_len c.args.rack.now) (Runs c.args.printing c.args.config c.args.script.now))
 
 pub returns-in_default-clause-told : goal.returns-in_default-clause-told
 returns-in_default-clause-told g c = told_nothing (vec_len c.args.rack.now) _ _ _ c.no_memory.ensures.journal (hung_so _ c.args.rack.now.items (vec_len c.args.rack.now) (omega arith)) refl
 
 pub returns-in_default-run-clause-concludes : goal.returns-in_default-run-clause-concludes
 returns-in_default-run-clause-concludes g c =
-    forgot_of (vec_len c.args.rack.now) (Runs c.args.printing c.args.config c.args.script.now) _ _ _ _ c.no_memory-in_default-run.ensures.status (left_empty (vec_len c.args.rack.now) (Runs c.args.printing c.args.config c.args.script.now) _ c.no_memory-in_default-run.ensures.journal) (c.no_memory-in_default-run.ensures.keeps (vec_len c.args.rack.now) (Runs c.args.printing c.args.config c.args.script.now))
+    forgot_of (vec_len c.args.rack.now) (Runs c.args.printing c.args.config c.args.script.now) _ _ c.no_memory-in_default-run.ensures.status refl refl (left_empty (vec_len c.args.rack.now) (Runs c.args.printing c.args.config c.args.script.now) _ c.no_memory-in_default-run.ensures.journal) (c.no_memory-in_default-run.ensures.keeps (vec_len c.args.rack.now) (Runs c.args.printing c.args.config c.args.script.now))
 
 pub returns-in_default-run-clause-told : goal.returns-in_default-run-clause-told
 returns-in_default-run-clause-told g c = told_nothing (vec_len c.args.rack.now) _ _ _ c.no_memory-in_default-run.ensures.journal (hung_so _ c.args.rack.now.items (vec_len c.args.rack.now) (omega arith)) c.in_default-run.ensures.told
@@ -33,7 +33,7 @@ returns-then-ran-clause-told g c = told_so (vec_len c.args.rack.now) _ _ _ _ (ap
 pub returns-then-ran-2-clause-concludes : goal.returns-then-ran-2-clause-concludes
 returns-then-ran-2-clause-concludes g c =
     let whole = OnFalse_at c.if-ran.false c.in-Ok-run.ensures.whole in
-    left_so (vec_len c.args.rack.now) (Runs c.args.printing c.args.config c.args.script.now) _ _ _ _ _ c.no_room.ensures.status (ap (λ w. w.entries) c.no_room.ensures.journal) (inr (inl whole)) (whole_keeps (vec_len c.args.rack.now) c.args.config c.args.script.now c.in-Ok-run.ran.journal.entries c.requires.valid c.requires.script whole)
+    left_so (vec_len c.args.rack.now) (Runs c.args.printing c.args.config c.args.script.now) _ _ _ c.no_room.ensures.status (ap (λ w. w.entries) c.no_room.ensures.journal) refl refl (inr (inl whole)) (whole_keeps (vec_len c.args.rack.now) c.args.config c.args.script.now c.in-Ok-run.ran.journal.entries c.requires.valid c.requires.script whole)
 
 pub returns-then-ran-2-clause-told : goal.returns-then-ran-2-clause-told
 returns-then-ran-2-clause-told g c = told_so (vec_len c.args.rack.now) _ _ _ _ (ap (λ w. w.entries) c.no_room.ensures.journal) c.in-Ok-run.ensures.told
@@ -69,7 +69,7 @@ returns-in-Err-TooLong-clause-told g c = told_so (vec_len c.args.rack.now) _ _ _
 pub returns-clause-concludes : goal.returns-clause-concludes
 returns-clause-concludes g c =
     let whole = OnFalse_at c.if-ran.false c.in-Ok-run.ensures.whole in
-    left_so (vec_len c.args.rack.now) (Runs c.args.printing c.args.config c.args.script.now) _ _ _ _ _ c.no_room-in-Err-NoMemory.ensures.status (ap (λ w. w.entries) c.no_room-in-Err-NoMemory.ensures.journal) (inr (inl whole))
+    left_so (vec_len c.args.rack.now) (Runs c.args.printing c.args.config c.args.script.now) _ _ _ c.no_room-in-Err-NoMemory.ensures.status (ap (λ w. w.entries) c.no_room-in-Err-NoMemory.ensures.journal) refl refl (inr (inl whole))
     (whole_keeps (vec_len c.args.rack.now) c.args.config c.args.script.now c.in-Ok-run.ran.journal.entries c.requires.valid c.requires.script whole)
 
 pub returns-clause-told : goal.returns-clause-told

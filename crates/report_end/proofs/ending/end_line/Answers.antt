@@ -11,6 +11,6 @@ pub returns : goal.returns
 returns c = λ shows.
     IfOk-weaker c.format.result _ _ (λ text is.
     is
-    ∙ ap (λ (t : Tally). end_text t) (c.in_ok-tally.ensures c.args.journal.now.words)
-    ∙ ap (λ (es : List Entry). end_text (script_counted beginning c.args.script.now es).tally) c.items.ensures
+    ∙ ap (λ (t : Tally). end_text t) c.in_ok-tally.ensures
+    ∙ ap (λ (es : List Entry). end_text (script_counted beginning c.args.script.now es).tally) c.lists.ensures.entries
     ∙ end_is c.args.script.now c.args.journal.now.entries shows) c.format.ensures.ok

@@ -5,14 +5,16 @@ use Rattle.std.proofs.Common.{◌≡◌, ◌+◌, ◌<◌, ◌≤◌, ◌^◌, �
 use Rattle.spi_driver.specs.Terms
 use Terms.{Adc0, Adc1, All, and_first, and_parts, ap, arith, Asked, basis_right, Bool, Call, Called, Channel}
 use Terms.{Destination, EnableClear, EnableSet, EnablesOthers, EnablesWithin, entering, enumerate_from, false, FitsSpi}
-use Terms.{has_bit, has_lines, is_for_lines, is_line_of, is_number, is_of, is_own_word, is_polling, is_serial, is_some}
+use Terms.{has_bit, has_lines, inl, inr, is_for_lines, is_line_of, is_number, is_of, is_own_word, is_polling, is_serial, is_some}
 use Terms.{is_used, is_users_place, is_users_word, is_within, is_word_of, IsSome, KeepsTo, length, length_by, List}
 use Terms.{list_all, list_any, Load, may_name, may_write, module_of_line, module_of_register, module_of_unit}
 use Terms.{module_of_word, Move, names_there, NamesOthers, NamesWithin, nat_lt, nat_tests, None, not, not-unless, only}
 use Terms.{Option, own_words, owns_written, polls, Read, refl, Reg, SerialAck, SerialData, SerialReceived}
 use Terms.{SerialSelect, SerialState, SerialWait, SerialWidth, services_driver, Some, Source, Spi, Spi0, Spi1, spi_machine}
-use Terms.{spi_owns, SpiState, SpiTable, start_of, Starts, Store, suc, sym, true, uses_by, World, Write, WritesOthers}
+use Terms.{spi_owns, SpiState, SpiTable, start_of, Starts, Store, subst, suc, sym, true, uses_by, World, Write, WritesOthers}
 use Terms.{WritesWithin, ℕ}
+use Rattle.run_model.specs.Frame.{is_wait}
+use Rattle.spi_sequences.specs.laws.bookkeeping.RefinementRight.{FrameMoves, frame_moves}
 use Rattle.spi_driver.specs.laws.{bookkeeping.Joined.{joined}, bookkeeping.Lawful.{handled_by}}
 use Rattle.spi_driver.specs.laws.{bookkeeping.ModuleBounds.{all_few, own_few}}
 use Rattle.mcal_base.specs.declared.moves.Unit as units
@@ -136,11 +138,15 @@ module _ (d : SpiTable) (fits : FitsSpi d) where
   writes r v e = own_register r e
 
   within : (made : Move) → may_name d made ≡ true → NamesWithin (only Spi) made
-  within (Read r) e = own_register r e
+  within (Read r) e = own_register r (and_first (is_serial r) (not (is_wait (Read r))) e)
   within (Write r v) e = writes r v e
   within (Load k) e = own_place k e
   within (Store k v) e = own_place k e
   within _ e = absurd (cc)
+
+  named : (made : Move) → FrameMoves d made → NamesWithin (only Spi) made
+  named made (inl (u, is, there)) = subst (λ m. NamesWithin (only Spi) m) (sym is) (own_register (SerialWait u) refl)
+  named made (inr e) = within made (and_first (may_name d made) (names_there made) e)
 
   others_write : (r : Reg) (v : ℕ) → WritesOthers (only Spi) r v → owns_written r v ≡ false
   others_write EnableSet v h = enables_none v h
@@ -189,7 +195,7 @@ module _ (d : SpiTable) (fits : FitsSpi d) where
   -- it is the serial units' alone
   pub keeps_serial : KeepsTo (only Spi) (services_driver (joined d))
   keeps_serial = record {
-    may = λ o made h. within made (and_first (may_name d made) (names_there made) h);
+    may = λ o made h. named made (frame_moves d o made h);
     owns = λ o made h. others made h;
     handlers = λ l h. line_of l h;
     polls = λ w s c. polled s c;

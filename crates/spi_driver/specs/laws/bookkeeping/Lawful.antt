@@ -10,8 +10,8 @@ use Terms.{cancel_begun, cancel_bodies, cancel_right, CancelBody, cancelled, Cap
 use Terms.{carried-right, carried_at, carried_for, Carrying, Channel, channel_begun, channel_of, ChannelCall}
 use Terms.{ChannelState, Chip, class_of, Cleared, Debt, Decides, Declines, Done, ended_at, ending_gave, Entered}
 use Terms.{entry_carried, error_by, error_of_sending, error_told, ErrorName, false, finds_held, First, first_served}
-use Terms.{FitsSpi, found_none, FrameHistory, free_windows, fresh_history, Handler, Handling, has_channel, HeldRight}
-use Terms.{in_list, init_bodies, init_right, init_within, InitBody, Interrupt, is_busy, is_closed, is_external_channel}
+use Terms.{FitsSpi, found_none, FrameHistory, fresh_history, Handler, Handling, has_channel, HeldRight}
+use Terms.{in_list, init_bodies, inl, inr, init_right, init_within, InitBody, Interrupt, is_busy, is_closed, is_external_channel}
 use Terms.{is_internal_channel, is_number, is_off, is_past, is_pending, is_polling, is_some, is_sync_sequence}
 use Terms.{Is_this_frame, is_used, is_users, is_windowed, is_wrong_length, is_wrong_sequence, IsLawful, job_of}
 use Terms.{jobs_by, jobs_of, LeavesNone, length, length_by, List, LongBodies, Looked, looked_by, Main, mark_of, may_end}
@@ -26,7 +26,11 @@ use Terms.{Some, some_of, spi_basis, spi_ends, spi_looked, spi_machine, spi_sett
 use Terms.{SpiTable, SpiUninit, STATE, status_by, steps_of, subst, suc, sym, sync_begins, SyncBody, SyncTransmit, take}
 use Terms.{take_by, take_held, tells_error, tells_nothing, TimerHigh, to_write, Transmit, true, unit_body, unit_by}
 use Terms.{unit_few, unit_of_sequence, UnitBody, value_of, view, whole_bodies, whole_right, WholeBody, word_of}
-use Terms.{words_in, World, Write, write_bodies, write_right, WriteBody, WriteIb, Writing, zero, ℕ}
+use Terms.{waiting_windows, words_in, World, Write, write_bodies, write_right, WriteBody, WriteIb, Writing, zero, ℕ}
+use Rattle.run_model.specs.Frame.{is_wait}
+use Rattle.spi_sequences.specs.laws.bookkeeping.RefinementRight.{FrameMoves, frame_moves}
+use Rattle.spi_sequences.specs.laws.services.AtOnce.{cancel_once, init_once, never, query_once, read_once, set_up_once}
+use Rattle.spi_sequences.specs.laws.services.AtOnce.{whole_once, write_once}
 use Rattle.spi_driver.specs.laws.bookkeeping.UnpolledFrames.{LeavesBy, PollsNone, cancel_unpolled, init_unpolled}
 use Rattle.spi_driver.specs.laws.bookkeeping.UnpolledFrames.{leaves_unpolled, lets_none, query_unpolled, read_unpolled}
 use Rattle.spi_driver.specs.laws.bookkeeping.UnpolledFrames.{set_up_unpolled, unpolled_left, whole_unpolled}
@@ -206,6 +210,8 @@ pub record AreSending (d : SpiTable) (sync_bodies : LongBodies (spi_basis d) Syn
   pub right : AreLong (spi_basis d) sync_bodies
   pub begins : (below : Reservations) (chip : Chip) (w : World) (s : SpiState) (q : ℕ) → q < 8 → is_some (sequence_of d q) ≡ true → is_sync_sequence d q ≡ true → is_off s.mode ≡ false → Beside (spi_setting d) (Called (calls.Sequence q SyncTransmit)) below → SpiRepresents d below chip w s
       → AssertedAt (spi_basis d) sync_bodies below chip w s (sync_begins d q (unit_of_sequence d q)) (Called (calls.Sequence q SyncTransmit)) fresh_history
+  -- it waits with the mask open
+  pub opens : (k : SyncBody) → is_wait (sync_bodies.work_of k) ≡ true → is_closed (sync_bodies.assertion k) ≡ false
   pub closed : (q : ℕ) → is_closed (sync_bodies.assertion (sync_begins d q (unit_of_sequence d q))) ≡ true
   pub fuel : (q : ℕ) → q < 8 → is_some (sequence_of d q) ≡ true → sync_bodies.fuel (sync_begins d q (unit_of_sequence d q)) ≤ sent_steps d (sequence_of d q) - 7
   pub room : (q : ℕ) → sync_bodies.room (sync_begins d q (unit_of_sequence d q)) ≤ 29
@@ -238,6 +244,7 @@ module _ (d : SpiTable) (unit_bodies : LongBodies (spi_basis d) UnitBody) (sync_
   -- what is left to show of the frames that start or serve units, and of those that send and wait
   pub record AreRight : Type 1 where
     pub units : AreLong (spi_basis d) unit_bodies
+    pub at_once : (k : UnitBody) → is_wait (unit_bodies.work_of k) ≡ false
     pub sends : AreSending d sync_bodies
     pub begins_request : (below : Reservations) (chip : Chip) (w : World) (s : SpiState) (q : ℕ) → q < 8 → is_sync_sequence d q ≡ false → is_off s.mode ≡ false → error_by d (calls.Sequence q AsyncTransmit) (is_off s.mode) false ≡ None → SpiRepresents d below chip w s
         → Proceeds spi below chip w s (calls.Sequence q AsyncTransmit) (unit_body (record { table = d; errand = Transmit q; unit = unit_of_sequence d q; place = place.Request (request.Look 0) }))
@@ -556,13 +563,29 @@ module _ (d : SpiTable) (unit_bodies : LongBodies (spi_basis d) UnitBody) (sync_
         both_ending g firsts lasts spi_ends first (both_ending g (both (set_up_bodies d) (both (write_bodies d) (read_bodies d))) (both unit_bodies (both (cancel_bodies d) sync_bodies)) (λ k. spi_ends (Second k)) of_channel of_sequence)
 
     -- it reads no high half, and sets no output
-    no_windows : (made : Move) → may_name d made ≡ true → is_windowed made ≡ false
+    no_windows : (made : Move) → may_name d made ≡ true → is_windowed made ≡ is_wait made
     no_windows (Read (TimerHigh c)) e = absurd (cc)
     no_windows (Read (CaptureCountHigh c)) e = absurd (cc)
     no_windows (Read (CaptureTimeHigh c)) e = absurd (cc)
     no_windows (Write (PulseCommit c) v) e = absurd (cc)
     no_windows (Write (PulseIdle c) v) e = absurd (cc)
     no_windows _ e = refl
+
+    none_windowed : (made : Move) → FrameMoves d made → is_windowed made ≡ is_wait made
+    none_windowed made (inl (u, is, there)) = subst (λ m. is_windowed m ≡ is_wait m) (sym is) refl
+    none_windowed made (inr e) = no_windows made (and_parts (may_name d made) (names_there made) e).0
+
+    -- and it waits with the mask open
+    waits_open : (k : SpiBody) → is_wait ((both firsts lasts).work_of k) ≡ true → is_closed ((both firsts lasts).assertion k) ≡ false
+    waits_open (First (First (First k))) e = never _ (init_once k) e
+    waits_open (First (First (Second k))) e = never _ (whole_once k) e
+    waits_open (First (Second k)) e = never _ (query_once k) e
+    waits_open (Second (First (First k))) e = never _ (set_up_once k) e
+    waits_open (Second (First (Second (First k)))) e = never _ (write_once k) e
+    waits_open (Second (First (Second (Second k)))) e = never _ (read_once k) e
+    waits_open (Second (Second (First k))) e = never _ (a.at_once k) e
+    waits_open (Second (Second (Second (First k)))) e = never _ (cancel_once k) e
+    waits_open (Second (Second (Second (Second k)))) e = a.sends.opens k e
 
     handled : (line : ℕ) (q : Bool) → is_some (handled_by d line q) ≡ q
     handled line true = refl
@@ -615,7 +638,7 @@ module _ (d : SpiTable) (unit_bodies : LongBodies (spi_basis d) UnitBody) (sync_
     spi_right = record {
       basis = basis_right d fits;
       bodies = bodies_right;
-      windows = free_windows spi bodies_right (λ k. refl) (λ o made m. no_windows made (and_parts (may_name d made) (names_there made) m).0);
+      windows = waiting_windows spi bodies_right (λ k. refl) (λ o made m. none_windowed made (frame_moves d o made m)) waits_open;
       unseen = λ below chip w s k call at. tt;
       writes = no_duties spi (λ k call writes. tt) (λ call. refl);
       starts = record { later = λ w s order rate line e. lets_none d w s order rate line e; done = done; stops = stops };

@@ -18,9 +18,6 @@ use Rattle.spi_driver.specs.laws.services.UnitFrames.{serve_spot, unit_bodies, u
 use Rattle.spi_driver.specs.laws.services.UnitParts.{IsServing, IsStarting, ServeLess, Serving, StartLess, Starting}
 use Rattle.spi_driver.specs.laws.services.UnitParts.{debt_of, foot, serve_room_at, start_room_at}
 use Rattle.spi_driver.specs.laws.services.UnitRight.{StandX, asking_plain, find_plain, front_plain}
-use Rattle.word_shapes.specs.declared.search.Search.TheVariants as search
-use Rattle.spi_jobs.specs.declared.finding.Find.TheVariants as finds
-use Rattle.spi_machine.specs.declared.call.Call.TheVariants as calls
 use Rattle.spi_sequences.specs.declared.service.request.RequestPlace.TheVariants as request
 use Rattle.spi_sequences.specs.declared.service.request.Requested.TheVariants as requested
 use Rattle.spi_sequences.specs.declared.service.serve.ServePlace.TheVariants as serve

@@ -1,13 +1,13 @@
 -- How many words and steps the module has at most.
 -- Used by bookkeeping.KeepsToModule, proofs/frames/SpiDriverCaller/call_steps/Answers.
-use Rattle.std.proofs.Common.{◌≡◌, ◌+◌, ◌*◌, ◌<◌, ◌≤◌, if◌then◌else◌}
+use Rattle.std.proofs.Common.{◌≡◌, ◌+◌, ◌*◌, ◌≤◌, if◌then◌else◌}
 use Rattle.spi_driver.specs.Terms
-use Terms.{All, ap, arith, AsyncTransmit, Bool, Call, call_steps, Cancel, Channel, channel_number, channel_of}
-use Terms.{channel_steps, channel_words_steps, ChannelCall, ChannelList, count_by-le-length, DeInit, false, FitsSpi}
-use Terms.{Get, get_or_default, Init, internal_by, internal_words, is_some, job_number, job_steps, JobList, jobs_steps}
-use Terms.{length, length_by, list_of, MainFunctionHandling, nat_lt, nat_tests, None, objects, OfChannel, Option}
-use Terms.{own_words, ReadIb, refl, sent_steps, sequence_of, SetAsyncMode, SetupEb, slice_index_or, Some, SpiTable}
-use Terms.{subst, suc, sum_by-le, SyncTransmit, true, whole_steps, words_steps, WriteIb, zero, ℕ}
+use Terms.{All, ap, arith, AsyncTransmit, Bool, Call, call_steps, Cancel, Channel, channel_of, channels_by}
+use Terms.{channel_steps, ChannelCall, count_by-le-length, DeInit, false, FitsSpi, Get, get_or_default, Init}
+use Terms.{internal_by, internal_words, is_some, Job, job_of, job_steps, jobs_by, length, length-take-le, length_by}
+use Terms.{MainFunctionHandling, None, objects, OfChannel, Option, own_words, ReadIb, refl, sent_steps, sequence_of}
+use Terms.{SetAsyncMode, SetupEb, slice_index_or, Some, SpiTable, subst, sum_by, sum_by-le, SyncTransmit}
+use Terms.{true, whole_steps, WriteIb, ℕ}
 use Rattle.spi_machine.specs.declared.call.Call.TheVariants.{Sequence}
 use Rattle.spi_machine.specs.declared.table.Sequence.{Sequence as SpiSequenceRow}
 
@@ -53,44 +53,29 @@ module _ (d : SpiTable) (fits : FitsSpi d) where
   channel_steps_few o (SetupEb p q n) few = omega arith
 
   -- of a sequence that is sent at once: each job has at most four channels of 64 words, and a sequence 16 jobs
-  channel_words_few : (o : Option ℕ) → channel_words_steps d o ≤ 1024
-  channel_words_few None = omega arith
-  channel_words_few (Some c) = let few = length_few (channel_of d c) c refl in omega (arith, few)
-
-  words_few : (l : ChannelList) (n : ℕ) → words_steps d l n ≤ 1024 * n
-  words_few l zero = omega arith
-  words_few l (suc n) = by (nat_lt 4 (suc n)) (words_few l n)
+  job_few : (j : ℕ) → job_steps d j ≤ 4160
+  job_few j = by (job_of d j) refl
     where
-      by : (q : Bool) → words_steps d l n ≤ 1024 * n → (if q then 0 else channel_words_steps d (channel_number l n) + words_steps d l n) ≤ 1024 * suc n
-      by true rest = omega arith
-      by false rest = let one = channel_words_few (channel_number l n) in omega (arith, one, rest)
+      by : (o : Option Job) → job_of d j ≡ o → 64 + 16 * sum_by (λ c. length_by (channel_of d c)) (channels_by o) ≤ 4160
+      by None e = omega arith
+      by (Some x) e =
+          let row = (fits.jobs j x e).row in
+          let few = (fits.jobs j x e).few in
+          let long = length-take-le x.channels.count x.channels.numbers (omega (arith, row, few)) in
+          let words = sum_by-le (λ c. length_by (channel_of d c)) 64 (channels_by (Some x)) (λ i o lt. length_few (channel_of d (slice_index_or (channels_by (Some x)) i o)) (slice_index_or (channels_by (Some x)) i o) refl) in
+          omega (arith, words, long, few)
 
-  job_few : (o : Option ℕ) → job_steps d o ≤ 4160
-  job_few None = omega arith
-  job_few (Some j) = let words = words_few (list_of d j) 4 in omega (arith, words)
-
-  jobs_few : (l : JobList) (n : ℕ) → jobs_steps d l n ≤ 4160 * n
-  jobs_few l zero = omega arith
-  jobs_few l (suc n) = by (nat_lt 16 (suc n)) (jobs_few l n)
+  sent_few : (q : ℕ) → sent_steps d (sequence_of d q) ≤ 66656
+  sent_few q = by (sequence_of d q) refl
     where
-      by : (q : Bool) → jobs_steps d l n ≤ 4160 * n → (if q then 0 else job_steps d (job_number l n) + jobs_steps d l n) ≤ 4160 * suc n
-      by true rest = omega arith
-      by false rest = let one = job_few (job_number l n) in omega (arith, one, rest)
-
-  all_jobs_few : (l : JobList) (n : ℕ) → jobs_steps d l n ≤ 66560
-  all_jobs_few l zero = omega arith
-  all_jobs_few l (suc n) = by (nat_lt 16 (suc n)) refl
-    where
-      in_list : (n : ℕ) → nat_lt 16 (suc n) ≡ false → n < 16
-      in_list n e = grind (arith, nat_tests)
-
-      by : (q : Bool) → nat_lt 16 (suc n) ≡ q → (if q then 0 else job_steps d (job_number l n) + jobs_steps d l n) ≤ 66560
-      by true e = omega arith
-      by false e = let one = job_few (job_number l n) in let rest = jobs_few l n in let lt = in_list n e in omega (arith, one, rest, lt)
-
-  sent_few : (o : Option SpiSequenceRow) → sent_steps d o ≤ 66656
-  sent_few None = omega arith
-  sent_few (Some k) = let few = all_jobs_few k.jobs k.jobs.count in omega (arith, few)
+      by : (o : Option SpiSequenceRow) → sequence_of d q ≡ o → sent_steps d o ≤ 66656
+      by None e = omega arith
+      by (Some k) e =
+          let row = (fits.sequences q k e).row in
+          let few = (fits.sequences q k e).few in
+          let long = length-take-le k.jobs.count k.jobs.numbers (omega (arith, row, few)) in
+          let steps = sum_by-le (job_steps d) 4160 (jobs_by (Some k)) (λ i o lt. job_few (slice_index_or (jobs_by (Some k)) i o)) in
+          omega (arith, steps, long, few)
 
   -- no call has more steps than the longest of all modules
   pub steps_few : (call : Call) → call_steps d call ≤ 66656
@@ -101,5 +86,5 @@ module _ (d : SpiTable) (fits : FitsSpi d) where
   steps_few (OfChannel c call) = let few = channel_steps_few (channel_of d c) call (length_few (channel_of d c) c refl) in omega (arith, few)
   steps_few (Sequence q AsyncTransmit) = omega arith
   steps_few (Sequence q Cancel) = omega arith
-  steps_few (Sequence q SyncTransmit) = sent_few (sequence_of d q)
+  steps_few (Sequence q SyncTransmit) = sent_few q
   steps_few (Get x) = omega arith

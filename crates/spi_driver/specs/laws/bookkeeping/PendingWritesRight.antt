@@ -19,6 +19,7 @@ use Terms.{SpiSeqEndNotification, SpiState, SpiTable, start_chooses, start_owes,
 use Terms.{start_takes, Started, StartPlace, subst, suc, sym, take_gave, Transmit, true, unit_over, unit_owed}
 use Terms.{unit_owes, unit_takes, UnitBody, UnitPlace, Units, unless_done, where_owed, Windows, with_holds, World}
 use Terms.{zero, ℕ}
+use Terms.{frame_names}
 use Rattle.spi_driver.specs.laws.services.UnitFrames.{About, Ahead, Frame, Handles, HasDone, IsFor, Mains, OwedAt}
 use Rattle.spi_driver.specs.laws.services.UnitFrames.{Rests, ToPass, ToStart, Transmits, about_owed, about_unit}
 use Rattle.spi_driver.specs.laws.services.UnitFrames.{ahead_holds, ahead_of, ahead_owing, all_told, and_other, at}
@@ -393,7 +394,7 @@ module _ (a : Starting) (b : Serving) (d : SpiTable) where
     on = λ k x z v e i. let is = owed_unit k x e in subst (λ y. GoesOwing W y z (unit_takes k v)) is.1 (goes_on k z v is.0 (sym (left_of k v is.0) ∙ ap (λ y. owed_left y v) is.1 ∙ i));
     over = λ k x v e i. let is = owed_unit k x e in subst (λ y. ((unit_takes k v).1.event ≡ None) × GoesFree W (about_owed y) (unit_takes k v).0 (unit_takes k v).1.done) is.1 (ends_so k v is.0 (sym (left_of k v is.0) ∙ ap (λ y. owed_left y v) is.1 ∙ i));
     unended = λ k x v e. refl;
-    may = λ x below o t made h e. (and_parts (is_simple made) (may d made) e).1;
+    may = λ x below o t made h e. frame_names d o made (and_parts (is_simple made) (may d made) e).1;
     stands = λ k x v below chip w s o t m e i p h.
         let is = owed_unit k x e in
         stands_at k.table k.errand k.unit k.place v below chip w s o t m is.0 (sym (left_of k v is.0) ∙ ap (λ y. owed_left y v) is.1 ∙ i) (subst (λ y. OwedAt d (about_owed y) o t) (sym is.1) p) (subst (λ y. SpiRepresents d (with_holds o t.acted (owed_holds (about_owed y)) below) chip w s) (sym is.1) h);

@@ -5,7 +5,7 @@ use Rattle.std.proofs.Common.{◌≡◌}
 use Rattle.spi_driver.specs.Terms
 use Terms.{about_sent, AreWindowsRight, arith, AssertedAt, begins_at, begins_few, Call, Chip, FitsSpi, FrameHistory}
 use Terms.{None, Option, Origin, PendingWrites, place_at, refl, Reservations, SendAbout, SendAhead, sender, Some}
-use Terms.{spi_basis, SpiState, SpiTable, spot_or, StandsAbout, StandsAhead, subst, sync_bodies, sync_owed, sync_right}
+use Terms.{spi_basis, SpiState, SpiTable, spot_or, StandsAbout, StandsAhead, subst, sync_bodies, sync_opens, sync_owed, sync_right}
 use Terms.{sync_spot, sync_windows, SyncBody, ToEnd, ToWait, World}
 use Rattle.spi_driver.specs.laws.{bookkeeping.Lawful.{AreSending}, bookkeeping.UnpolledFrames.{being_none, PollsNone}}
 
@@ -24,6 +24,7 @@ pub sending_right : (d : SpiTable) → FitsSpi d → AreWindowsRight d → AreSe
 sending_right d fits windows = record {
   right = sync_right d fits windows;
   begins = λ below chip w s q lt known sync on beside h. begins_at d below chip w s q lt known sync on beside h;
+  opens = λ k e. sync_opens d fits windows k e;
   closed = λ q. refl;
   fuel = λ q lt known. begins_few d fits q known;
   room = λ q. omega arith;

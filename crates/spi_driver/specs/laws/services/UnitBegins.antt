@@ -9,6 +9,7 @@ use Terms.{is_sync_unit, is_used, IsLawful, List, LongBodies, Main, None, not, O
 use Terms.{Services, services_driver, Short, short_left, short_move, Some, some_is, spi_basis, spi_ends, spi_looked}
 use Terms.{SpiBody, SpiRepresents, SpiState, SpiTable, STATE, subst, sym, SyncBody, Transmit, true, unit_body}
 use Terms.{unit_few, unit_of, unit_of_sequence, uses_by, uses_unit, World, ℕ}
+use Rattle.spi_sequences.specs.laws.services.AtOnce.{unit_once}
 use Rattle.spi_driver.specs.laws.{services.UnitFrames.{Handles, Mains, Transmits, at, unit_after, unit_bodies}}
 use Rattle.spi_driver.specs.laws.{bookkeeping.NoneWaits.{units_left}, bookkeeping.Lawful.{AreRight, AreSending, handled_by, lawful}}
 use Rattle.spi_driver.specs.laws.{bookkeeping.Lawful.{spi, spi_right}, services.UnitParts.{IsServing, IsStarting}}
@@ -84,6 +85,7 @@ module _ (a : Starting) (b : Serving) (d : SpiTable) (c : LongBodies (spi_basis 
     pub units_are_right : AreRight d (unit_bodies a b d) c
     units_are_right = record {
       units = units_right a b d fits starting serving;
+      at_once = unit_once;
       sends = sending;
       begins_request = request_begins;
       begins_main = main_begins;

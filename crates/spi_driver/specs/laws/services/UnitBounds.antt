@@ -14,6 +14,7 @@ use Terms.{spot_or, start_more, start_move, start_owes, start_takes, Started, St
 use Terms.{told_first, Transmit, true, TurnsTo, unit_acts, unit_move, unit_over, unit_owed, unit_owes, unit_takes}
 use Terms.{unit_work, UnitBody, UnitPlace, Units, Unmask, value_of, where_owed, windows_right, with_holds, World}
 use Terms.{world_after, zero, ℕ}
+use Terms.{frame_may}
 use Rattle.spi_driver.specs.laws.{services.UnitFrames.{Ahead, ToPass, ToStart, ToTell, about_owed, ahead_steps, at}}
 use Rattle.spi_driver.specs.laws.{services.UnitFrames.{owed_steps, served_ahead, unit_after, unit_bodies, unit_clean}}
 use Rattle.spi_driver.specs.laws.{services.UnitFrames.{unit_fuel_at, unit_spot_at, unit_windows}}
@@ -22,14 +23,9 @@ use Rattle.spi_driver.specs.laws.{services.UnitParts.{IsServing, IsStarting, Ser
 use Rattle.spi_driver.specs.laws.{services.UnitParts.{foot, has_begun, has_served, serve_ahead, serve_fuel_at}}
 use Rattle.spi_driver.specs.laws.{services.UnitParts.{start_fuel_at}, bookkeeping.MaskDiscipline.{turns_at}}
 use Rattle.spi_driver.specs.laws.{services.UnitRight.{free_at, later_at, own_at, unit_steps, unit_table}}
-use Rattle.word_shapes.specs.declared.search.Search.TheVariants as search
-use Rattle.spi_jobs.specs.declared.finding.Find.TheVariants as finds
-use Rattle.spi_machine.specs.declared.call.Call.TheVariants as calls
 use Rattle.spi_sequences.specs.declared.service.request.RequestPlace.TheVariants as request
 use Rattle.spi_sequences.specs.declared.service.request.Requested.TheVariants as requested
-use Rattle.spi_sequences.specs.declared.service.serve.ServePlace.TheVariants as serve
 use Rattle.spi_sequences.specs.declared.service.serve.ServeStep.TheVariants as steps
-use Rattle.spi_sequences.specs.declared.service.start.StartPlace.TheVariants as start
 use Rattle.spi_sequences.specs.declared.service.start.Started.TheVariants as started
 use Rattle.spi_sequences.specs.declared.service.unit.After.TheVariants as after
 use Rattle.spi_sequences.specs.declared.service.unit.UnitPlace.TheVariants as place
@@ -206,7 +202,7 @@ module _ (a : Starting) (b : Serving) (d : SpiTable) (fits : FitsSpi d) (startin
 
   unit_free : AreFree (spi_basis d) V unit_owed (λ k. None)
   unit_free = record {
-    own = λ below chip w s k o t i h. let is = known below chip w s k o t i h in subst (λ z. is_shared (unit_move (at z k.errand k.unit k.place) k.place) || may d (unit_move (at z k.errand k.unit k.place) k.place) ≡ true) (sym is) (own_at a b d fits starting serving below chip w s k.errand k.unit k.place o t (free_at k i) (moved_to below chip w s k o t is h));
+    own = λ below chip w s k o t i h. let is = known below chip w s k o t i h in frame_may d o (unit_move k k.place) (subst (λ z. is_shared (unit_move (at z k.errand k.unit k.place) k.place) || may d (unit_move (at z k.errand k.unit k.place) k.place) ≡ true) (sym is) (own_at a b d fits starting serving below chip w s k.errand k.unit k.place o t (free_at k i) (moved_to below chip w s k o t is h)));
     turns = λ below chip w s k o t i h. let is = known below chip w s k o t i h in subst (λ z. TurnsTo V 32 (at z k.errand k.unit k.place) (unit_takes (at z k.errand k.unit k.place) (value_of chip (unit_move (at z k.errand k.unit k.place) k.place)))) (sym is) (turns_at a b d fits starting serving below chip w s k.errand k.unit k.place o t (free_at k i) (moved_to below chip w s k o t is h));
     steps = λ below chip w s k o y t m i come few h. unit_steps a b d fits starting serving below chip w s k o y t m i come.1 h;
     later = later;

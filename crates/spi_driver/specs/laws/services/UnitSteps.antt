@@ -3,17 +3,19 @@
 -- Used by services.UnitRight.
 use Rattle.std.proofs.Common.{◌≡◌, ◌+◌, ◌<◌, ◌&&◌, ◌||◌, [], ◌∷◌, ◌++◌, ◌∙◌, ◌⊎◌, if◌then◌else◌}
 use Rattle.spi_driver.specs.Terms
-use Terms.{acts, ActsRight, After, after_serve, after_start, agrees_after, ap, arith, asks_reset, AssertedAt}
+use Terms.{ActsRight, After, Answer, after_serve, after_start, agrees_after, ap, arith, asks_reset, AssertedAt}
 use Terms.{basis_right, BodyTaken, Bool, Brought, brought_by, Call, Called, caller_of, Chip, chip_after, clear_over}
 use Terms.{CommitsTo, Continues, Done, Entered, Event, false, first_served, FitsSpi, FrameHistory, FrameRole}
 use Terms.{fresh_history, gap_at, Handler, happening_of, has_line, holds_at, inl, inr, is_polling, is_shared}
-use Terms.{is_sync_unit, IsNext, List, list_all, list_any, Load, Main, main_over, MakesTo, Mask, may, MayDo}
-use Terms.{missed_after, Move, no_answer, None, none_served, not, Note, Notes, notes, Notice, opened, Option, Origin}
+use Terms.{is_some, is_sync_unit, IsNext, IsSome, List, list_all, list_any, Load, Main, main_over, MakesTo, Mask, MayDo}
+use Terms.{missed_after, Move, no_answer, None, none_served, not, Note, Notes, notes, Notice, number_of, opened}
+use Terms.{Option, Origin}
 use Terms.{Outcome, outcome_of, outcome_with, Owing, owing, passes, past_after, past_wrote, PendingWrites, place_at}
 use Terms.{plain_makes, plain_move, polls, ready, ReceivedRight, refl, Report, Reservations, resets_chip, Rest}
 use Terms.{rest_after, same_number, serve_move, serve_owes, serve_takes, ServePlace, Serves, ServeStep, Some, spi_bare}
 use Terms.{spi_basis, spi_machine, spi_owing, spi_setting, SpiRepresents, SpiState, SpiTable, spot_or, StandsAt}
-use Terms.{start_move, start_owes, start_takes, Started, StartPlace, Starts, STATE, subst, suc, sym, tells_nothing}
+use Terms.{start-received, start_move, start_owes, start_takes, Started, StartPlace, Starts, StartsUncalled, STATE}
+use Terms.{subst, suc, sym, tells_nothing}
 use Terms.{Told, told_first, told_next, Transmit, true, unit_acts, unit_named, unit_over, UnitBody, UnitPlace, Units}
 use Terms.{Unmask, value_of, where_owed, with_holds, word_of, Works, World, zero, ℕ}
 use Rattle.spi_driver.specs.laws.services.UnitFrames.{Frame, Handles, HasDone, IsFor, Mains, OpensAt, OwedAt, Progress}
@@ -94,9 +96,13 @@ module _ (d : SpiTable) (w : World) (s : SpiState) (t : FrameHistory) where
   served_is (Called c) b k = refl
   served_is (Entered l) b k = refl
 
-  may_start : (o : Origin Call) (v : units.Unit) → t.owed ≡ [] → MayDo (spi_machine d) w s t (events.Start v) o
-  may_start (Called c) v e = e
-  may_start (Entered l) v e = e
+  -- the job that starts is one of a requested sequence, whoever starts it
+  may_start : (o : Origin Call) (v : units.Unit) (y : ℕ) → t.owed ≡ [] → IsSome ((spi_machine d).happens w s (Starts v None y)) → MayDo (spi_machine d) w s t (events.Start v) o
+  may_start o v y none some = (none, by t.acted)
+    where
+      by : (a : Option Answer) → StartsUncalled (spi_machine d) w s v a
+      by None = tt
+      by (Some answer) = λ r. start-received d w s (number_of v) y r some
 
   start_acts : (o : Origin Call) (v : units.Unit) (made : Move) (told : Told) (left : Option Done) → ActsRight (spi_setting d) o (events.Start v) false made told left
   start_acts (Called c) v made told left = tt
@@ -212,7 +218,7 @@ module _ (a : Starting) (b : Serving) (d : SpiTable) (fits : FitsSpi d) where
         → Work o t made value (at d e u (place.Start q), passes (Some x))
     begins_so e u q x made value o t frame done still g =
         subst (λ z. Work o t made value (at d e u (place.Start q), passes (Some z))) (sym g.is_start) (record {
-          may = may_start d w s t o (unit_named u) done.owed;
+          may = may_start d w s t o (unit_named u) y done.owed (ap is_some (g.is None));
           stands = subst (λ z. StandsAt z made value) g.is_start g.stands;
           state = g.state;
           told = tells_nothing;

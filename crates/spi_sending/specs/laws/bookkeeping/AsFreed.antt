@@ -9,7 +9,6 @@ use Terms.{IsApart, IsBase, IsFree, length, length_after, Part, placed_of, Recei
 use Terms.{same_or_other, slice_get, Some, STATE, stands-agree, stands_owed, StandsIn, Store, stored_other}
 use Terms.{stored_same, subst, sym, ToServe, trio_of, true, upto, word_of, words_of, ℕ}
 use Rattle.spi_serving.specs.laws.words.LastKept as kept_laws
-use Rattle.word_shapes.specs.TripleBuffer as trio
 
 module _ (st : ToServe) (at : At st st.g.at (length st.g.received)) (last : length st.g.received + 1 ≡ length (words_of st.d st.g.parts)) (v : ℕ)
     (free : Chip) (freed : IsFree st.d st.w st.chip st.u free) (sent : Chip) (outside : StandsIn sent st.w) (alike : (j : ℕ) → j ≢ running_word st.u → word_of sent j ≡ word_of st.chip j) where

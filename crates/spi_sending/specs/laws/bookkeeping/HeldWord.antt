@@ -9,7 +9,7 @@ use Terms.{IsDone, IsSending, IsServed, job_at_place, job_place, jobs_of, KnowsE
 use Terms.{Option, part_most, parts_few, place_back, Position, position_in, position_word, Read, readied_by, refl}
 use Terms.{Reservation, Reservations, ReservedBy, Run, run_at, run_carried, run_in, run_of, running_says, running_word}
 use Terms.{RunsNext, Sending, SerialWait, Served, Some, SpiRepresents, SpiState, SpiTable, stall_of, Stands}
-use Terms.{state_done, state_says, stored, stored_by, subst, sym, SyncTransmit, true, under_way, UnderWay, unit_at}
+use Terms.{state_done, state_says, stored_by, subst, sym, SyncTransmit, true, under_way, UnderWay, unit_at}
 use Terms.{unit_run, view, word_of, World, ℕ}
 use Rattle.spi_sending.specs.laws.hardware.WaitedWord.{waited}
 use Rattle.spi_serving.specs.laws.words.Positions.{here as part_here}

@@ -9,7 +9,6 @@ use Terms.{Reservations, run_at, run_carried, same_or_other, Serial, SerialSelec
 use Terms.{SpiTable, stands-move, subst, sym, true, unit_at, unit_other, unit_same, UnitAgrees, view, word_of}
 use Terms.{WordsAgree, World, Write, ℕ}
 use Rattle.spi_sending.specs.laws.{bookkeeping.HeldWord.{sending_of, sendings_alike}, bookkeeping.SentBeside.{sends_beside}}
-use Rattle.chip_units.specs.Serials as serials
 
 module _ (d : SpiTable) (below : Reservations) (chip : Chip) (w : World) (s : SpiState) (u q n : ℕ) (at : Position) (banks : List ℕ) (failed : Option Bool) (device : ℕ) (h : SpiRepresents d (sending_of u q n at banks failed device ∷ below) chip w s) (alone : list_any (λ z. is_sent q z.what) below ≡ false) (v y : ℕ) where
   abbrev says : IsSending d chip w h.going s u q n at banks failed device

@@ -8,7 +8,7 @@ use Terms.{Carrying, Channel, channel_at_place, channel_of, channels_of, Chip, E
 use Terms.{error_of_sending, error_told, false, finding_first, first_is, first_placed, first_there, first_word}
 use Terms.{FitsSpi, found, fresh_history, Going, GoingAgrees, has_channel, is_number, is_of, is_off, is_sent, is_some}
 use Terms.{is_sync_sequence, is_sync_unit, job_at_place, job_place, job_unit, job_words, jobs_in, jobs_list, jobs_of}
-use Terms.{length, List, list_any, Load, LooksAt, may, may_end, mod-mod, named, part_at, next_job, no_word, None, not, not_sent}
+use Terms.{length, List, list_any, Load, LooksAt, may_end, mod-mod, named, part_at, next_job, no_word, None, not, not_sent}
 use Terms.{not_true, Option, other_number, outcome, owed_error, owing, Pending, placed_of, Position, refl, reporting}
 use Terms.{requested, Reservations, run_carried, RunAgrees, running_word, sending_ends, sent, Sequence, sequence_of}
 use Terms.{slice_get, slice_index_or, Some, spi_basis, spi_machine, SpiRepresents, SpiState, SpiSyncTransmit, SpiTable}

@@ -19,11 +19,11 @@ use Terms.{min, next_in, next_job, next_other, next_same, next_small, next_view,
 use Terms.{of_banks, of_held, of_set_up, of_sixteen, on_wire, one_job, one_place, Option, order_left, order_word}
 use Terms.{Origin, other_number, outcome_with, packed, part_at, past_the_first, Pending, place_of, placed_of}
 use Terms.{Position, position_word, refl, Reservations, right_like, Run, run_at, run_carried, run_of, RunAgrees}
-use Terms.{running_word, RunsNext, same_number, same_or_other, same_Some, Sends, SendsRight, sent, sequence_code}
+use Terms.{running_word, RunsNext, same_number, same_or_other, same_Some, Sends, SendsRight, sequence_code}
 use Terms.{sequence_word, sequences_as, SequencesAgree, SerialData, set_up_code, set_up_or, set_up_word, SetUpFits}
 use Terms.{slice_index, slice_index_or, Some, some_words, sound_as, Source, source_word, spi_owing, SpiJobOk}
 use Terms.{SpiJobPending, SpiJobQueued, SpiRepresents, SpiState, SpiTable, stands-move, StandsIn, start_owed}
-use Terms.{Starts, STATE, Store, stored, stored_other, stored_same, subst, sym, sync_prepares, tells_nothing}
+use Terms.{Starts, STATE, Store, stored_other, stored_same, subst, sym, sync_prepares, tells_nothing}
 use Terms.{to_order, ToServe, Transfer, true, UnderWay, unit_at, unit_named, unit_other, unit_run, unit_same}
 use Terms.{UnitAgrees, untouched, upto, view, View, wire_at, with_channels, with_item, word_at, with_next_in, word_of}
 use Terms.{words_are, words_of, World, Write, ℕ}

@@ -23,7 +23,6 @@ use Rattle.spi_serving.specs.laws.services.JobLeft as left
 use Rattle.spi_serving.specs.laws.words.AllKept.{lt_else, put_owed}
 use Rattle.spi_serving.specs.laws.words.CommitWords.{commits_owed, held_kept}
 use Rattle.spi_serving.specs.laws.words.LastKept as kept_laws
-use Rattle.spi_jobs.specs.declared.keeping.Taker.TheVariants as takers
 use Rattle.spi_sequences.specs.declared.service.sync.SyncPlace.TheVariants as place
 
 -- of two places that aren't the same, where the second isn't before the first

@@ -27,7 +27,6 @@ use Terms.{told_other, told_second, ToServe, true, UnderWay, unit_at, unit_of_se
 use Terms.{with_item, word_of, World, ℕ}
 use Rattle.spi_sending.specs.Sending.{device_at, EndsWith, IsSender, sent_answer}
 use Rattle.spi_sending.specs.laws.bookkeeping.CarriedOut as carried_out
-use Rattle.spi_sending.specs.laws.bookkeeping.HeldWord as held_word_laws
 use Rattle.spi_sending.specs.laws.{bookkeeping.HeldWord.{like_through, sending_of, sends_alike}, bookkeeping.SentBeside.{sends_beside}}
 use Rattle.spi_sending.specs.laws.{services.SendAround.{body}}
 use Rattle.spi_sending.specs.laws.{services.SendWindows.{asks, SequenceEnds}}
@@ -35,7 +34,6 @@ use Rattle.spi_serving.specs.laws.services.FreedUnit as freed
 use Rattle.spi_serving.specs.laws.services.JobLeft as left
 use Rattle.spi_serving.specs.laws.bookkeeping.JobEnd as job_ends
 use Rattle.spi_serving.specs.laws.bookkeeping.JobEnd.{jobs_count}
-use Rattle.chip_units.specs.Serials as serials
 use Rattle.word_shapes.specs.PriorityQueue as ranked
 use Rattle.spi_sequences.specs.Refinement.{IsLast as IsLastResult}
 use Rattle.spi_sequences.specs.declared.service.serve.SequenceNext.TheVariants as courses

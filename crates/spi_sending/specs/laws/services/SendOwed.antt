@@ -13,6 +13,7 @@ use Terms.{serve_keeps_last, serve_lets, serve_releases, Served, ServePlace, Som
 use Terms.{spi_owing, SpiRepresents, SpiState, SpiTable, subst, sym, sync_at, sync_commits, sync_committed, sync_keeps}
 use Terms.{sync_owed, sync_owes, sync_prepared, sync_prepares_at, sync_prepares_by, sync_serves, sync_takes, sync_took}
 use Terms.{SyncBody, SyncPlace, SyncTransmit, take_gave, true, unless_done, where_owed, Windows, with_holds, World, ℕ}
+use Rattle.spi_sequences.specs.laws.bookkeeping.RefinementRight.{frame_names}
 use Rattle.spi_sending.specs.Sending.{about_body, about_holds, about_sent, has_answered, SendAbout, StandsAbout}
 use Rattle.spi_sending.specs.Sending.{sync_ahead, sync_bodies, sync_windows}
 use Rattle.spi_machine.specs.declared.call.Call.TheVariants as calls
@@ -269,7 +270,7 @@ module _ (d : SpiTable) where
     on = λ k x z v e i. let is = owed_sent k x e in subst (λ y. GoesOwing W y z (sync_takes k v)) is.1 (goes_on_so k z v is.0 (sym (left_of k v is.0) ∙ ap (λ y. owed_left y v) is.1 ∙ i));
     over = λ k x v e i. let is = owed_sent k x e in subst (λ y. ((sync_takes k v).1.event ≡ None) × GoesFree W (about_sent y) (sync_takes k v).0 (sync_takes k v).1.done) is.1 (over_so k v is.0 (sym (left_of k v is.0) ∙ ap (λ y. owed_left y v) is.1 ∙ i));
     unended = λ k x v e. refl;
-    may = λ x below o t made h e. (and_parts (is_simple made) (may d made) e).1;
+    may = λ x below o t made h e. frame_names d o made (and_parts (is_simple made) (may d made) e).1;
     stands = λ k x v below chip w s o t m e i p h.
         let is = owed_sent k x e in
         stands_at k k.place v below chip w s o t m is.0 (sym (left_of k v is.0) ∙ ap (λ y. owed_left y v) is.1 ∙ i) (subst (λ y. StandsAbout d (about_sent y) below o t) (sym is.1) p) (subst (λ y. SpiRepresents d (with_holds o t.acted (about_holds (about_sent y)) below) chip w s) (sym is.1) h);

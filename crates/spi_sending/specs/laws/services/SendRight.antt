@@ -16,6 +16,13 @@ use Terms.{sync_begun, sync_comes, sync_ends, sync_finds, sync_found, sync_frees
 use Terms.{sync_move, sync_owed, sync_owes, sync_serves, sync_takes, sync_took, sync_work, SyncBody, SyncPlace, Taker}
 use Terms.{taker_sent, true, TurnsTo, unit_named, unpacked, value_of, where_owed, windows_right, with_holds}
 use Terms.{with_taken, World, world_after, ℕ}
+use Rattle.run_model.specs.Frame.{is_wait}
+use Rattle.word_shapes.specs.TripleBuffer.{put_move}
+use Rattle.spi_jobs.specs.Parts.{keep_move, prepare_move}
+use Rattle.spi_machine.specs.Bounds.{may_wait}
+use Rattle.spi_sequences.specs.laws.services.AtOnce.{asking_once, find_once, keep_once, never, prepare_once, put_once}
+use Rattle.spi_sequences.specs.laws.services.AtOnce.{serve_once}
+use Rattle.spi_sequences.specs.laws.services.ServeSteps.{serve_move}
 use Rattle.spi_sending.specs.Sending.{about_sent, about_steps, IsSender, sync_bodies, sync_clean, sync_fuel, sync_room}
 use Rattle.spi_sending.specs.Sending.{sync_spot, sync_windows}
 use Rattle.spi_sending.specs.laws.{services.SendAround.{asking_plain, body, calm_at, find_plain, later_at, own_at, StandAt}}
@@ -277,7 +284,7 @@ module _ (d : SpiTable) (fits : FitsSpi d) (windows : AreWindowsRight d) where
 
   sync_free : AreFree (spi_basis d) (V d) sync_owed (λ k. None)
   sync_free = record {
-    own = λ below chip w s k o t i h. as_now below chip w s k o t i h (λ z. is_shared (sync_work z) || may d (sync_work z) ≡ true) (own_at d k.sequence k.unit k.job k.at k.banks below chip w s o t fits k.place (free_at k i) (stands_now below chip w s k o t i h));
+    own = λ below chip w s k o t i h. as_now below chip w s k o t i h (λ z. is_shared (sync_work z) || (may_wait d (sync_work z) o || may d (sync_work z)) ≡ true) (own_at d k.sequence k.unit k.job k.at k.banks below chip w s o t fits k.place (free_at k i) (stands_now below chip w s k o t i h));
     turns = λ below chip w s k o t i h. as_now below chip w s k o t i h (λ z. TurnsTo (V d) 32 z (sync_takes z (value_of chip (sync_work z)))) (turns_at d k.sequence k.unit k.job k.at k.banks below chip w s o t k.place (value_of chip (sync_work (with_table k d))) (free_at k i) (stands_now below chip w s k o t i h));
     steps = λ below chip w s k o y t m i come few h. steps below chip w s k o y t m i come.0 h;
     later = later;
@@ -310,3 +317,18 @@ module _ (d : SpiTable) (fits : FitsSpi d) (windows : AreWindowsRight d) where
 
   pub sync_right : AreLong (spi_basis d) (sync_bodies d)
   sync_right = windows_right (spi_bare d) (spi_owing d) same_chip (owed_right d) (sync_windows d) (λ k. None) (sync_wins d) sync_free
+
+  -- ---- it waits with the mask open
+
+  opens_at : (k : SyncBody) (p : SyncPlace) → is_wait (sync_move k p) ≡ true → is_closed (spot_or (sync_windows d) (where_owed (sync_owes p) (Sends k)) (sync_spot d k p)) ≡ false
+  opens_at k place.Wait e = refl
+  opens_at k (place.Find b f) e = never (find_move f) (find_once f) e
+  opens_at k (place.Keep r p) e = never (keep_move p) (keep_once p) e
+  opens_at k (place.Commit r i p) e = never (put_move p) (put_once p) e
+  opens_at k (place.Prepare i p) e = never (prepare_move p) (prepare_once p) e
+  opens_at k (place.Taker failed) e = never _ (asking_once (channel_sent k k.at.channel) k.at.word) e
+  opens_at k (place.Serve p) e = never (serve_move k.table k.unit p) (serve_once k.table k.unit p) e
+  opens_at k _ e = absurd (cc)
+
+  pub sync_opens : (k : SyncBody) → is_wait ((sync_bodies d).work_of k) ≡ true → is_closed ((sync_bodies d).assertion k) ≡ false
+  sync_opens k e = opens_at k k.place e

@@ -166,7 +166,7 @@ module _ (d : SpiTable) (fits : FitsSpi d) (windows : AreWindowsRight d) (q u n 
       → ((state : SpiState) → (i : ℕ) × CommitsTo (spi_owing d) i (Sends (k z)) (chip_after chip (Write (SerialData u) x) y) (λ c. SpiRepresents d held c w state) → StandAt d below (chip_after chip (Write (SerialData u) x) y) w state (k z) o fresh_history)
       → Works (spi_basis d) (V d) below chip (chip_after chip (Write (SerialData u) x) y) w s o (Write (SerialData u) x) false value y fresh_history missed (k z) (Some (Start (unit_named u))) None
   begins_so few x value p z held g stands = record {
-    may = refl;
+    may = (refl, tt);
     stands = by_unit few (λ i. StandsAt (Start (unit_named i)) (Write (SerialData i) x) value) (refl, refl) (refl, refl);
     state = g.state;
     told = tells_nothing;

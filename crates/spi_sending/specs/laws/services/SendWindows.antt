@@ -11,8 +11,6 @@ use Rattle.spi_sending.specs.Sending.{BeforeJob, device_at, IsSender, holds_befo
 use Rattle.spi_sending.specs.Sending.{word_sent}
 use Rattle.spi_sending.specs.laws.{bookkeeping.HeldWord.{sending_of}, services.SendAround.{body, foot}}
 use Rattle.spi_machine.specs.declared.call.Call.TheVariants as calls
-use Rattle.spi_sequences.specs.declared.service.serve.SequenceNext.TheVariants as courses
-use Rattle.spi_sequences.specs.declared.service.serve.ServePlace.TheVariants as serve
 use Rattle.spi_sequences.specs.declared.service.sync.SyncPlace.TheVariants as place
 
 -- a word begins: what the machine gives, the word on the wire, and what the frame of this body owes then

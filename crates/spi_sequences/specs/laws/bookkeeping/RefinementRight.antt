@@ -20,6 +20,14 @@ use Terms.{stands-event, stands-move, StandsIn, Steady, Store, stores_in, subst,
 use Terms.{true, unit_at, unit_of, UnitAgrees, uses, uses_by, uses_channel, uses_unit, view, wiring-left, word-left}
 use Terms.{word_apart, word_of, World, world_after, Write, zero, ℕ}
 use Rattle.chip_model.specs.Chip.{is_pending}
+use Rattle.mcal_base.specs.declared.register.Reg.TheVariants.{SerialWait}
+use Rattle.run_model.specs.Frame.{Origin}
+use Rattle.run_model.specs.Frame.{is_wait}
+use Rattle.spi_machine.specs.Bounds.{is_serial, may_wait}
+use Rattle.spi_machine.specs.Wiring.{unit_of_sequence}
+use Rattle.spi_machine.specs.declared.call.Call.{Call}
+use Rattle.spi_machine.specs.declared.call.Call.TheVariants as calls
+use Rattle.spi_machine.specs.declared.call.SequenceCall.TheVariants.{SyncTransmit}
 use Rattle.spi_machine.specs.Machine.{run_of}
 use Rattle.spi_sequences.specs.laws.{hardware.SourceFilled.{fill_agrees, not_both, spared_by, spared_none}}
 use Rattle.spi_sequences.specs.laws.{hardware.AfterReset.{by_two, none_in, reset_agrees}}
@@ -221,10 +229,49 @@ written_owned _ v e = e
 
 may_owned : (d : SpiTable) (made : Move) → may_name d made ≡ true → spi_owns d made ≡ true
 may_owned d (Write r v) e = written_owned r v e
+may_owned d (Read r) e = (and_parts (is_serial r) (not (is_wait (Read r))) e).0
 may_owned d _ e = e
 
 pub may_parts : (d : SpiTable) (made : Move) → may d made ≡ true → (spi_owns d made ≡ true) × (names_there made ≡ true)
 may_parts d made e = let p = and_parts (may_name d made) (names_there made) e in (may_owned d made p.0, p.1)
+
+-- what each frame may do, this one may
+pub frame_names : (d : SpiTable) (o : Origin Call) (made : Move) → may d made ≡ true → may_wait d made o || may d made ≡ true
+frame_names d o made e = by (may_wait d made o)
+  where
+    by : (b : Bool) → b || may d made ≡ true
+    by true = refl
+    by false = e
+
+pub frame_may : (d : SpiTable) (o : Origin Call) (made : Move) → is_shared made || may d made ≡ true → is_shared made || (may_wait d made o || may d made) ≡ true
+frame_may d o made e = by (is_shared made) (may_wait d made o) e
+  where
+    by : (a b : Bool) → a || may d made ≡ true → a || (b || may d made) ≡ true
+    by true b e = refl
+    by false true e = refl
+    by false false e = e
+
+-- it reads a wait register that is there, or each frame may make it
+abbrev pub FrameMoves : SpiTable → Move → Type 0
+FrameMoves d made = ((u : ℕ) × (made ≡ Read (SerialWait u)) × (names_there made ≡ true)) ⊎ (may d made ≡ true)
+
+pub frame_moves : (d : SpiTable) (o : Origin Call) (made : Move) → may_wait d made o || may d made ≡ true → FrameMoves d made
+frame_moves d o made e = by (may_wait d made o) refl e
+  where
+    waits : (made : Move) (o : Origin Call) → may_wait d made o ≡ true → (u : ℕ) × (made ≡ Read (SerialWait u)) × (names_there made ≡ true)
+    waits (Read (SerialWait u)) (Called (calls.Sequence q SyncTransmit)) e = (u, refl, (and_parts (unit_of_sequence d q == u) (names_there (Read (SerialWait u))) e).1)
+    waits _ _ e = absurd (cc)
+
+    by : (b : Bool) → may_wait d made o ≡ b → b || may d made ≡ true → FrameMoves d made
+    by true f e = inl (waits made o f)
+    by false f e = inr e
+
+frame_parts : (d : SpiTable) (o : Origin Call) (made : Move) → may_wait d made o || may d made ≡ true → (spi_owns d made ≡ true) × (names_there made ≡ true)
+frame_parts d o made e = by (frame_moves d o made e)
+  where
+    by : FrameMoves d made → (spi_owns d made ≡ true) × (names_there made ≡ true)
+    by (inl (u, is, there)) = (ap (spi_owns d) is, there)
+    by (inr e) = may_parts d made e
 
 -- it resets nothing and sets no rate
 abbrev pub IsPlain : Move → Type 0
@@ -239,6 +286,13 @@ written_plain d _ v e = (refl, refl)
 pub plain_move : (d : SpiTable) (made : Move) → may d made ≡ true → IsPlain made
 plain_move d (Write r v) e = written_plain d r v (and_parts (may_name d (Write r v)) (names_there (Write r v)) e).0
 plain_move d _ e = (refl, refl)
+
+frame_plain : (d : SpiTable) (o : Origin Call) (made : Move) → may_wait d made o || may d made ≡ true → IsPlain made
+frame_plain d o made e = by (frame_moves d o made e)
+  where
+    by : FrameMoves d made → IsPlain made
+    by (inl (u, is, there)) = (ap resets_chip is, ap sets_rate is)
+    by (inr e) = plain_move d made e
 
 -- ---- what is due
 
@@ -424,9 +478,9 @@ bare_right d fits = record {
   resets = λ held gap chip w s reason h. (outcome first_state tells_nothing, refl, reset_agrees d fits chip w reason h.outside h.wired);
   agrees_later = λ held gap chip w s order come shut h. later_agrees d fits held chip w s order come h;
   agrees_apart = λ held chip w s made received e h. apart_agrees d fits held chip w s made received (e (Called Init)) h;
-  may_owns = λ o made e. (may_parts d made e).0;
+  may_owns = λ o made e. (frame_parts d o made e).0;
   owns_plain = λ o made e. owned_plain d made e;
-  may_there = λ o made e. move_there made (may_parts d made e).1;
+  may_there = λ o made e. move_there made (frame_parts d o made e).1;
   enables = λ o bits line e other. other_line bits line (and_parts (is_for_lines bits) true e).0 other;
   loads = λ origin value h. h;
   watched = λ held gap chip w s has osc h. cc;
@@ -437,7 +491,7 @@ bare_right d fits = record {
   pends = λ held chip w s line there h e. due_line d fits held chip w s h line there ∙ e;
   rests = λ chip w s line there h. due_line d fits [] chip w s h line there;
   unused = λ held chip w s line there h free. due_line d fits held chip w s h line there ∙ unused_line d fits held chip w s h line free;
-  unmasked = λ held chip w s origins among h. tt;
+  unmasked = λ held chip w s origins among h. h.arrays;
   rest = λ chip w s h. h.arrays;
   waits = λ chip w s u h. waits d fits chip w s u h;
   error_leaves = λ w s call times out e. act-leaves d w s call times out e;
@@ -445,7 +499,7 @@ bare_right d fits = record {
   count_happens = λ w s h out e. omega arith;
   count_moves = λ w s order out e. omega arith;
   count_resets = λ w s reason out e. omega arith;
-  rated = Steady (λ chip o made received e. rate-left chip made received (plain_move d made e).1) (λ w s h out e. refl);
+  rated = Steady (λ chip o made received e. rate-left chip made received (frame_plain d o made e).1) (λ w s h out e. refl);
   rate_starts = refl;
   rate_moves = λ w s order out e. refl;
   rate_resets = λ chip w s reason out e. refl;

@@ -21,6 +21,7 @@ use Terms.{spi_basis, spi_machine, spi_owing, SpiRepresents, SpiSeqCanceled, Spi
 use Terms.{stands-move, StandsIn, STATE, Store, stored_other, stored_same, subst, suc, sym, tells_nothing, true}
 use Terms.{TurnsTo, Under, unit_of_sequence, unless_done, value_of, view, Windows, windows, windows_right, Within}
 use Terms.{word_later, word_of, Works, World, world_after, ℕ}
+use Rattle.spi_sequences.specs.laws.bookkeeping.RefinementRight.{frame_may, frame_names}
 use Rattle.spi_sequences.specs.laws.{words.NumbersApart.{before_sequences, high_enough, high_order, job_at, low_enough}}
 use Rattle.spi_sequences.specs.laws.{words.NumbersApart.{low_order, marks_at, nexts_at, one_sequence, order_at}}
 use Rattle.spi_sequences.specs.laws.{words.NumbersApart.{other_order, past_sequences, position_at, position_order}}
@@ -415,7 +416,7 @@ module _ (d : SpiTable) (fits : FitsSpi d) where
     on = on;
     over = over;
     unended = λ k x v e. refl;
-    may = λ a below o t made h e. (and_parts (is_simple made) (may d made) e).1;
+    may = λ a below o t made h e. frame_names d o made (and_parts (is_simple made) (may d made) e).1;
     stands = stands;
   }
     where
@@ -540,7 +541,7 @@ module _ (d : SpiTable) (fits : FitsSpi d) where
 
   cancel_free : AreFree (spi_basis d) (cancel_bodies d) cancel_owed_at (λ k. None)
   cancel_free = record {
-    own = cancel_own;
+    own = λ below chip w s k o t e h. frame_may d o (cancel_work k) (cancel_own below chip w s k o t e h);
     turns = λ below chip w s k o t e h. cancel_turns k (value_of chip (cancel_work k)) e;
     steps = λ below chip w s k o y t m e come few h. cancel_steps below chip w s k o y t m e h;
     later = λ below chip w s order k o t e come shut h. cancel_later below chip w s order k o t e h;

@@ -9,6 +9,7 @@ use Terms.{never_clean, None, Option, Order, order_word, Origin, own-control, ow
 use Terms.{put_more, Received, refl, Reservations, resets_chip, Right, running_word, Sent, sequence_word, set_up_word}
 use Terms.{Shortens, Side, Some, spi_basis, SpiState, SpiTable, STATE, subst, suc, sym, trio_of, true, TurnsMask}
 use Terms.{TurnsTo, value_of, word_later, World, world_after, zero, ℕ}
+use Rattle.spi_sequences.specs.laws.bookkeeping.RefinementRight.{frame_may}
 use Rattle.spi_sequences.specs.laws.{services.InitSteps.{after_channel, set_up_move, after_set_up, fill_from, first_in}}
 use Rattle.spi_sequences.specs.laws.{services.InitSteps.{init_commits, init_move, init_takes, init_work}}
 use Rattle.spi_sequences.specs.laws.{words.WordsOfModule.{own_banks, own_first, own_set_up}}
@@ -250,7 +251,7 @@ module _ (d : SpiTable) where
 
     pub init_right : AreLong (spi_basis d) (init_bodies d)
     init_right = record {
-      own = init_own;
+      own = λ below chip w s k o t h. frame_may d o (init_work k) (init_own below chip w s k o t h);
       turns = λ below chip w s k o t h. subst (λ n. TurnsTo (init_bodies d) n k (init_takes k (value_of chip (init_work k)))) refl (turns_at k.table k.place (value_of chip (init_work k)));
       steps = λ below chip w s k o y t m come few h. init_steps fits below chip w s k o y t m h;
       later = λ below chip w s order k o t come shut h. later_at below chip w s order k.table k.place o t h;

@@ -18,6 +18,7 @@ use Terms.{SpiIdle, SpiRepresents, SpiState, SpiTable, stands-move, StandsIn, ST
 use Terms.{Store, stored_other, stored_same, subst, suc, sym, true, TurnsTo, Under, UnitAgrees, unless_busy, value_of}
 use Terms.{View, view, Whole, whole_owed, whole_takes, whole_work, WholeBody, Wholes, Windows, windows, windows_right}
 use Terms.{Within, word_of, Works, World, world_after, Write, ℕ}
+use Rattle.spi_sequences.specs.laws.bookkeeping.RefinementRight.{frame_may, frame_names}
 use Rattle.spi_sequences.specs.declared.service.whole.Whole.TheVariants.{DeInit, Status}
 use Rattle.spi_sequences.specs.laws.words.SameWords.{sequences_alike, run_alike, banks_alike}
 use Rattle.spi_sequences.specs.laws.hardware.AfterReset.{by_two, none_in}
@@ -343,7 +344,7 @@ module _ (d : SpiTable) (fits : FitsSpi d) where
     on = λ k x z v e i. absurd (none_left k x z v e i);
     over = over;
     unended = λ k x v e. refl;
-    may = λ a below o t made h e. (and_parts (is_simple made) (may d made) e).1;
+    may = λ a below o t made h e. frame_names d o made (and_parts (is_simple made) (may d made) e).1;
     stands = λ k x v below chip w s o t m e i p h. stands k x v below chip w s o t m e p h;
   }
     where
@@ -390,7 +391,7 @@ module _ (d : SpiTable) (fits : FitsSpi d) where
 
   whole_free : AreFree (spi_basis d) (whole_bodies d) whole_owed (λ k. None)
   whole_free = record {
-    own = whole_own;
+    own = λ below chip w s k o t e h. frame_may d o (whole_work k) (whole_own below chip w s k o t e h);
     turns = λ below chip w s k o t e h. turns k (value_of chip (whole_work k)) e;
     steps = λ below chip w s k o y t m e come few h. whole_steps below chip w s k o y t m e h;
     later = λ below chip w s order k o t e come shut h. later below chip w s order k o t e h;

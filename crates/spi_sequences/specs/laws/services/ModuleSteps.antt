@@ -7,7 +7,8 @@ use Rattle.mcal_base.specs.declared.moves.Event.TheVariants.{Act}
 use Rattle.mcal_base.specs.declared.moves.Move.{Move}
 use Rattle.mcal_base.specs.declared.moves.Move.TheVariants.{Write, Load, Store}
 use Rattle.mcal_base.specs.declared.register.Reg.TheVariants.{EnableSet, EnableClear}
-use Rattle.service_outline.specs.Done.{goes, acts, ends, named}
+use Rattle.run_model.specs.Machine.{named}
+use Rattle.service_outline.specs.Done.{goes, acts, ends}
 use Rattle.service_outline.specs.declared.done.BodyTaken.{BodyTaken}
 use Rattle.service_outline.specs.declared.done.Epilogue.TheVariants.{Nothing}
 use Rattle.spi_sequences.specs.Words.{sequence_word}

@@ -17,6 +17,7 @@ use Terms.{SetAsyncMode, SetupEb, shares_job, Shortens, ShortensTo, slice_index_
 use Terms.{SpiBusy, SpiIdle, SpiJobPending, SpiJobQueued, SpiRepresents, SpiState, SpiTable, STATE, Status, subst, suc}
 use Terms.{sym, SyncTransmit, true, TurnsMask, TurnsTo, Under, value_of, view, Within, word_of, Works, World, WriteIb}
 use Terms.{zero, ℕ}
+use Rattle.spi_sequences.specs.laws.bookkeeping.RefinementRight.{frame_may}
 use Rattle.spi_machine.specs.declared.call.Call.TheVariants.{Channel, Sequence}
 use Rattle.spi_sequences.specs.laws.hardware.StableUnderHardware.{begun_later, mode_later, pending_later}
 use Rattle.spi_sequences.specs.laws.hardware.StableUnderHardware.{running_later}
@@ -457,7 +458,7 @@ module _ (d : SpiTable) (fits : FitsSpi d) where
 
   pub query_right : AreLong (spi_basis d) (query_bodies d)
   query_right = record {
-    own = query_own;
+    own = λ below chip w s k o t h. frame_may d o (query_work k) (query_own below chip w s k o t h);
     turns = λ below chip w s k o t h. query_turns k (value_of chip (query_work k));
     steps = λ below chip w s k o y t m come few h. query_steps below chip w s k o y t m h;
     later = λ below chip w s order k o t come shut h. query_stays w s order k o t h.1;

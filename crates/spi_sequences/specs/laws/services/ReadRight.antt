@@ -20,7 +20,7 @@ use Rattle.word_shapes.specs.Banks.{pinning, releasing}
 use Rattle.spi_sequences.specs.laws.{words.SideWords.{IsBeside, IsLike, banks_changed, beside_back, beside_one}}
 use Rattle.spi_sequences.specs.laws.{words.SideWords.{differs_by_store, mine, none_readied, received_changed}}
 use Rattle.spi_sequences.specs.laws.{words.SideWords.{stands_by_store, trio_fits}, hardware.SourceFilled.{own_low}}
-use Rattle.spi_sequences.specs.laws.{hardware.AfterReset.{none_in}, bookkeeping.RefinementRight.{apart_agrees}}
+use Rattle.spi_sequences.specs.laws.{hardware.AfterReset.{none_in}, bookkeeping.RefinementRight.{apart_agrees, frame_may}}
 use Rattle.spi_sequences.specs.laws.{hardware.StableUnderHardware.{mode_later}}
 use Rattle.spi_sequences.specs.laws.{bookkeeping.PendingWritesBounds.{take_less}, words.WordsOfModule.{has_channel}}
 use Rattle.spi_sequences.specs.laws.{words.WordsOfModule.{own_banks}, services.ReadSteps.{ends_at, read_at, read_ends}}
@@ -539,7 +539,7 @@ module _ (d : SpiTable) where
 
     pub read_right : AreEnding (spi_basis d) (read_bodies d) read_ends
     read_right = record {
-      own = λ below chip w s r o t h. read_own below w s ((spi_basis d).foot chip) o t r r.place h.1;
+      own = λ below chip w s r o t h. frame_may d o (read_work r) (read_own below w s ((spi_basis d).foot chip) o t r r.place h.1);
       turns = λ below chip w s r o t h. read_turns below w s ((spi_basis d).foot chip) o t r r.place (value_of chip (read_work r)) h.1;
       steps = λ below chip w s r o y t m come few h. looking below chip w s r o y t m (ended_by (read_ends (read_took r r.place (value_of chip (read_move r r.place))).0) (read_took r r.place (value_of chip (read_move r r.place))).1.done) (read_step d fits below chip w s r y (missed_after (spi_machine d) w s m) r.place o t h);
       later = λ below chip w s order r o t come shut h. read_later below chip w s order o t r r.place (words_there r below chip w s o t h) h.1;

@@ -15,6 +15,7 @@ use Terms.{SetUpBody, SetupEb, SetUpFits, slice_get, Some, Source, source_word, 
 use Terms.{SpiTable, stands-move, STATE, Store, stored_by, stored_in, stored_other, stored_same, subst, sym, true}
 use Terms.{TurnsTo, Under, untouched, view, with_channel, Within, word_at, word_of, WORDS, WordsAgree, World}
 use Terms.{world_after, Writing, ℕ}
+use Rattle.spi_sequences.specs.laws.bookkeeping.RefinementRight.{frame_may}
 use Rattle.spi_jobs.specs.declared.set_up.SetUp.{SetUp}
 use Rattle.spi_sequences.specs.laws.{words.SameWords.{sequences_alike, run_alike, banks_alike}}
 use Rattle.spi_sequences.specs.laws.{hardware.SourceFilled.{own_low}, hardware.AfterReset.{none_in}}
@@ -198,7 +199,7 @@ module _ (d : SpiTable) (fits : FitsSpi d) where
 
   pub set_up_right : AreLong (spi_basis d) (set_up_bodies d)
   set_up_right = record {
-    own = set_up_own;
+    own = λ below chip w s k o t h. frame_may d o (set_up_work k) (set_up_own below chip w s k o t h);
     turns = λ below chip w s k o t h. turns k;
     steps = λ below chip w s k o y t m come few h. set_up_steps below chip w s k o y t m h;
     later = λ below chip w s order k o t come shut h. set_up_stays below chip w s order k o t h;

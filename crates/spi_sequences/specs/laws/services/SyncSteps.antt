@@ -10,8 +10,8 @@ use Rattle.mcal_base.specs.declared.moves.Move.{Move}
 use Rattle.mcal_base.specs.declared.moves.Move.TheVariants.{Read, Write, Load, Store, Mask, Unmask}
 use Rattle.mcal_base.specs.declared.register.Reg.TheVariants.{SerialSelect, SerialWidth, SerialData, SerialReceived, SerialWait}
 use Rattle.mcal_base.specs.declared.service.Service.TheVariants.{SpiSyncTransmit}
-use Rattle.run_model.specs.Machine.{select_of}
-use Rattle.service_outline.specs.Done.{goes, ends, named, owed_error}
+use Rattle.run_model.specs.Machine.{select_of, named}
+use Rattle.service_outline.specs.Done.{goes, ends, owed_error}
 use Rattle.service_outline.specs.declared.done.BodyTaken.{BodyTaken}
 use Rattle.service_outline.specs.declared.done.Epilogue.TheVariants.{Nothing}
 use Rattle.word_shapes.specs.TripleBuffer.{put_move, put_left, put_gave}

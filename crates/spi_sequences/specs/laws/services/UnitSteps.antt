@@ -10,8 +10,8 @@ use Rattle.mcal_base.specs.declared.moves.Move.{Move}
 use Rattle.mcal_base.specs.declared.moves.Move.TheVariants.{Load, Unmask, Note}
 use Rattle.mcal_base.specs.declared.notice.Notice.{Notice}
 use Rattle.mcal_base.specs.declared.service.Service.TheVariants.{SpiAsyncTransmit}
-use Rattle.run_model.specs.Machine.{no_answer}
-use Rattle.service_outline.specs.Done.{goes, acts, ends, named, owed_error}
+use Rattle.run_model.specs.Machine.{no_answer, named}
+use Rattle.service_outline.specs.Done.{goes, acts, ends, owed_error}
 use Rattle.service_outline.specs.declared.done.BodyTaken.{BodyTaken}
 use Rattle.service_outline.specs.declared.done.Epilogue.TheVariants.{Nothing}
 use Rattle.spi_machine.specs.Machine.{reporting}

@@ -21,7 +21,7 @@ use Rattle.spi_sequences.specs.laws.{words.SideWords.{IsBeside, IsLike, banks_ch
 use Rattle.spi_sequences.specs.laws.{words.SideWords.{beside_then, differs_by_store, differs_none, mine, none_readied}}
 use Rattle.spi_sequences.specs.laws.{words.SideWords.{sent_changed, stands_by_store, trio_fits}}
 use Rattle.spi_sequences.specs.laws.{hardware.SourceFilled.{own_low}, hardware.AfterReset.{none_in}}
-use Rattle.spi_sequences.specs.laws.{bookkeeping.RefinementRight.{apart_agrees}, words.KeptWords.{right_as}}
+use Rattle.spi_sequences.specs.laws.{bookkeeping.RefinementRight.{apart_agrees, frame_may}, words.KeptWords.{right_as}}
 use Rattle.spi_sequences.specs.laws.{hardware.StableUnderHardware.{mode_later, pointwise}}
 use Rattle.spi_sequences.specs.laws.{words.WordsOfModule.{has_channel, of_sixteen, own_banks, source_own}}
 use Rattle.spi_sequences.specs.laws.{services.ReadRight.{length-first}, words.WordsToState.{is_below, is_past}}
@@ -529,7 +529,7 @@ module _ (d : SpiTable) where
 
     pub write_right : AreLong (spi_basis d) (write_bodies d)
     write_right = record {
-      own = write_own;
+      own = λ below chip w s k o t h. frame_may d o (write_work k) (write_own below chip w s k o t h);
       turns = λ below chip w s k o t h. write_turns k (value_of chip (write_work k));
       steps = λ below chip w s k o y t m come few h. write_steps d fits below chip w s k o y t m h;
       later = λ below chip w s order k o t come shut h. write_later below chip w s order k o t h;

@@ -1,6 +1,7 @@
 use Rattle.sweep_top.proofs.Watched.{watched_next}
+use Rattle.run_model.specs.Packing.{item_of}
 use Rattle.sweep_top.specs.Reported as spec
 use Rattle.sweep_top.proofs.seeing.steps_among.Goals as goal
 
-pub loop-item-preserved : goal.loop-item-preserved
-loop-item-preserved c = watched_next (λ i. spec.step_on i) c.args.items.now c.loop-item.item-index _ c.loop-item.steps.items c.keep_step.new.steps.items c.loop-item-test.true c.loop-item.invariant c.in_ok-keep_step.ensures
+pub loop-kept-preserved : goal.loop-kept-preserved
+loop-kept-preserved c = watched_next (λ k. spec.step_on (item_of c.args.lists.now.rests.now k)) c.args.lists.now.items.now c.loop-kept.kept-index _ c.loop-kept.steps.items c.keep_step.new.steps.items c.loop-kept-test.true c.loop-kept.invariant (rw c.item.ensures at c.in_ok-keep_step.ensures)

@@ -1,5 +1,5 @@
 use Rattle.std.proofs.Common.{◌∙◌, ap}
-use Rattle.gpt_driver.specs.Machine.{ready}
+use Rattle.gpt_machine.specs.Machine.{ready}
 use Rattle.timer_laws.specs.Channels.{after_all}
 use Rattle.timer_laws.proofs.ChannelMarks.{configured, seen_all, mark_is, serving_seen}
 use Rattle.timer_laws.proofs.channels.after_a_serving.Goals as goal

@@ -1,8 +1,8 @@
 use Rattle.std.proofs.Common.{ℕ, sym, ◌∙◌, ap}
 use Rattle.mcal_base.specs.Expiry.{runs_on}
-use Rattle.gpt_driver.specs.Machine.{GptState, Course, Running, acts}
-use Rattle.gpt_driver.specs.declared.call.Call.TheVariants as calls
-use Rattle.gpt_driver.specs.declared.call.ChannelCall.TheVariants.{StartTimer}
+use Rattle.gpt_machine.specs.Machine.{GptState, Course, Running, acts}
+use Rattle.gpt_machine.specs.declared.call.Call.TheVariants as calls
+use Rattle.gpt_machine.specs.declared.call.ChannelCall.TheVariants.{StartTimer}
 use Rattle.timer_laws.specs.Channels.{after_all}
 use Rattle.timer_laws.proofs.ChannelMarks.{mark_is, after_start, runs_is, elapsed_answer, remaining_answer}
 use Rattle.timer_laws.proofs.CountLaws.{runs_until}

@@ -1,5 +1,5 @@
 use Rattle.std.proofs.Common.{ap}
-use Rattle.gpt_driver.specs.Machine.{channel_at}
+use Rattle.gpt_machine.specs.Machine.{channel_at}
 use Rattle.timer_laws.proofs.ChannelMarks.{mark_is}
 use Rattle.timer_laws.proofs.channels.mark_by_times.Goals as goal
 

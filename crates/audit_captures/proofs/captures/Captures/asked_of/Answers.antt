@@ -1,8 +1,8 @@
 use Rattle.std.proofs.Common.{ap, subst, sym, ◌∙◌, refl, Some}
 use Rattle.std.proofs.Math.Nat.{le_refl}
-use Rattle.icu_driver.specs.Machine.{capture_at, with_capture, channel_work, channel_answer}
-use Rattle.icu_driver.specs.Table.{channel_of}
-use Rattle.service_outline.specs.Done.{answers}
+use Rattle.icu_machine.specs.Machine.{capture_at, with_capture, channel_work, channel_answer}
+use Rattle.icu_machine.specs.Table.{channel_of}
+use Rattle.run_model.specs.Machine.{answers}
 use Rattle.audit_captures.specs.Stands.{ChannelStands, StandsFor, restarts, left_served}
 use Rattle.audit_captures.proofs.ChannelLaws.{leaves-stands, kept-stored}
 use Rattle.audit_captures.proofs.ModuleLaws.{set-stands, same-stamps, with-stored}

@@ -1,7 +1,7 @@
 use Rattle.std.proofs.Common.{ap, ◌∙◌, true}
 use Rattle.chip_pulses.specs.Pulses.{changed_between}
-use Rattle.pwm_driver.specs.Refinement.{chosen, output_in}
-use Rattle.pwm_driver.specs.laws.Relation.{chosen_same}
+use Rattle.pwm_machine.specs.Units.{chosen, output_in}
+use Rattle.pwm_machine.specs.laws.Relation.{chosen_same}
 use Rattle.audit_pulses.specs.Stands.{output_of}
 use Rattle.audit_pulses.proofs.output.Output.turns.Goals as goal
 

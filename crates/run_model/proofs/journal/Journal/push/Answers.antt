@@ -2,8 +2,8 @@ use Rattle.std.proofs.Common.{append-nil}
 use Rattle.run_model.proofs.Lists.{entries-append, length-entries, all_fit_append}
 use Rattle.run_model.proofs.journal.Journal.push.Goals as goal
 
-pub push-requires : goal.push-requires
-push-requires c = rw length-entries at (rw (← c.self.view_is) at c.requires.room)
+pub push-requires-clause-room : goal.push-requires-clause-room
+push-requires-clause-room c = rw length-entries at (rw (← c.self.view_is) at c.requires.room)
 
 pub invariant_of-self : goal.invariant_of-self
 invariant_of-self c = rw c.push.ensures (all_fit_append _ _ _ c.self.invariant (rw (← c.self.view_is) at c.requires.fits, tt))

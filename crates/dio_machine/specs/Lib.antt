@@ -1,0 +1,5 @@
+pub mod Checks
+pub mod Machine
+pub mod Requests
+pub mod Table
+pub mod Values

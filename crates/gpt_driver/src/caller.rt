@@ -1,0 +1,60 @@
+ghost use Rattle.std.specs.Prelude.{◌≡◌, ◌≤◌};
+ghost use Rattle.gpt_driver.specs.Refinement.{whole_steps, counted};
+
+use crate::driver::GptDriver;
+use gpt_machine::{Call, call_of};
+use mcal_base::{ModuleName, Request, Service};
+use script_runner::Caller;
+
+/// The most steps of a call about a channel, and of a handler.
+const MOST_STEPS: u32 = 64;
+
+impl Caller for GptDriver {
+    ghost use Rattle.gpt_machine.specs.Requests.{call_of, has_service};
+    ghost use Rattle.gpt_driver.specs.laws.Lawful.{slow_timers};
+
+    ghost has_service = { λ _. has_service };
+
+    ghost call_of = { λ _. call_of };
+
+    fn has(&self, service: Service) -> bool {
+        matches!(service.module(), ModuleName::Gpt)
+    }
+
+    fn call(&self, request: &Request) -> Call {
+        call_of(request)
+    }
+
+    fn call_steps(&self, call: &Call) -> u32 {
+        match call {
+            Call::Init | Call::DeInit => self.whole_steps(),
+            Call::SetMode(_) | Call::Channel(..) => MOST_STEPS,
+        }
+    }
+
+    fn line_steps(&self, _line: u32) -> u32 {
+        MOST_STEPS
+    }
+
+    ghost slow = { slow_timers };
+}
+
+impl GptDriver {
+    /// The most steps of a call about the whole module: 48 more for each configured channel.
+    fn whole_steps(&self) -> u32
+        ensures is { result ≡ whole_steps self.now }
+        ensures few { result ≤ 448 }
+    {
+        let below = self.counted(0) + self.counted(1) + self.counted(2) + self.counted(3);
+        let above = self.counted(4) + self.counted(5) + self.counted(6) + self.counted(7);
+        MOST_STEPS + 48 * (below + above)
+    }
+
+    /// 1 where the channel is configured, and 0 where it isn't.
+    fn counted(&self, number: u32) -> u32
+        ensures is { result ≡ counted self.now number }
+        ensures few { result ≤ 1 }
+    {
+        u32::from(self.channel(number).is_some())
+    }
+}

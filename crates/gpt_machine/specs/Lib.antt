@@ -1,0 +1,6 @@
+pub mod Checks
+pub mod Classes
+pub mod Machine
+pub mod Requests
+pub mod Table
+pub mod laws

@@ -1,0 +1,9 @@
+pub mod Checks
+pub mod Claims
+pub mod Classes
+pub mod Edges
+pub mod Machine
+pub mod Requests
+pub mod Shown
+pub mod Table
+pub mod laws

@@ -1,7 +1,0 @@
-use Rattle.std.proofs.Common.{◌≡◌, ◌≤◌, take}
-use Rattle.std.specs.Prelude.{sum_by}
-use Rattle.port_driver.specs.Bounds as spec
-use Rattle.port_driver.proofs.driver.PortDriver.pin_count.Given as goal
-
-abbrev pub invariant-loop-pin : goal.invariant-loop-pin
-invariant-loop-pin l = (l.count ≡ sum_by spec.counted (take l.pin-index l.self.pins)) × (l.count ≤ l.pin-index)

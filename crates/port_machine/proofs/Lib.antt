@@ -1,0 +1,4 @@
+mod ByNumber
+mod GuestLaws
+mod ModeLaws
+mod RunLaws

@@ -1,0 +1,5 @@
+pub mod ChangeLaws
+pub mod DropLaws
+pub mod StateLaws
+pub mod StayLaws
+pub mod WaitLaws

@@ -1,0 +1,9 @@
+pub mod Checks
+pub mod Classes
+pub mod Machine
+pub mod Output
+pub mod Requests
+pub mod Runs
+pub mod Table
+pub mod Units
+pub mod laws
