@@ -100,4 +100,13 @@ impl Told {
     {
         self.notices
     }
+
+    /// The answer, the error that was found, if there was one, and the notices.
+    pub fn apart(self) -> (Answer, Option<ErrorName>, Notices)
+        ensures answer { result.0 ≡ self.answer }
+        ensures error { result.1 ≡ self.error }
+        ensures notices { listed result.2 ≡ self.notices }
+    {
+        (self.answer, self.error, self.notices)
+    }
 }

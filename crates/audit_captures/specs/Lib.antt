@@ -1,2 +1,3 @@
 pub mod Measures
+pub mod Members
 pub mod Stands

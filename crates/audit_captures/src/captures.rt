@@ -1,4 +1,5 @@
 ghost use Rattle.std.specs.Prelude.{◌≡◌, ◌<◌, ◌≤◌, ◌+◌, ◌^◌, ◌&&◌, ℕ, Some, None, is_some, length, not, option_to_list, slice_index_or};
+ghost use Rattle.det_errors.specs.Reports as errors;
 ghost use Rattle.mcal_base.specs.declared.directive.Order.TheVariants.{Level};
 ghost use Rattle.run_model.specs.Machine.{Acts, Serves, Moves, outcome, tells_nothing};
 ghost use Rattle.run_model.specs.World.{World};
@@ -6,6 +7,7 @@ ghost use Rattle.icu_machine.specs.Checks as checks;
 ghost use Rattle.icu_machine.specs.Edges as edges;
 ghost use Rattle.icu_machine.specs.Machine as spec;
 ghost use Rattle.icu_machine.specs.Machine.{IcuState, capture_at, stamp_in};
+ghost use Rattle.icu_machine.specs.Shown.{size_of};
 ghost use Rattle.icu_machine.specs.Table.{channel_of, channel_of_line, is_timestamp};
 ghost use Rattle.audit_base.specs.Comes.{Comes, ComesIf, Gives};
 ghost use Rattle.audit_base.specs.Tells.{listed, gives};
@@ -366,6 +368,24 @@ impl Captures {
         ensures { (s : IcuState) → StandsFor self.now s → result ≡ stamp_in (capture_at s number).stored place }
     {
         self.stamps[(64 * number + place) as usize]
+    }
+
+    /// How many stamps of a channel, of eight, are shown: the size of its last start, none without one since the reset.
+    pub fn size(&self, number: u32) -> Option<u32>
+        requires { number < 8 }
+        ensures { (s : IcuState) → StandsFor self.now s → result ≡ size_of s number }
+    {
+        match self.at(number).start {
+            Some(start) => Some(start.size),
+            None => None,
+        }
+    }
+
+    /// Whether an error that a call finds is reported: as a runtime error, or as a development error.
+    pub fn report(&self, error: ErrorName) -> Option<bool>
+        ensures { result ≡ errors.reported (checks.reporting self.now.driver) error }
+    {
+        det_errors::reported(self.driver.detect, self.driver.classification, error)
     }
 
     /// The chip is reset.

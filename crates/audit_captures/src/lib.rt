@@ -6,9 +6,11 @@ mod capture;
 mod captures;
 mod checks;
 mod measure;
+mod part;
 mod queue;
 
 pub use capture::{Capture, Start};
 pub use captures::Captures;
 pub use measure::{Seen, Value};
+pub use part::CapturesState;
 pub use queue::{Edge, Queue};

@@ -1,4 +1,5 @@
 pub mod ClockStands
+pub mod Members
 pub mod PinStands
 pub mod PortPins
 pub mod WatchdogKept

@@ -1,4 +1,5 @@
 ghost use Rattle.std.specs.Prelude.{◌≡◌, ◌==◌, ◌<◌, ◌+◌, ℕ, min, not, Some, option_map, slice_index_or, if◌then◌else◌};
+ghost use Rattle.det_errors.specs.Reports as errors;
 ghost use Rattle.mcal_base.specs.declared.answer_name.AnswerName.TheVariants.{EOk};
 ghost use Rattle.run_model.specs.Machine as done;
 ghost use Rattle.run_model.specs.Machine.{Acts};
@@ -201,6 +202,13 @@ impl Clock {
         }
     }
 
+    /// Whether an error that a call finds is reported: as a runtime error, or as a development error.
+    pub fn report(&self, error: ErrorName) -> Option<bool>
+        ensures { result ≡ errors.reported (checks.reporting self.now.driver) error }
+    {
+        det_errors::reported(self.driver.detect, 1, error)
+    }
+
     /// The chip is reset for this reason.
     pub fn reset(&mut self, reason: Reason)
         ensures is { StandsFor self.new (spec.after_reset reason) }
@@ -216,7 +224,8 @@ impl Clock {
 
     /// The peripheral ticks of a tick of the oscillator.
     pub fn rate(&self) -> u32
-        ensures { (s : McuState) → StandsFor self.now s → result ≡ s.rate }
+        ensures is { (s : McuState) → StandsFor self.now s → result ≡ s.rate }
+        ensures kept { result ≡ self.now.rate }
     {
         self.rate
     }

@@ -1,4 +1,5 @@
 ghost use Rattle.std.specs.Prelude.{◌≡◌, ◌==◌, ◌<◌, ℕ, not, slice_index_or, if◌then◌else◌};
+ghost use Rattle.det_errors.specs.Reports as errors;
 ghost use Rattle.run_model.specs.Machine.{Acts};
 ghost use Rattle.run_model.specs.World.{World};
 ghost use Rattle.port_machine.specs.Checks as checks;
@@ -137,6 +138,13 @@ impl Pins {
     {
         let state = self.at(number);
         self.set(number, with_latch(!state.latch, state));
+    }
+
+    /// Whether an error that a call finds is reported: as a runtime error, or as a development error.
+    pub fn report(&self, error: ErrorName) -> Option<bool>
+        ensures { result ≡ errors.reported (checks.reporting self.now.driver) error }
+    {
+        det_errors::reported(self.driver.detect, 1, error)
     }
 
     /// The chip is reset.

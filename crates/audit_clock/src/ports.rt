@@ -1,4 +1,5 @@
 ghost use Rattle.std.specs.Prelude.{◌≡◌, ◌<◌, ℕ, Bool, [], Some, Option};
+ghost use Rattle.det_errors.specs.Reports as errors;
 ghost use Rattle.run_model.specs.Machine as done;
 ghost use Rattle.dio_machine.specs.Values as accesses;
 ghost use Rattle.dio_machine.specs.Checks as checks;
@@ -18,6 +19,7 @@ use crate::port_values::{bit, level_answer, moved_down, refused, word_of};
 use audit_base::{Told, number};
 use det_errors::{Facts, first_error};
 use dio_machine::{Call, DioTable, PortPins};
+use mcal_base::ErrorName;
 use std::marker::Model;
 
 /// Channels, ports and groups under a configuration. They have no state: their calls read the levels of pins and change their
@@ -245,6 +247,13 @@ impl Ports {
             Call::WritePort(_, value) => puts_value(pins, chosen, value),
             Call::WriteChannelGroup(_, value) => puts_value(pins, chosen, value),
         }
+    }
+
+    /// Whether an error that a call finds is reported: as a runtime error, or as a development error.
+    pub fn report(&self, error: ErrorName) -> Option<bool>
+        ensures { result ≡ errors.reported (checks.reporting self.now) error }
+    {
+        det_errors::reported(self.driver.detect, 1, error)
     }
 
     /// A call acts on the pins, with this around them.

@@ -1,4 +1,5 @@
 ghost use Rattle.std.specs.Prelude.{◌≡◌, ◌<◌, ◌^◌, ℕ, not, Some, is_some};
+ghost use Rattle.det_errors.specs.Reports as errors;
 ghost use Rattle.run_model.specs.Machine.{Acts, outcome};
 ghost use Rattle.run_model.specs.World.{World};
 ghost use Rattle.wdg_machine.specs.Checks as checks;
@@ -164,6 +165,13 @@ impl Watchdog {
             Some(deadline) => Some(deadline.saturating_sub(osc)),
             None => None,
         }
+    }
+
+    /// Whether an error that a call finds is reported: as a runtime error, or as a development error.
+    pub fn report(&self, error: ErrorName) -> Option<bool>
+        ensures { result ≡ errors.reported (checks.reporting self.now.driver) error }
+    {
+        det_errors::reported(self.driver.detect, 1, error)
     }
 
     /// The chip is reset.

@@ -1,4 +1,3 @@
-pub mod Last
 pub mod Levels
 pub mod Places
 pub mod Reading

@@ -1,3 +1,3 @@
-pub mod Inputs
 pub mod Listed
+pub mod Members
 pub mod Stands

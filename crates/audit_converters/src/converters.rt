@@ -7,25 +7,25 @@ ghost use Rattle.adc_machine.specs.Triggers.{served_trigger};
 ghost use Rattle.adc_machine.specs.Turns as turns;
 ghost use Rattle.adc_machine.specs.Turns.{AdcState, first_state};
 ghost use Rattle.adc_machine.specs.declared.call.Call as call;
+ghost use Rattle.det_errors.specs.Reports as errors;
 ghost use Rattle.mcal_base.specs.declared.directive.Order.TheVariants.{Trigger};
 ghost use Rattle.mcal_base.specs.declared.directive.Reason.{Reason};
 ghost use Rattle.run_model.specs.Machine.{Aborts, Acts, Moves, Restarts, Serves, Starts, outcome, tells_nothing};
 ghost use Rattle.run_model.specs.World.{World};
 ghost use Rattle.audit_base.specs.Comes.{Comes, ComesIf, Gives};
 ghost use Rattle.audit_base.specs.Tells.{gives};
-ghost use Rattle.audit_converters.specs.Inputs.{Took};
+ghost use Rattle.audit_base.specs.Inputs.{Took};
 ghost use Rattle.audit_converters.specs.Stands.{StandsFor, round_as, served_if};
 
 use crate::group::Round;
 use crate::groups::Groups;
 use crate::results::Results;
 use crate::rounds::{is_finished, values_of};
-use crate::samples::Samples;
 use crate::servings::is_unit_line;
 use crate::truths::both;
 use adc_machine::{AdcTable, Call, ResultBuffer};
-use audit_base::{Notices, Told};
-use mcal_base::{Notice, NoticeKind, Unit};
+use audit_base::{Notices, Samples, Told};
+use mcal_base::{ErrorName, Notice, NoticeKind, Unit};
 use std::alloc::{AllocError, Global};
 use std::marker::Model;
 
@@ -254,6 +254,13 @@ impl Converters {
         ensures events { self.new.groups.events ≡ self.old.groups.events }
     {
         self.groups.pulse(&self.table, input);
+    }
+
+    /// Whether an error that a call finds is reported: as a runtime error, or as a development error.
+    pub fn report(&self, error: ErrorName) -> Option<bool>
+        ensures { result ≡ errors.reported (spec.reporting self.now.table) error }
+    {
+        det_errors::reported(self.table.detect, self.table.classification, error)
     }
 
     /// The chip is reset.

@@ -8,9 +8,9 @@ mod converters;
 mod group;
 mod groups;
 mod options;
+mod part;
 mod results;
 mod rounds;
-mod samples;
 mod servings;
 mod triggers;
 mod truths;
@@ -18,4 +18,4 @@ mod turns;
 mod values;
 
 pub use converters::Converters;
-pub use samples::Samples;
+pub use part::ConvertersState;

@@ -4,15 +4,15 @@ ghost use Rattle.adc_machine.specs.Groups.{finish_of, inputs_left, levels_from};
 ghost use Rattle.adc_machine.specs.Table.{group_of};
 ghost use Rattle.adc_machine.specs.Turns as turns;
 ghost use Rattle.run_model.specs.World.{World};
-ghost use Rattle.audit_converters.specs.Inputs.{Took};
+ghost use Rattle.audit_base.specs.Inputs.{Took};
 ghost use Rattle.audit_converters.specs.Listed.{listed};
 ghost use Rattle.audit_converters.specs.Stands.{round_as};
 
 use crate::group::Round;
 use crate::options::suspends;
-use crate::samples::Samples;
 use crate::values::{NO_VALUES, Values};
 use adc_machine::AdcTable;
+use audit_base::Samples;
 
 /// How many inputs a round still had to convert when it was started or resumed.
 fn left(table: &AdcTable, round: Round) -> u32

@@ -6,18 +6,17 @@ ghost use Rattle.audit_base.specs.Comes.{ComesIf};
 ghost use Rattle.adc_machine.specs.Turns as spec;
 ghost use Rattle.adc_machine.specs.Turns.{AdcState};
 ghost use Rattle.run_model.specs.World.{World};
-ghost use Rattle.audit_converters.specs.Inputs.{Took};
+ghost use Rattle.audit_base.specs.Inputs.{Took};
 ghost use Rattle.audit_converters.specs.Stands.{Stands, round_as};
 
 use crate::group::{Request, Round, begun, is_round_of, number_in, precedes};
 use crate::groups::Groups;
 use crate::options::{is_on, rank};
 use crate::rounds::{is_finished, kept_values};
-use crate::samples::Samples;
 use crate::truths::{both, either};
 use crate::values::NO_VALUES;
 use adc_machine::AdcTable;
-use audit_base::Told;
+use audit_base::{Samples, Told};
 
 impl Groups {
     /// A group makes a request.

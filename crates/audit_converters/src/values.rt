@@ -1,10 +1,10 @@
 ghost use Rattle.std.specs.Prelude.{◌≡◌, ◌+◌, ◌*◌, ◌<◌, ◌≤◌, ◌^◌, ◌++◌, ◌∷◌, [], List, length, slice_index_or};
 ghost use Rattle.adc_machine.specs.Groups.{levels_from};
 ghost use Rattle.run_model.specs.World.{Sample};
-ghost use Rattle.audit_converters.specs.Inputs.{Took};
+ghost use Rattle.audit_base.specs.Inputs.{Took};
 ghost use Rattle.audit_converters.specs.Listed.{listed};
 
-use crate::samples::Samples;
+use audit_base::Samples;
 use mcal_base::Words;
 
 /// Values of a group's inputs in their order, at most 32. What stands behind them is of no effect.

@@ -4,11 +4,13 @@
 
 mod checks;
 mod output;
+mod part;
 mod pulse;
 mod pulses;
 mod regime;
 
 pub use output::Output;
+pub use part::PulsesState;
 pub use pulse::Pulse;
 pub use pulses::Pulses;
 pub use regime::{Next, Regime};

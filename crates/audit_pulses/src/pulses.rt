@@ -1,4 +1,5 @@
 ghost use Rattle.std.specs.Prelude.{◌≡◌, ◌==◌, ◌<◌, ◌≤◌, ℕ, Some, None, is_some, not, option_map, if◌then◌else◌};
+ghost use Rattle.det_errors.specs.Reports as errors;
 ghost use Rattle.run_model.specs.Machine.{Acts, Serves, outcome};
 ghost use Rattle.run_model.specs.World.{World};
 ghost use Rattle.pwm_machine.specs.Checks as checks;
@@ -275,6 +276,13 @@ impl Pulses {
             kind: NoticeKind::PwmNotification,
             id: number,
         }))
+    }
+
+    /// Whether an error that a call finds is reported: as a runtime error, or as a development error.
+    pub fn report(&self, error: ErrorName) -> Option<bool>
+        ensures { result ≡ errors.reported (checks.reporting self.now.driver) error }
+    {
+        det_errors::reported(self.driver.detect, 1, error)
     }
 
     /// The chip is reset.

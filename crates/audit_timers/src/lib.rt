@@ -3,9 +3,11 @@
 
 mod checks;
 mod course;
+mod part;
 mod timers;
 mod timing;
 
 pub use course::Course;
+pub use part::TimersState;
 pub use timers::{Mode, Timers};
 pub use timing::Timing;

@@ -1,4 +1,5 @@
 ghost use Rattle.std.specs.Prelude.{◌≡◌, ◌==◌, ℕ, Some, None, is_some, option_map, if◌then◌else◌};
+ghost use Rattle.det_errors.specs.Reports as errors;
 ghost use Rattle.run_model.specs.Machine.{Acts, Serves, outcome};
 ghost use Rattle.run_model.specs.World.{World};
 ghost use Rattle.gpt_machine.specs.Machine as spec;
@@ -341,6 +342,13 @@ impl Timers {
         } else {
             notes(notifies, NoticeKind::GptNotification, line)
         }
+    }
+
+    /// Whether an error that a call finds is reported: as a runtime error, or as a development error.
+    pub fn report(&self, error: ErrorName) -> Option<bool>
+        ensures { result ≡ errors.reported (spec.reporting self.now.driver) error }
+    {
+        det_errors::reported(self.driver.detect, self.driver.classification, error)
     }
 
     /// The chip is reset.

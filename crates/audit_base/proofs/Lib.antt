@@ -1,0 +1,4 @@
+pub mod Last
+pub mod Leaves
+pub mod Low
+pub mod Products

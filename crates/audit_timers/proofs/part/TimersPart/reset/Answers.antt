@@ -1,0 +1,5 @@
+use Rattle.std.proofs.Common.{refl}
+use Rattle.audit_timers.proofs.part.TimersPart.reset.Goals as goal
+
+pub returns-clause-comes : goal.returns-clause-comes
+returns-clause-comes c w s stands = record { told = refl; wordless = refl; kept = c.reset.ensures.state }

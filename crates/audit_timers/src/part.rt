@@ -1,0 +1,122 @@
+use crate::timers::Timers;
+use audit_base::{Done, Outside, Part, Polled};
+use gpt_machine::{Call, GptTable};
+use mcal_base::{ErrorName, Order, Reason, Service, Unit};
+use std::alloc::AllocError;
+use std::marker::Model;
+
+/// The state of the timers' machine, which contracts alone name.
+pub struct TimersState;
+
+impl Model for TimersState {
+    ghost use Rattle.gpt_machine.specs.Machine.{GptState, first_state};
+
+    ghost Value = { GptState };
+
+    ghost view = { λ _. first_state };
+}
+
+impl Part for Timers {
+    type Call = Call;
+
+    type State = TimersState;
+
+    type Table = GptTable;
+
+    ghost use Rattle.std.specs.Prelude.{◌≡◌};
+    ghost use Rattle.audit_timers.specs.Members.{member_of};
+
+    ghost table = { λ m. m.driver };
+
+    ghost member = { member_of };
+
+    ghost fits = { λ m o. Unit {0} };
+
+    ghost ticks = { λ m. 1 };
+
+    ghost stands = { λ m s. m.state ≡ s };
+
+    fn has_line(&self, line: u32) -> bool {
+        Timers::has_line(self, line)
+    }
+
+    fn act(
+        &mut self,
+        outside: &Outside,
+        call: &Call,
+        _times: [u64; 8],
+    ) -> Result<Option<Done>, AllocError> {
+        let told = Timers::act(self, *call, outside.time);
+        Ok(Some(Done { told, begins: None }))
+    }
+
+    fn serve(
+        &mut self,
+        outside: &Outside,
+        line: u32,
+        _received: u32,
+    ) -> Result<Option<Done>, AllocError> {
+        let told = Timers::serve(self, line, outside.time);
+        Ok(Done::if_told(told))
+    }
+
+    fn start(
+        &mut self,
+        _outside: &Outside,
+        _unit: Unit,
+        _by: Option<&Call>,
+        _received: u32,
+    ) -> Result<Option<Done>, AllocError> {
+        Ok(None)
+    }
+
+    fn abort(&mut self, _outside: &Outside, _unit: Unit) -> Result<Option<Done>, AllocError> {
+        Ok(None)
+    }
+
+    fn moved(&mut self, _outside: &Outside, _order: &Order) -> Result<(), AllocError> {
+        Ok(())
+    }
+
+    fn reset(&mut self, _outside: &Outside, _reason: Reason) {
+        Timers::reset(self);
+    }
+
+    fn ready(&self, outside: &Outside, line: u32) -> bool {
+        Timers::ready(self, line, outside.time)
+    }
+
+    fn due(&self, outside: &Outside, line: u32) -> bool {
+        Timers::ready(self, line, outside.time)
+    }
+
+    fn line_waits(&self, _outside: &Outside, _line: u32) -> bool {
+        false
+    }
+
+    fn startable(&self, _outside: &Outside, _unit: Unit) -> bool {
+        false
+    }
+
+    fn rate(&self) -> u32 {
+        1
+    }
+
+    fn expires(&self, _outside: &Outside) -> Option<u64> {
+        None
+    }
+
+    fn service(&self, call: &Call) -> Service {
+        call.service()
+    }
+
+    fn reported(&self, _call: &Call, error: ErrorName) -> Option<bool> {
+        Timers::report(self, error)
+    }
+
+    fn polls(&self, _call: &Call) -> Polled {
+        Polled::new()
+    }
+
+    ghost later = { λ m o p h a. tt };
+}
