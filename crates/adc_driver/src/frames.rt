@@ -53,6 +53,10 @@ impl Module for AdcDriver {
         }
     }
 
+    fn serves(&self, line: u32) -> bool {
+        self.table.uses(line)
+    }
+
     fn class(&self, call: &Call) -> Class {
         call.class()
     }

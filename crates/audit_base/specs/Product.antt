@@ -1,6 +1,5 @@
 -- Two machines as one.
-use Rattle.std.specs.Prelude.{ℕ, min, Bool, cond, ◌||◌, Option, Some, None}
-use Rattle.mcal_base.specs.declared.moves.Unit as units
+use Rattle.std.specs.Prelude.{ℕ, min, cond, ◌||◌, Option, Some, None}
 use Rattle.run_model.specs.Machine.{Happening, Acts, Serves, Starts, Aborts, Moves, Restarts, Outcome, Machine, outcome, outcome_with, tells_nothing}
 use Rattle.run_model.specs.World.{World}
 use Rattle.audit_base.specs.Deeds.{Member}

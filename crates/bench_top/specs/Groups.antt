@@ -11,7 +11,7 @@ use Rattle.bench_top.specs.Outcomes.{Concludes, EndsOnSome, IsCutOff, IsEnded, K
 use Rattle.bench_top.specs.Runs.{report_of}
 use Rattle.bench_top.specs.Statuses.{IsDecided}
 use Rattle.bench_top.specs.Tail.{is_traced}
-use Rattle.bench_top.specs.declared.words.Form.TheVariants.{File, Gen}
+use Rattle.bench_top.specs.declared.words.Form.TheVariants.{File}
 use Rattle.bench_top.specs.declared.words.Printing.{Printing}
 use Rattle.bench_top.specs.declared.words.Task.{Task}
 

@@ -2,6 +2,7 @@ pub mod DeviceLaws
 pub mod HistoryLaws
 pub mod IncomingLaws
 pub mod LineLaws
+pub mod PendingLaws
 pub mod PinLaws
 pub mod ResetLaws
 pub mod WholeLaws

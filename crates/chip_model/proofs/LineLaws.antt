@@ -16,7 +16,7 @@ use Rattle.chip_units.specs.Serials as serials
 use Rattle.chip_units.proofs.SerialLaws as serial_laws
 use Rattle.chip_model.specs.Chip.{Chip, flag_of}
 
-has_bit-shifted : (x n k : ℕ) → n ≤ k → has_bit (x * 2 ^ n) k ≡ has_bit x (k - n)
+pub has_bit-shifted : (x n k : ℕ) → n ≤ k → has_bit (x * 2 ^ n) k ≡ has_bit x (k - n)
 has_bit-shifted x n k le =
     let none : x * 2 ^ n ≡ x * 2 ^ n + 0 = omega arith in
     rw none (ap (λ b. b == 1) (bit_at_cat_high x n 0 k (pow_pos n) le))
@@ -36,7 +36,7 @@ flag-capture c line least lt =
     (has_bit-shifted (captures.waiting_channels c.captures) 16 line least
     ∙ has_bit-bits_of (λ k. captures.is_waiting (captures.capture_at c.captures k)) 8 (line - 16) (omega arith))
 
-one_of : (n line : ℕ) → n ≤ line → line < n + 2 → (line ≡ n) ⊎ (line ≡ n + 1)
+pub one_of : (n line : ℕ) → n ≤ line → line < n + 2 → (line ≡ n) ⊎ (line ≡ n + 1)
 one_of n line least lt = grind arith
 
 pub flag-converter : (c : Chip) (line : ℕ) → 24 ≤ line → line < 26 → has_bit (converters.flags_of c.converters) line ≡ flag_of c line

@@ -219,7 +219,7 @@ impl Bus {
     }
 
     /// Whether a serial unit selects a device that is there.
-    fn has_device(&self, unit: u32) -> bool
+    pub fn has_device(&self, unit: u32) -> bool
         ensures { result ≡ has_device self.now unit }
     {
         let select = self.serials.selected(unit);
@@ -470,6 +470,15 @@ impl Bus {
         ensures { result ≡ is_pending self.now line }
     {
         self.irq.enabled(line) && self.irq.pending(line, self.flags_with(line))
+    }
+
+    /// The lines that are pending, the first one in bit 0.
+    pub fn pending_lines(&self) -> u32
+        ensures { (line : ℕ) → has_bit result line ≡ is_pending self.now line }
+    {
+        let timed = self.timers.flags() | self.pulses.flags();
+        let served = self.captures.flags() | (self.converters.flags() | self.serials.flags());
+        (timed | served) & self.irq.enabled_lines()
     }
 
     /// The flags of the block to which a line belongs.

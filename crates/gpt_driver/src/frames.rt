@@ -54,6 +54,10 @@ impl Module for GptDriver {
         }
     }
 
+    fn serves(&self, line: u32) -> bool {
+        self.channel(line).is_some()
+    }
+
     fn class(&self, call: &Call) -> Class {
         call.class()
     }

@@ -51,6 +51,10 @@ impl Module for IcuDriver {
         }
     }
 
+    fn serves(&self, line: u32) -> bool {
+        self.channel_of_line(line).is_some()
+    }
+
     fn class(&self, call: &Call) -> Class {
         call.class()
     }

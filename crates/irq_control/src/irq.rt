@@ -53,6 +53,13 @@ impl Irq {
         has(self.enabled, line)
     }
 
+    /// The lines whose enable bits are set, the first one in bit 0.
+    pub fn enabled_lines(&self) -> u32
+        ensures { result ≡ self.now.enabled }
+    {
+        self.enabled
+    }
+
     /// Whether the flag of the line and its enable bit are set.
     pub fn pending(&self, line: u32, flags: u32) -> bool
         ensures { result ≡ is_pending_line self.now line flags }

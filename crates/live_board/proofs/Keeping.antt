@@ -119,6 +119,10 @@ module _ {State Call Frame : Type 0} (d : Driver State Call Frame) where
   pub drop_free : (first chip : Chip) (us : List (Under Frame)) (h : List (Transition Call)) → Stands d first chip us h → 0 < chip.devices → hardware_held d.setting (At first h) Detach ≡ None
   drop_free first chip us h st some = let m = At first h in let same : m.world.devices ≡ chip.devices = sym (ap (λ x. x.devices) st.matches.chip_is ∙ st.matches.hung) in one_there m.world.devices (omega (arith, same, some))
 
+  -- and where there is none its drop is held
+  pub drop_held : (first chip : Chip) (us : List (Under Frame)) (h : List (Transition Call)) → Stands d first chip us h → chip.devices ≡ 0 → hardware_held d.setting (At first h) Detach ≡ Some Unknown
+  drop_held first chip us h st none = let m = At first h in let same : m.world.devices ≡ chip.devices = sym (ap (λ x. x.devices) st.matches.chip_is ∙ st.matches.hung) in ap (λ n. cond (n == 0) (Some Unknown) None) (same ∙ none)
+
   -- nothing holds an event of the others
   pub event_free : (first : Chip) (h : List (Transition Call)) (order : Order) → may_be_held order ≡ false → hardware_held d.setting (At first h) order ≡ None
   event_free first h order free = none_held d.setting (At first h) order free

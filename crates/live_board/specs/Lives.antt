@@ -1,8 +1,9 @@
 -- A driver on the chip, as those see it who drive it deed by deed.
-use Rattle.std.specs.Prelude.{◌≡◌, ℕ, zero, suc, ◌+◌, ◌*◌, ◌-◌, ◌^◌, ◌<◌, ◌≤◌, nat_lt, Bool, true, false, List, [], ◌∷◌, ◌++◌, Option, Some, None}
+use Rattle.std.specs.Prelude.{◌≡◌, ℕ, zero, suc, ◌+◌, ◌*◌, ◌-◌, ◌^◌, ◌<◌, ◌≤◌, nat_lt, Bool, true, false, List, [], ◌∷◌, ◌++◌, Option, Some, None, Result, Ok, Err}
 use Rattle.chip_model.specs.Chip.{Chip, now_of, stall_of}
 use Rattle.mcal_base.specs.declared.directive.Order.{Order}
-use Rattle.mcal_base.specs.declared.directive.Order.TheVariants.{Analog, Level, Miso, SpiFault, Tick, Trigger}
+use Rattle.irq_control.specs.declared.held.Held.{Held}
+use Rattle.mcal_base.specs.declared.directive.Order.TheVariants.{Analog, Fill, Level, Miso, SpiFault, Tick, Trigger}
 use Rattle.mcal_base.specs.declared.directive.Reason.TheVariants.{Watchdog}
 use Rattle.mcal_base.specs.declared.moves.Move.{Move}
 use Rattle.run_model.specs.Moment.{Transition, Happens, Resets, start_moment, after_all}
@@ -11,6 +12,8 @@ use Rattle.step_runner.specs.Driver.{Driver}
 use Rattle.step_runner.specs.Kept.{Kept}
 use Rattle.step_runner.specs.Stands.{Stands}
 use Rattle.step_runner.specs.declared.stack.Under.{Under}
+use Rattle.live_board.specs.declared.outside.Refusal.{Refusal}
+use Rattle.live_board.specs.declared.outside.Refusal.TheVariants as refusals
 
 -- The driver, the chip, the frames under way with the number of steps; the ticks that may still go by, the words that may still be given to come in, and how many devices hang on the serial units.
 pub record LiveRun (M Frame : Type 0) : Type 0 where
@@ -50,6 +53,19 @@ wait_by zero left = []
 wait_by (suc n) None = Happens (Tick (suc n)) ∷ []
 wait_by (suc n) (Some left) = Happens (Tick left) ∷ Resets Watchdog ∷ []
 
+-- how many frames a reset of the watchdog drops, where its time ends in ticks, or in a wait
+abbrev pub dropped_by : (left : Option ℕ) → (frames : ℕ) → Option ℕ
+dropped_by None frames = None
+dropped_by (Some left) frames = Some frames
+
+abbrev pub dropped_in : (ticks : ℕ) → (left : Option ℕ) → (frames : ℕ) → Option ℕ
+dropped_in zero left frames = None
+dropped_in (suc n) left frames = dropped_by left frames
+
+-- no step was made, and as many devices hang there
+abbrev pub IsBeside : {M Frame : Type 0} → (before after : LiveRun M Frame) → Type 0
+IsBeside before after = (after.kept.steps ≡ before.kept.steps) × (after.devices ≡ before.devices)
+
 -- words are given to come in on one of the serial units
 abbrev pub is_gift : Order → Bool
 is_gift (Miso u ws) = nat_lt u 2
@@ -62,6 +78,18 @@ is_setting (Analog i v) = true
 is_setting (Trigger i) = true
 is_setting (SpiFault u) = true
 is_setting order = false
+
+-- it moves the hardware, in no time and with the devices as they are
+abbrev pub is_outside : Order → Bool
+is_outside (Fill c ws) = true
+is_outside (Miso u ws) = nat_lt u 2
+is_outside order = is_setting order
+
+-- the cause that held something
+abbrev pub held_by : {A : Type 0} → Result A Refusal → Option Held
+held_by (Ok a) = None
+held_by (Err (refusals.Held cause)) = Some cause
+held_by (Err refusals.Spent) = None
 
 -- The chip's times stay within their registers for the ticks that are left, and it has room for the words that may still come.
 pub record IsCounted (chip : Chip) (left room : ℕ) : Type 0 where

@@ -1,16 +1,18 @@
-ghost use Rattle.std.specs.Prelude.{◌≡◌, ◌<◌, ◌≤◌, ◌-◌, ◌&&◌, is_some, [], ◌∷◌, length, map, IfOk, OnErr, OnOk, Ok, Some, None, true};
-ghost use Rattle.chip_model.specs.Chip.{CanHappen, hung, power_on, is_masked, is_pending, expiry_of, happened, reset_chip, ticked};
+ghost use Rattle.std.specs.Prelude.{◌≡◌, ◌<◌, ◌≤◌, ◌-◌, ◌&&◌, is_some, List, [], ◌∷◌, length, map, vec_len, IfNone, IfOk, OnErr, OnOk, Ok, Err, Some, None, true};
+ghost use Rattle.chip_model.specs.Chip.{CanHappen, Chip, hung, power_on, is_masked, is_pending, expiry_of, happened, reset_chip, ticked};
 ghost use Rattle.chip_model.specs.Devices.{CallsRight};
 ghost use Rattle.mcal_base.specs.Layout.{WithinLimits};
 ghost use Rattle.mcal_base.specs.declared.directive.Order.TheVariants.{Detach, Tick};
 ghost use Rattle.mcal_base.specs.declared.directive.Reason.TheVariants.{Watchdog};
 ghost use Rattle.run_model.specs.Causes.{call_cause, line_cause};
-ghost use Rattle.run_model.specs.Moment.{Begins, Enters, Steps, Happens, Resets};
+ghost use Rattle.run_model.specs.Legal.{hardware_held};
+ghost use Rattle.run_model.specs.Moment.{Transition, Begins, Enters, Steps, Happens, Resets, after_all, start_moment};
 ghost use Rattle.script_runner.specs.Standing.{filled_by, left_within, words_by};
 ghost use Rattle.step_runner.specs.Driver.{EndsBefore};
 ghost use Rattle.step_runner.specs.Kept.{cause_of, tags_under, top_is_noted, upcoming_of, IsStill, TakesStep};
 ghost use Rattle.step_runner.specs.Stands.{Stands, done};
-ghost use Rattle.live_board.specs.Lives.{GoesOn, StepsOn, is_gift, is_setting, ticks_by, wait_by, wait_of};
+ghost use Rattle.live_board.specs.Lives.{GoesOn, IsBeside, StepsOn, dropped_by, dropped_in, held_by, is_gift, is_outside, is_setting, ticks_by, wait_by, wait_of};
+ghost use Rattle.live_board.specs.declared.outside.Refusal.TheVariants.{Spent};
 
 use crate::outside::{MOST_TICKS, Refusal};
 use chip_model::Bus;
@@ -86,7 +88,8 @@ impl<M: Caller> Live<M> {
 
     /// The level of a line.
     pub fn level(&self, line: u32) -> u32
-        ensures { result ≡ (M.spec self.now.driver).setting.level_of line }
+        ensures fits { (M.spec self.now.driver).fits }
+        ensures level { result ≡ (M.spec self.now.driver).setting.level_of line }
     {
         self.driver.level(line)
     }
@@ -95,6 +98,7 @@ impl<M: Caller> Live<M> {
     pub fn begin(&mut self, level: u32, request: &Request) -> Result<(), Held>
         requires has { M.has_service self.old.driver request.now.service ≡ true }
         ensures driver { self.new.driver ≡ self.old.driver }
+        ensures beside { IsBeside self.old self.new }
         ensures cause { let class = (M.spec self.old.driver).setting.class_of (M.call_of self.old.driver request.now) in
             cause_of result ≡ call_cause (is_masked self.old.chip) (tags_under self.old.kept.frames) (top_is_noted self.old.kept.frames) class level }
         ensures goes { let deed = Begins (M.call_of self.old.driver request.now) level in
@@ -107,6 +111,7 @@ impl<M: Caller> Live<M> {
     /// Begins the handler of a line, unless a cause holds it.
     pub fn enter(&mut self, line: u32) -> Result<(), Held>
         ensures driver { self.new.driver ≡ self.old.driver }
+        ensures beside { IsBeside self.old self.new }
         ensures cause { let d = M.spec self.old.driver in
             cause_of result ≡ line_cause (is_masked self.old.chip) (tags_under self.old.kept.frames) (d.setting.level_of line) (is_some (d.handler_of line) && is_pending self.old.chip line) }
         ensures goes { GoesOn (M.spec self.old.driver) self.old self.new (done result (Enters line)) }
@@ -129,6 +134,7 @@ impl<M: Caller> Live<M> {
         requires time { ticks ≤ self.old.left }
         requires early { EndsBefore (Tick ticks) (expiry_of self.old.chip) }
         ensures driver { self.new.driver ≡ self.old.driver }
+        ensures beside { IsBeside self.old self.new }
         ensures chip { self.new.chip ≡ happened self.old.chip (Tick ticks) }
         ensures kept { self.new.kept ≡ self.old.kept }
         ensures goes { GoesOn (M.spec self.old.driver) self.old self.new (Happens (Tick ticks) ∷ []) }
@@ -146,6 +152,7 @@ impl<M: Caller> Live<M> {
         requires time { ticks ≤ self.old.left }
         requires ends { expiry_of self.old.chip ≡ Some ticks }
         ensures driver { self.new.driver ≡ self.old.driver }
+        ensures beside { IsBeside self.old self.new }
         ensures chip { self.new.chip ≡ reset_chip (happened self.old.chip (Tick ticks)) Watchdog }
         ensures frames { self.new.kept.frames ≡ [] }
         ensures left { self.new.left ≡ self.old.left - ticks }
@@ -161,7 +168,10 @@ impl<M: Caller> Live<M> {
     /// answered how many frames were dropped.
     pub fn tick(&mut self, ticks: u32) -> Result<Option<u32>, Refusal>
         ensures driver { self.new.driver ≡ self.old.driver }
+        ensures fits { (M.spec self.old.driver).fits }
+        ensures beside { IsBeside self.old self.new }
         ensures spent { OnErr result ((self.old.left < ticks) × (self.new ≡ self.old)) }
+        ensures ended { IfOk result (λ dropped. dropped ≡ dropped_by (left_within ticks (expiry_of self.old.chip)) (length self.old.kept.frames)) }
         ensures goes { OnOk result (GoesOn (M.spec self.old.driver) self.old self.new (ticks_by ticks (left_within ticks (expiry_of self.old.chip)))) }
     {
         if u64::from(ticks) > self.left {
@@ -194,27 +204,44 @@ impl<M: Caller> Live<M> {
         Some(stepped.made)
     }
 
-    /// The ticks that the next step waits for.
-    pub fn stall(&self) -> u32
+    /// The ticks that the next step waits for, whose move is looked up in the step that will be made.
+    fn due(&self, stepped: &mut Stepped) -> u32
         ensures wait { result ≡ wait_of M.Frame.move_of self.now.kept.frames self.now.chip }
         ensures over { IsStill M.Frame.move_of self.now.kept.frames (ticked self.now.chip result) }
+        ensures rest { stepped.new ≡ record stepped.old { made = stepped.new.made } }
     {
-        match self.upcoming() {
-            None => 0,
-            Some(made) => self.bus.stall(&made) as u32,
+        if self.stack.depth() == 0 {
+            return 0;
         }
+        self.stack.look(stepped);
+        self.bus.stall(&stepped.made) as u32
     }
 
-    /// Ticks until the next step waits for no word. Where the watchdog's time ends in them the chip is reset, no frame is
-    /// left, and it is answered how many there were.
-    pub fn wait(&mut self) -> Result<Option<u32>, Refusal>
+    /// The ticks that the next step waits for.
+    pub fn stall(&self) -> u32
+        ensures { result ≡ wait_of M.Frame.move_of self.now.kept.frames self.now.chip }
+    {
+        let mut stepped = Stepped::blank();
+        self.due(&mut stepped)
+    }
+
+    /// Ticks until the next step waits for no word; its move is looked up in the step that will be made. Where the watchdog's
+    /// time ends in them the chip is reset, no frame is left, and it is answered how many there were.
+    pub fn wait(&mut self, stepped: &mut Stepped) -> Result<Option<u32>, Refusal>
         ensures driver { self.new.driver ≡ self.old.driver }
-        ensures spent { OnErr result (self.new ≡ self.old) }
+        ensures fits { (M.spec self.old.driver).fits }
+        ensures beside { IsBeside self.old self.new }
+        ensures spent { let ticks = wait_of M.Frame.move_of self.old.kept.frames self.old.chip in
+            OnErr result ((ticks < 4294967296) × (self.old.left < ticks) × (self.new ≡ self.old)) }
+        ensures ended { let ticks = wait_of M.Frame.move_of self.old.kept.frames self.old.chip in
+            IfOk result (λ dropped. dropped ≡ dropped_in ticks (left_within ticks (expiry_of self.old.chip)) (length self.old.kept.frames)) }
+        ensures kept { IfOk result (λ dropped. IfNone dropped (self.new.kept ≡ self.old.kept)) }
+        ensures rest { stepped.new ≡ record stepped.old { made = stepped.new.made } }
         ensures still { OnOk result (IsStill M.Frame.move_of self.new.kept.frames self.new.chip) }
         ensures goes { let ticks = wait_of M.Frame.move_of self.old.kept.frames self.old.chip in
             OnOk result (GoesOn (M.spec self.old.driver) self.old self.new (wait_by ticks (left_within ticks (expiry_of self.old.chip)))) }
     {
-        let ticks = self.stall();
+        let ticks = self.due(stepped);
         if u64::from(ticks) > self.left {
             return Err(Refusal::Spent);
         }
@@ -240,6 +267,10 @@ impl<M: Caller> Live<M> {
         requires still { IsStill M.Frame.move_of self.old.kept.frames self.old.chip }
         requires free { stepped.old.ended ≡ None }
         ensures driver { self.new.driver ≡ self.old.driver }
+        ensures devices { self.new.devices ≡ self.old.devices }
+        ensures count { vec_len rack.new ≡ vec_len rack.old }
+        ensures few { OnOk result (self.old.kept.steps < 4294967295) }
+        ensures spent { 0 < length self.old.kept.frames → vec_len rack.old ≡ self.old.devices → OnErr result ((result ≡ Err Spent) × (4294967295 ≤ self.old.kept.steps)) }
         ensures held { OnErr result (self.new ≡ self.old) }
         ensures step { OnOk result (TakesStep M.Frame.move_of M.Frame.left M.Frame.gave self.old.kept.frames self.old.kept.steps
             self.old.chip self.new.kept self.new.chip (Ok stepped.new)) }
@@ -266,7 +297,12 @@ impl<M: Caller> Live<M> {
     fn fill(&mut self, happening: &Directive, channel: u32) -> Result<(), Refusal>
         requires fill { filled_by happening.now.order ≡ Some channel }
         ensures driver { self.new.driver ≡ self.old.driver }
+        ensures beside { IsBeside self.old self.new }
         ensures held { OnErr result (self.new ≡ self.old) }
+        ensures spent { result ≡ Err Spent → self.old.room < words_by happening.now.order }
+        ensures cause { (first : Chip) (h : List (Transition M.Call)) → Stands (M.spec self.old.driver) first self.old.chip self.old.kept.frames h →
+            let setting = (M.spec self.old.driver).setting in
+            hardware_held setting (after_all setting (start_moment setting first) h) happening.now.order ≡ held_by result }
         ensures goes { OnOk result (GoesOn (M.spec self.old.driver) self.old self.new (Happens happening.now.order ∷ [])) }
     {
         match fill_held(&self.stack, &self.driver, &self.bus, channel) {
@@ -283,7 +319,9 @@ impl<M: Caller> Live<M> {
         requires gives { is_gift happening.now.order ≡ true }
         requires words { words ≡ words_by happening.now.order }
         ensures driver { self.new.driver ≡ self.old.driver }
+        ensures beside { IsBeside self.old self.new }
         ensures held { OnErr result ((self.old.room < words) × (self.new ≡ self.old)) }
+        ensures free { held_by result ≡ None }
         ensures goes { OnOk result (GoesOn (M.spec self.old.driver) self.old self.new (Happens happening.now.order ∷ [])) }
     {
         if words > self.room {
@@ -298,6 +336,7 @@ impl<M: Caller> Live<M> {
     fn set(&mut self, happening: &Directive)
         requires sets { is_setting happening.now.order ≡ true }
         ensures driver { self.new.driver ≡ self.old.driver }
+        ensures beside { IsBeside self.old self.new }
         ensures goes { GoesOn (M.spec self.old.driver) self.old self.new (Happens happening.now.order ∷ []) }
     {
         hardware(&self.stack, &mut self.bus, happening);
@@ -307,17 +346,38 @@ impl<M: Caller> Live<M> {
     /// something else it is held as unknown.
     pub fn happen(&mut self, happening: &Directive) -> Result<(), Refusal>
         ensures driver { self.new.driver ≡ self.old.driver }
+        ensures beside { IsBeside self.old self.new }
         ensures held { OnErr result (self.new ≡ self.old) }
+        ensures spent { result ≡ Err Spent → self.old.room < words_by happening.now.order }
+        ensures cause { (first : Chip) (h : List (Transition M.Call)) → Stands (M.spec self.old.driver) first self.old.chip self.old.kept.frames h →
+            is_outside happening.now.order ≡ true → let setting = (M.spec self.old.driver).setting in
+            hardware_held setting (after_all setting (start_moment setting first) h) happening.now.order ≡ held_by result }
         ensures goes { OnOk result (GoesOn (M.spec self.old.driver) self.old self.new (Happens happening.now.order ∷ [])) }
     {
         match &happening.order {
             Order::Fill(channel, _) => self.fill(happening, *channel),
-            Order::Miso(unit, words) if *unit < 2 => self.give(happening, words.len()),
+            Order::Miso(unit, words) => {
+                if *unit < 2 {
+                    self.give(happening, words.len())
+                } else {
+                    Err(Refusal::Held(Held::Unknown))
+                }
+            }
             Order::Level(..) | Order::Analog(..) | Order::Trigger(_) | Order::SpiFault(_) => {
                 self.set(happening);
                 Ok(())
             }
-            _ => Err(Refusal::Held(Held::Unknown)),
+            Order::Call(..)
+            | Order::Do(..)
+            | Order::Enter(_)
+            | Order::Serve(_)
+            | Order::Run(_)
+            | Order::Upto(_)
+            | Order::Finish
+            | Order::Tick(_)
+            | Order::Detach
+            | Order::Reset(_)
+            | Order::Show(_) => Err(Refusal::Held(Held::Unknown)),
         }
     }
 
@@ -325,7 +385,11 @@ impl<M: Caller> Live<M> {
     /// unknown where there is none.
     pub fn detach(&mut self) -> Result<(), Held>
         ensures driver { self.new.driver ≡ self.old.driver }
+        ensures steps { self.new.kept.steps ≡ self.old.kept.steps }
         ensures held { OnErr result (self.new ≡ self.old) }
+        ensures cause { (first : Chip) (h : List (Transition M.Call)) → Stands (M.spec self.old.driver) first self.old.chip self.old.kept.frames h →
+            let setting = (M.spec self.old.driver).setting in
+            hardware_held setting (after_all setting (start_moment setting first) h) Detach ≡ cause_of result }
         ensures fewer { OnOk result (self.new.devices ≡ self.old.devices - 1) }
         ensures goes { OnOk result (GoesOn (M.spec self.old.driver) self.old self.new (Happens Detach ∷ [])) }
     {
@@ -340,6 +404,7 @@ impl<M: Caller> Live<M> {
     fn count_off(&mut self)
         requires { 0 < self.old.devices }
         ensures driver { self.new.driver ≡ self.old.driver }
+        ensures steps { self.new.kept.steps ≡ self.old.kept.steps }
         ensures fewer { self.new.devices ≡ self.old.devices - 1 }
         ensures goes { GoesOn (M.spec self.old.driver) self.old self.new (Happens Detach ∷ []) }
     {
@@ -354,6 +419,7 @@ impl<M: Caller> Live<M> {
     /// Resets the chip, and answers how many frames were dropped.
     pub fn reset(&mut self, reason: Reason) -> u32
         ensures driver { self.new.driver ≡ self.old.driver }
+        ensures beside { IsBeside self.old self.new }
         ensures dropped { result ≡ length self.old.kept.frames }
         ensures goes { GoesOn (M.spec self.old.driver) self.old self.new (Resets reason ∷ []) }
     {
@@ -362,7 +428,8 @@ impl<M: Caller> Live<M> {
 
     /// How many frames are under way.
     pub fn depth(&self) -> u32
-        ensures { result ≡ length self.now.kept.frames }
+        ensures fits { (M.spec self.now.driver).fits }
+        ensures depth { result ≡ length self.now.kept.frames }
     {
         self.stack.depth()
     }

@@ -5,9 +5,14 @@ use Rattle.mcal_base.specs.declared.directive.Reason.TheVariants.{Software}
 use Rattle.bench_report.specs.Lines.{Line, Restarts}
 use Rattle.live_session.specs.Pages.{Page, say, say_all}
 
-told_all : (p : Page) (xs ys : List Line) → say_all p (xs ++ ys) ≡ say_all (say_all p xs) ys
+pub told_all : (p : Page) (xs ys : List Line) → say_all p (xs ++ ys) ≡ say_all (say_all p xs) ys
 told_all p [] ys = refl
 told_all p (x ∷ xs) ys = told_all (say p x) xs ys
+
+-- the number of the line that is answered stays
+pub number_same : (p : Page) (ls : List Line) → (say_all p ls).number ≡ p.number
+number_same p [] = refl
+number_same p (l ∷ ls) = number_same (say p l) ls
 
 -- the lines of a step, and then that of the reset that it makes
 pub told_with_reset : (p a b c : Page) (xs ys zs : List Line) (n m : ℕ) (resets : Bool) → a ≡ say_all p (xs ++ ys) → b ≡ say_all a zs → c ≡ say b (Restarts Software m) → m ≡ n → resets ≡ true →

@@ -1,2 +1,4 @@
+pub mod Answers
+pub mod Beginnings
 pub mod Pages
 pub mod Steps

@@ -1,5 +1,5 @@
 use mcal_base::{Failed, Source};
-use std::alloc::{AllocFailed, Global};
+use std::alloc::{AllocError, Global};
 
 /// The most bytes of a line, and of a configuration.
 pub(crate) const MOST_BYTES: usize = 1_048_576;
@@ -18,6 +18,17 @@ pub(crate) enum Came {
     End,
 }
 
+/// What was taken of a line.
+#[derive(Clone, Copy)]
+struct Taken {
+    /// Whether the line ends there.
+    ends: bool,
+    /// Whether all of it is kept.
+    is_whole: bool,
+    /// How many bytes it is, with its end.
+    count: usize,
+}
+
 /// Why nothing came.
 #[derive(Clone, Copy)]
 pub(crate) enum ReadFault {
@@ -33,10 +44,25 @@ impl From<Failed> for ReadFault {
     }
 }
 
-impl<T: Drop> From<AllocFailed<T>> for ReadFault {
-    fn from(_e: AllocFailed<T>) -> ReadFault {
+impl From<AllocError> for ReadFault {
+    fn from(_e: AllocError) -> ReadFault {
         ReadFault::NoMemory
     }
+}
+
+/// Takes what a piece has of a line, between two places of it, as far as it is kept.
+fn take(piece: &[u8], from: usize, to: usize, line: &mut Vec<u8>) -> Result<Taken, AllocError> {
+    let left = piece.get(from..to).unwrap_or(&[]);
+    let end = left.iter().position(|byte| *byte == b'\n');
+    let part = &left[..end.unwrap_or(left.len())];
+    let room = MOST_BYTES.saturating_sub(line.len());
+    let kept = &part[..part.len().min(room)];
+    line.extend_from_slice(kept)?;
+    Ok(Taken {
+        ends: end.is_some(),
+        is_whole: kept.len() == part.len(),
+        count: part.len().saturating_add(1),
+    })
 }
 
 /// A source, line by line.
@@ -79,38 +105,33 @@ impl<S: Source + Drop> Lines<S> {
         }
     }
 
-    /// The next byte, where there is one.
-    fn byte(&mut self) -> Result<Option<u8>, ReadFault> {
+    /// Has the source asked for more where nothing of the piece is left. Tells whether nothing comes more.
+    fn ends(&mut self) -> Result<bool, ReadFault> {
         if self.waits() {
             self.filled = self.source.read(&mut self.piece)?;
             self.at = 0;
         }
-        match self.piece.get(self.at) {
-            Some(byte) if self.at < self.filled => {
-                self.at += 1;
-                Ok(Some(*byte))
-            }
-            _ => Ok(None),
-        }
+        Ok(self.waits())
     }
 
     /// Reads the next line. The last one may go without its end.
     pub(crate) fn next(&mut self) -> Result<Came, ReadFault> {
         self.line.clear();
-        let mut long = false;
+        let mut is_whole = true;
         for read in 0..u64::MAX {
-            match self.byte()? {
-                None if read == 0 => return Ok(Came::End),
-                None | Some(b'\n') => break,
-                Some(byte) => {
-                    if self.line.len() < MOST_BYTES {
-                        self.line.push(byte)?;
-                    } else {
-                        long = true;
-                    }
+            if self.ends()? {
+                if read == 0 {
+                    return Ok(Came::End);
                 }
+                break;
+            }
+            let taken = take(&self.piece, self.at, self.filled, &mut self.line)?;
+            self.at = self.at.saturating_add(taken.count);
+            is_whole = is_whole && taken.is_whole;
+            if taken.ends {
+                break;
             }
         }
-        Ok(if long { Came::Long } else { Came::Line })
+        Ok(if is_whole { Came::Line } else { Came::Long })
     }
 }

@@ -19,13 +19,13 @@ const LINES: u32 = 32;
 
 /// Prints which interrupt lines are pending.
 fn write_pending(bus: &Bus, page: &mut Page) -> Result<(), AllocError> {
-    let mut first = true;
+    let pending = bus.pending_lines();
+    if pending == 0 {
+        return Ok(());
+    }
+    page.text.push_str(" pending")?;
     for line in 0..LINES {
-        if bus.pending(line) {
-            if first {
-                page.text.push_str(" pending")?;
-                first = false;
-            }
+        if (pending >> line) % 2 == 1 {
             write!(page.text, " {line}")?;
         }
     }

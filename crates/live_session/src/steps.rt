@@ -1,8 +1,10 @@
-ghost use Rattle.std.specs.Prelude.{◌≡◌, ◌++◌, [], Some, OnOk, drop, length};
+ghost use Rattle.std.specs.Prelude.{◌≡◌, ◌++◌, [], Some, IfOk, OnOk, drop, length, if◌then◌else◌};
 ghost use Rattle.bench_report.specs.Lines.{Restarts};
 ghost use Rattle.bench_report.specs.Report as report;
+ghost use Rattle.live_board.specs.Lives.{wait_of};
 ghost use Rattle.live_session.specs.Pages as pages;
 ghost use Rattle.live_session.specs.Steps as spec;
+ghost use Rattle.run_model.specs.Follows as follows;
 ghost use Rattle.run_model.specs.Frame as model;
 
 use crate::board::Board;
@@ -31,17 +33,21 @@ pub(crate) enum Far {
     Whole,
 }
 
-/// Whether steps go on.
+/// What a turn of the top frame came to.
 #[derive(Clone, Copy)]
-enum Goes {
-    /// They do.
+pub(crate) enum Goes {
+    /// A step was made, and the frame is there still.
     On,
-    /// The frame is gone, or nothing could be done.
+    /// The frame is gone.
     Off,
+    /// No step was made, since what is counted is used up.
+    Spent,
 }
 
 /// Whether a step is one at which `upto` stops.
-fn stops_at(stop: Stop, stepped: &Stepped) -> bool {
+fn stops_at(stop: Stop, stepped: &Stepped) -> bool
+    ensures { result ≡ follows.stops_at stop stepped.now }
+{
     match stop {
         Stop::Act => matches!(stepped.event, Some(Event::Act)),
         Stop::Mask => matches!(stepped.made, Move::Mask),
@@ -51,7 +57,9 @@ fn stops_at(stop: Stop, stepped: &Stepped) -> bool {
 }
 
 /// Whether steps stop after this one, the last of so many.
-fn has_reached(far: Far, made: u32, stepped: &Stepped) -> bool {
+fn has_reached(far: Far, made: u32, stepped: &Stepped) -> bool
+    ensures reached { spec.asked far (result ≡ follows.is_reached (spec.reach_of far) made stepped.now) }
+{
     match far {
         Far::Count(most) => made == most,
         Far::Until(stop) => stops_at(stop, stepped),
@@ -75,8 +83,26 @@ pub(crate) fn tell_reset<B: Sights>(
     page.say(Line::Restarts(reason, dropped))
 }
 
+/// Tells of the watchdog's reset, where it dropped so many frames.
+pub(crate) fn tell_watchdog<B: Sights>(
+    board: &mut Board<B>,
+    page: &mut Page,
+    dropped: Option<u32>,
+) -> Result<(), AllocError>
+    ensures told { OnOk result (page.new ≡ pages.say_all page.old (spec.watchdog_lines dropped)) }
+    ensures frames { OnOk result (board.new.frames ≡ spec.watchdog_frames board.old.frames dropped) }
+    ensures live { board.new.live ≡ board.old.live }
+{
+    match dropped {
+        Some(dropped) => tell_reset(board, page, Reason::Watchdog, dropped),
+        None => Ok(()),
+    }
+}
+
 /// Tells why something isn't done.
-pub(crate) fn tell_refusal(page: &mut Page, refusal: Refusal) -> Result<(), AllocError> {
+pub(crate) fn tell_refusal(page: &mut Page, refusal: Refusal) -> Result<(), AllocError>
+    ensures { OnOk result (page.new ≡ spec.refusal_told page.old refusal) }
+{
     match refusal {
         Refusal::Held(cause) => page.say(Line::Holds(cause)),
         Refusal::Spent => page.refuse("Spent"),
@@ -123,6 +149,7 @@ fn tell_step(page: &mut Page, traced: bool, depth: u32, stepped: &Stepped) -> Re
 fn end_of(frames: &mut Frames, page: &mut Page, stepped: &Stepped) -> Result<Goes, AllocError>
     ensures told { OnOk result (page.new ≡ pages.say_all page.old (report.end_lines frames.old stepped.now.ended)) }
     ensures frames { OnOk result (frames.new ≡ report.frames_after_end frames.old stepped.now.ended) }
+    ensures goes { IfOk result (λ goes. goes ≡ spec.goes_by stepped.now.ended) }
 {
     match &stepped.ended {
         Some(answer) => {
@@ -150,6 +177,10 @@ fn follow<B: Sights>(
 ) -> Result<Goes, AllocError>
     ensures told { OnOk result (page.new ≡ pages.say_all page.old (spec.lines_of traced depth board.old.frames (length board.old.live.kept.frames) stepped.now)) }
     ensures frames { OnOk result (board.new.frames ≡ spec.frames_of board.old.frames stepped.now) }
+    ensures goes { IfOk result (λ goes. goes ≡ spec.goes_after stepped.now) }
+    ensures driver { board.new.live.driver ≡ board.old.live.driver }
+    ensures devices { board.new.live.devices ≡ board.old.live.devices }
+    ensures live { OnOk result (spec.IsFollowed (B.Driver.spec board.old.live.driver) board.old.live board.new.live stepped.now) }
 {
     board.first_wire.take(0, stepped)?;
     board.second_wire.take(1, stepped)?;
@@ -163,21 +194,21 @@ fn follow<B: Sights>(
     Ok(goes)
 }
 
-/// Waits until the top frame's step may be made, and makes it. Where the watchdog's time ends in the wait no step is made, and
-/// it is answered how many frames were dropped.
-fn turn<M: Caller>(
-    live: &mut Live<M>,
-    rack: &mut Vec<Box<dyn SerialDevice>>,
-    stepped: &mut Stepped,
-) -> Result<Option<u32>, Refusal> {
-    match live.wait() {
-        Ok(None) => {
-            *stepped = Stepped::blank();
-            live.step(rack, stepped)?;
-            Ok(None)
-        }
-        ended => ended,
+/// The ticks that are told of a step that is printed: those for which it waits.
+fn told_wait<M: Caller>(live: &Live<M>, traced: bool) -> u32
+    ensures { result ≡ (if traced then wait_of M.Frame.move_of live.now.kept.frames live.now.chip else 0) }
+{
+    if traced { live.stall() } else { 0 }
+}
+
+/// Tells of a wait, where there was one.
+fn tell_wait(page: &mut Page, ticks: u32) -> Result<(), AllocError>
+    ensures { OnOk result (page.new ≡ pages.say_all page.old (spec.waits_of ticks)) }
+{
+    if ticks == 0 {
+        return Ok(());
     }
+    page.say(Line::Waits(ticks))
 }
 
 /// Makes one step of the top frame, after its wait.
@@ -188,24 +219,44 @@ fn one_step<B: Sights>(
     traced: bool,
     stepped: &mut Stepped,
 ) -> Result<Goes, AllocError> {
-    let ticks = if traced { board.live.stall() } else { 0 };
-    let depth = board.live.depth();
-    match turn(&mut board.live, rack, stepped) {
-        Ok(None) => {
-            if ticks > 0 {
-                page.say(Line::Waits(ticks))?;
-            }
-            follow(board, page, traced, depth, stepped)
+    *stepped = Stepped::blank();
+    let ticks = told_wait(&board.live, traced);
+    let dropped = match board.live.wait(stepped) {
+        Ok(dropped) => dropped,
+        Err(_) => {
+            page.refuse("Spent")?;
+            return Ok(Goes::Spent);
         }
-        Ok(Some(dropped)) => {
-            tell_reset(board, page, Reason::Watchdog, dropped)?;
-            Ok(Goes::Off)
+    };
+    if dropped.is_some() {
+        tell_watchdog(board, page, dropped)?;
+        return Ok(Goes::Off);
+    }
+    let depth = board.live.depth();
+    match board.live.step(rack, stepped) {
+        Ok(()) => {
+            tell_wait(page, ticks)?;
+            follow(board, page, traced, depth, stepped)
         }
         Err(refusal) => {
             tell_refusal(page, refusal)?;
-            Ok(Goes::Off)
+            Ok(Goes::Spent)
         }
     }
+}
+
+/// Makes one step of the top frame, which is printed.
+pub(crate) fn make_step<B: Sights>(
+    board: &mut Board<B>,
+    rack: &mut Vec<Box<dyn SerialDevice>>,
+    page: &mut Page,
+) -> Result<(), AllocError> {
+    if board.live.depth() == 0 {
+        return page.say(Line::Holds(Held::Empty));
+    }
+    let mut stepped = Stepped::blank();
+    let _goes = one_step(board, rack, page, true, &mut stepped)?;
+    Ok(())
 }
 
 /// Makes steps of the top frame as far as is asked, at least one unless none is asked for.
@@ -214,7 +265,6 @@ pub(crate) fn make_steps<B: Sights>(
     rack: &mut Vec<Box<dyn SerialDevice>>,
     page: &mut Page,
     far: Far,
-    traced: bool,
 ) -> Result<(), AllocError> {
     if board.live.depth() == 0 {
         return page.say(Line::Holds(Held::Empty));
@@ -224,8 +274,8 @@ pub(crate) fn make_steps<B: Sights>(
     }
     let mut stepped = Stepped::blank();
     for made in 1..u32::MAX {
-        let goes = one_step(board, rack, page, traced, &mut stepped)?;
-        if matches!(goes, Goes::Off) || has_reached(far, made, &stepped) {
+        let goes = one_step(board, rack, page, false, &mut stepped)?;
+        if matches!(goes, Goes::Off | Goes::Spent) || has_reached(far, made, &stepped) {
             break;
         }
     }

@@ -1,4 +1,4 @@
-ghost use Rattle.std.specs.Prelude.{◌≡◌, ℕ};
+ghost use Rattle.std.specs.Prelude.{◌≡◌, ℕ, IfSome};
 ghost use Rattle.chip_model.specs.Chip.{power_on, hung};
 ghost use Rattle.config_facts.specs.Valid.{IsValid};
 ghost use Rattle.mcal_drivers.specs.Drivers.{as_one, drivers_of, system};
@@ -122,6 +122,16 @@ impl Drivers {
     {
         *place = self.frame(call);
     }
+
+    /// The frame of a line's handler, made where a frame of another module stands.
+    #[tactic(auto, unfolding(crate::specs::Drivers::as_one))]
+    fn handler_over(&self, line: u32, place: &mut Frame)
+        ensures { IfSome ((as_one self.now).handler_of line) (λ frame. place.new ≡ frame) }
+    {
+        if let Some(frame) = self.handler(line) {
+            *place = frame;
+        }
+    }
 }
 
 impl Module for Drivers {
@@ -231,6 +241,46 @@ impl Module for Drivers {
     }
 
     #[tactic(auto, unfolding(crate::specs::Drivers::as_one))]
+    fn serves(&self, line: u32) -> bool {
+        self.timers.serves(line)
+            || self.pulses.serves(line)
+            || self.captures.serves(line)
+            || self.converters.serves(line)
+            || self.serial.serves(line)
+    }
+
+    /// Where a frame of the same module stands, its driver makes the new one there.
+    #[tactic(auto, unfolding(crate::specs::Drivers::as_one))]
+    fn handler_into(&self, line: u32, place: &mut Frame) {
+        if self.timers.serves(line) {
+            match &mut place.frame {
+                ModuleFrame::Timers(frame) => self.timers.handler_into(line, frame),
+                _ => self.handler_over(line, place),
+            }
+        } else if self.pulses.serves(line) {
+            match &mut place.frame {
+                ModuleFrame::Pulses(frame) => self.pulses.handler_into(line, frame),
+                _ => self.handler_over(line, place),
+            }
+        } else if self.captures.serves(line) {
+            match &mut place.frame {
+                ModuleFrame::Captures(frame) => self.captures.handler_into(line, frame),
+                _ => self.handler_over(line, place),
+            }
+        } else if self.converters.serves(line) {
+            match &mut place.frame {
+                ModuleFrame::Converters(frame) => self.converters.handler_into(line, frame),
+                _ => self.handler_over(line, place),
+            }
+        } else {
+            match &mut place.frame {
+                ModuleFrame::Serial(frame) => self.serial.handler_into(line, frame),
+                _ => self.handler_over(line, place),
+            }
+        }
+    }
+
+    #[tactic(auto, unfolding(crate::specs::Drivers::as_one))]
     fn class(&self, call: &Call) -> Class {
         match call {
             Either::Left(Either::Left(Either::Left(Either::Left(call)))) => self.clock.class(call),
@@ -259,35 +309,31 @@ impl Module for Drivers {
 
     #[tactic(auto, unfolding(crate::specs::Drivers::as_one))]
     fn level(&self, line: u32) -> u32 {
-        match self.timers.handler(line) {
-            Some(_) => self.timers.level(line),
-            None => match self.pulses.handler(line) {
-                Some(_) => self.pulses.level(line),
-                None => match self.captures.handler(line) {
-                    Some(_) => self.captures.level(line),
-                    None => match self.converters.handler(line) {
-                        Some(_) => self.converters.level(line),
-                        None => self.serial.level(line),
-                    },
-                },
-            },
+        if self.timers.serves(line) {
+            self.timers.level(line)
+        } else if self.pulses.serves(line) {
+            self.pulses.level(line)
+        } else if self.captures.serves(line) {
+            self.captures.level(line)
+        } else if self.converters.serves(line) {
+            self.converters.level(line)
+        } else {
+            self.serial.level(line)
         }
     }
 
     #[tactic(auto, unfolding(crate::specs::Drivers::as_one))]
     fn owner(&self, line: u32) -> ModuleName {
-        match self.timers.handler(line) {
-            Some(_) => self.timers.owner(line),
-            None => match self.pulses.handler(line) {
-                Some(_) => self.pulses.owner(line),
-                None => match self.captures.handler(line) {
-                    Some(_) => self.captures.owner(line),
-                    None => match self.converters.handler(line) {
-                        Some(_) => self.converters.owner(line),
-                        None => self.serial.owner(line),
-                    },
-                },
-            },
+        if self.timers.serves(line) {
+            self.timers.owner(line)
+        } else if self.pulses.serves(line) {
+            self.pulses.owner(line)
+        } else if self.captures.serves(line) {
+            self.captures.owner(line)
+        } else if self.converters.serves(line) {
+            self.converters.owner(line)
+        } else {
+            self.serial.owner(line)
         }
     }
 
@@ -392,18 +438,16 @@ impl Caller for Drivers {
 
     #[tactic(auto, unfolding(crate::specs::Drivers::as_one))]
     fn line_steps(&self, line: u32) -> u32 {
-        match self.timers.handler(line) {
-            Some(_) => self.timers.line_steps(line),
-            None => match self.pulses.handler(line) {
-                Some(_) => self.pulses.line_steps(line),
-                None => match self.captures.handler(line) {
-                    Some(_) => self.captures.line_steps(line),
-                    None => match self.converters.handler(line) {
-                        Some(_) => self.converters.line_steps(line),
-                        None => self.serial.line_steps(line),
-                    },
-                },
-            },
+        if self.timers.serves(line) {
+            self.timers.line_steps(line)
+        } else if self.pulses.serves(line) {
+            self.pulses.line_steps(line)
+        } else if self.captures.serves(line) {
+            self.captures.line_steps(line)
+        } else if self.converters.serves(line) {
+            self.converters.line_steps(line)
+        } else {
+            self.serial.line_steps(line)
         }
     }
 

@@ -53,6 +53,10 @@ impl Module for PwmDriver {
         }
     }
 
+    fn serves(&self, line: u32) -> bool {
+        self.channel_of_line(line).is_some()
+    }
+
     fn class(&self, call: &Call) -> Class {
         call.class()
     }

@@ -279,7 +279,7 @@ pub record IsLegalStep {State Call : Type 0} (g : Setting State Call) (m : Momen
   -- it waits for no word in transfer, and the value read is the chip's
   pub waits : stall_of m.chip s.made ≡ 0
   pub value : s.value ≡ value_of m.chip s.made
-  -- a frame waits for a word with the mask open, so no time passes in a window
+  -- a frame waits for a word with the mask open, so no wait lengthens a window
   pub waits_open : is_wait s.made ≡ true → o.inside ≡ false
   -- the word that comes in is the one of that moment
   pub received : ReceivedRight m.chip m.world s.made s.received

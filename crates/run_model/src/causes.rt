@@ -1,7 +1,7 @@
 //! Why a call or a handler is held, over the tags of the frames under way.
 
 ghost use Rattle.std.specs.Prelude.{◌≡◌};
-ghost use Rattle.run_model.specs.Causes.{kind_number, same_key, kind_blocks, class_blocks, blocks, may_reenter, call_level_allows, line_level_allows, is_full, call_cause, line_cause};
+ghost use Rattle.run_model.specs.Causes.{kind_number, same_key, kind_blocks, class_blocks, blocks, may_reenter, call_level_allows, line_level_allows, is_full, call_cause, line_cause, reads_source};
 
 use crate::{Class, Key, KeyKind, Kind, Tag};
 use irq_control::Held;
@@ -56,6 +56,19 @@ pub fn is_blocked(new: &Class, there: &Tag) -> bool
     ensures { result ≡ blocks new.now there.now }
 {
     new.module.number() == there.owner.number() && class_is_blocked(new, there.class)
+}
+
+/// Whether a call of this class reads the source array of a serial channel.
+pub fn reads_source(channel: u32, class: Option<Class>) -> bool
+    ensures { result ≡ reads_source channel class }
+{
+    match class {
+        Some(class) => match class.key {
+            Some(key) => matches!(key.kind, KeyKind::Source) && key.number == channel,
+            None => false,
+        },
+        None => false,
+    }
 }
 
 fn may_reenter(class: &Class, tags: &[Tag]) -> bool

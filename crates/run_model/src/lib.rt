@@ -9,7 +9,7 @@ mod journal;
 mod kept;
 mod stop_condition;
 
-pub use causes::{MOST_FRAMES, call_cause, is_blocked, line_cause};
+pub use causes::{MOST_FRAMES, call_cause, is_blocked, line_cause, reads_source};
 pub use class::{Class, Key, KeyKind, Kind, Tag};
 pub use item::{Hardware, Item, Logged, LoggedAnswer, Span, Stepped, What};
 pub use items::Items;

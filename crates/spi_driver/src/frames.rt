@@ -55,6 +55,10 @@ impl Module for SpiDriver {
         }
     }
 
+    fn serves(&self, line: u32) -> bool {
+        self.table.uses(line)
+    }
+
     fn class(&self, call: &Call) -> Class {
         call.class()
     }

@@ -64,6 +64,11 @@ abbrev pub put_by : {Frame A : Type 0} → Result A Held → Under Frame → Kep
 put_by (Ok a) u k = record { frames = u ∷ k.frames; steps = k.steps }
 put_by (Err cause) u k = k
 
+-- a handler is put on, if there is one
+abbrev pub handled : {Frame : Type 0} → Option Frame → Tag → Kept Frame → Kept Frame
+handled None tag k = k
+handled (Some f) tag k = record { frames = beginning f tag ∷ k.frames; steps = k.steps }
+
 -- a handler is put on, unless it was held
 abbrev pub enter_by : {Frame A : Type 0} → Result A Held → Option Frame → Tag → Kept Frame → Kept Frame
 enter_by r None tag k = k

@@ -36,6 +36,22 @@ pub trait Module {
     fn handler(&self, line: u32) -> Option<Self::Frame>
         ensures { result ≡ (spec self.now).handler_of line };
 
+    /// Whether a line has a handler.
+    fn serves(&self, line: u32) -> bool
+        ensures { result ≡ is_some ((spec self.now).handler_of line) }
+    {
+        self.handler(line).is_some()
+    }
+
+    /// The frame of a line's handler, made where another frame stands. Where the line has none, any frame may stand there.
+    fn handler_into(&self, line: u32, place: &mut Self::Frame)
+        ensures { IfSome ((spec self.now).handler_of line) (λ frame. place.new ≡ frame) }
+    {
+        if let Some(frame) = self.handler(line) {
+            *place = frame;
+        }
+    }
+
     /// The class of a call.
     fn class(&self, call: &Self::Call) -> Class
         ensures { result ≡ (spec self.now).setting.class_of call.now };

@@ -57,17 +57,14 @@ pub fn enter<M: Module>(stack: &mut Stack<M>, driver: &M, bus: &Bus, line: u32) 
         Stands (M.spec driver.now) first bus.now stack.new.frames (h ++ done result (Enters line)) }
 {
     let level = driver.level(line);
-    let handler = driver.handler(line);
-    let is_pending = handler.is_some() && bus.pending(line);
+    let is_pending = driver.serves(line) && bus.pending(line);
     stack.line_held(bus.masked(), level, is_pending)?;
-    if let Some(frame) = handler {
-        let tag = Tag {
-            level,
-            owner: driver.owner(line),
-            class: None,
-        };
-        stack.put(frame, tag);
-    }
+    let tag = Tag {
+        level,
+        owner: driver.owner(line),
+        class: None,
+    };
+    stack.put_handler(driver, line, tag);
     Ok(())
 }
 

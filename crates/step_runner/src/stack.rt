@@ -1,4 +1,4 @@
-ghost use Rattle.std.specs.Prelude.{◌≡◌, ◌<◌, [], ◌∷◌, not, length, map, vec_len, IfOk, OnOk, None, reverse};
+ghost use Rattle.std.specs.Prelude.{◌≡◌, ◌<◌, [], ◌∷◌, not, length, map, vec_len, IfOk, OnOk, None, Some, is_some, reverse, true};
 ghost use Rattle.std.specs.List.{list_all, list_any};
 ghost use Rattle.std.specs.Bool.{OnFalse};
 ghost use Rattle.run_model.specs.Causes.{reads_source, blocks, may_reenter, call_level_allows, line_level_allows, call_cause, line_cause, is_full};
@@ -7,13 +7,13 @@ ghost use Rattle.chip_model.specs.Devices.{ComesIn, CallsRight};
 ghost use Rattle.mcal_base.specs.Reach.{CanApply};
 ghost use Rattle.step_runner.specs.Driver.{stepped as step_of};
 ghost use Rattle.step_runner.specs.Stands.{IsFirst, Stands};
-ghost use Rattle.step_runner.specs.Kept.{kept_empty, is_read, tags_under, top_is_noted, cause_of, beginning, moved, written_by, CanStep, IsLooked, TakesStep, hung_for, StepCalls};
+ghost use Rattle.step_runner.specs.Kept.{kept_empty, is_read, tags_under, top_is_noted, cause_of, beginning, handled, moved, written_by, CanStep, IsLooked, TakesStep, hung_for, StepCalls};
 
 use crate::Module;
 use chip_model::Bus;
 use irq_control::Held;
 use mcal_base::{Move, NoMemory, Routine};
-use run_model::{Class, KeyKind, MOST_FRAMES, Stepped, Tag, is_blocked};
+use run_model::{Class, MOST_FRAMES, Stepped, Tag, is_blocked, reads_source};
 use serial_devices::SerialDevice;
 use std::alloc::Global;
 use std::marker::Model;
@@ -47,19 +47,6 @@ impl<M: Module> Model for Stack<M> {
     ghost view = { λ s. record { frames = reverse (take s.count s.places.items); steps = s.steps } };
 
     ghost invariant = { λ s. (s.count ≤ vec_len s.places) × (vec_len s.places ≤ 8) × (8 ≤ vec_capacity s.places) };
-}
-
-/// Whether a call of this class reads the source array of a serial channel.
-fn reads_source(channel: u32, class: Option<Class>) -> bool
-    ensures { result ≡ reads_source channel class }
-{
-    match class {
-        Some(class) => match class.key {
-            Some(key) => matches!(key.kind, KeyKind::Source) && key.number == channel,
-            None => false,
-        },
-        None => false,
-    }
 }
 
 /// Whether one of these frames is of a call that does.
@@ -109,6 +96,17 @@ fn write_call<M: Module>(driver: &M, call: &M::Call, tag: Tag, place: &mut Under
     ensures { place.new ≡ beginning ((M.spec driver.now).frame_of call.now) tag }
 {
     driver.frame_into(call, &mut place.frame);
+    place.tag = tag;
+    place.noted = false;
+}
+
+/// Begins the handler of a line where an earlier frame stood.
+fn write_handler<M: Module>(driver: &M, line: u32, tag: Tag, place: &mut Under<M::Frame>)
+    requires { is_some ((M.spec driver.now).handler_of line) ≡ true }
+    ensures frame { (M.spec driver.now).handler_of line ≡ Some place.new.frame }
+    ensures begins { place.new ≡ beginning place.new.frame tag }
+{
+    driver.handler_into(line, &mut place.frame);
     place.tag = tag;
     place.noted = false;
 }
@@ -235,6 +233,7 @@ impl<M: Module> Stack<M> {
     ) -> Result<(), Held>
         ensures cause { cause_of result ≡ line_cause is_masked (tags_under self.now.frames) level is_pending }
         ensures room { OnOk result (length self.now.frames < 8) }
+        ensures due { OnOk result (is_pending ≡ true) }
     {
         if is_masked {
             return Err(Held::Masked);
@@ -297,6 +296,30 @@ impl<M: Module> Stack<M> {
             self.new ≡ record self.old { frames = beginning frame tag ∷ self.old.frames } }
     {
         self.put(driver.frame(call), tag);
+    }
+
+    /// Puts the frame of the handler of a line on. It is made where an earlier frame stood, if one did.
+    pub(crate) fn put_handler(&mut self, driver: &M, line: u32, tag: Tag)
+        requires room { length self.old.frames < 8 }
+        requires there { is_some ((M.spec driver.now).handler_of line) ≡ true }
+        ensures { self.new ≡ handled ((M.spec driver.now).handler_of line) tag self.old }
+    {
+        if self.count < self.places.len() {
+            write_handler(driver, line, tag, &mut self.places[self.count]);
+            self.count += 1;
+        } else {
+            self.put_first_handler(driver, line, tag);
+        }
+    }
+
+    /// Puts the frame of the handler of a line on where none stood yet.
+    fn put_first_handler(&mut self, driver: &M, line: u32, tag: Tag)
+        requires { length self.old.frames < 8 }
+        ensures { self.new ≡ handled ((M.spec driver.now).handler_of line) tag self.old }
+    {
+        if let Some(frame) = driver.handler(line) {
+            self.put(frame, tag);
+        }
     }
 
     /// Lets the top frame make the move that was looked up and take the value, where it stands. It is taken off where it ended.

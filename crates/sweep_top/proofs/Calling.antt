@@ -117,3 +117,13 @@ file_printed left new form rose asked bytes None e c n l h = tt
 file_printed None new form rose asked bytes (Some p) e c n l h = called None form rose p (record { ends = λ four. tt; silent = h.silent; source = h.source; sink = h.sink })
 file_printed (Some xs) None form rose asked bytes (Some p) e c n l h = absurd c
 file_printed (Some xs) (Some ys) form rose asked bytes (Some p) e c n l h = called (Some xs) form rose p (file_ending xs form asked bytes ys p e c n l h)
+
+-- ---- the source met no fault, where its line isn't printed
+
+pub still_any : (o : Option Printed) (X : Type 0) → X → IfSome o (λ p. p.status ≢ 2 → X)
+still_any None X x = tt
+still_any (Some p) X x = λ two. x
+
+pub still_failed : (o : Option Printed) (X : Type 0) → IfSome o (λ p. ending_of p ≡ read_fault) → IfSome o (λ p. p.status ≢ 2 → X)
+still_failed None X h = tt
+still_failed (Some p) X h = λ two. absurd (two (status_at (ending_of p) read_fault h))

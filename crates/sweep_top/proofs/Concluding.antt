@@ -1,21 +1,22 @@
 -- How a call ends, by what is printed.
-use Rattle.std.proofs.Common.{◌≡◌, ℕ, List, Bool, true, false, Some, None, inl, inr, refl, sym, ap, ap₂, subst, ◌∙◌}
+use Rattle.std.proofs.Common.{◌≡◌, ℕ, List, Bool, true, false, inl, inr, refl, sym, ap₂, subst, ◌∙◌}
 use Rattle.std.specs.Prelude.{Result, Ok, Err, if◌then◌else◌}
 use Rattle.bench_sweep.specs.Parts.{pieces_of}
 use Rattle.bench_sweep.specs.declared.marking.Marks.{Marks}
 use Rattle.bench_sweep.specs.declared.parting.Parts.{Parts}
 use Rattle.bench_top.specs.Judged.{Ending}
-use Rattle.sweep_trials.specs.Shown.{IsInnerAt, IsOnceAt, IsPairAt, IsSeenAt}
+use Rattle.sweep_trials.specs.Stops.{StopsOpening, Unless}
 use Rattle.sweep_trials.specs.Trials.{IsBlock}
-use Rattle.sweep_trials.specs.declared.followed.Followed.{Followed}
 use Rattle.sweep_trials.specs.declared.opened.Opened.{Opened}
 use Rattle.sweep_trials.specs.declared.reactions.Following.{Following}
 use Rattle.sweep_trials.specs.declared.reactions.Reaction.{Reaction}
-use Rattle.sweep_trials.specs.declared.sweeping.Moment.{Moment}
+use Rattle.sweep_trials.specs.declared.stop.Stop.{Stop}
+use Rattle.sweep_trials.specs.declared.stop.Stop.TheVariants as stops
 use Rattle.sweep_top.specs.Reads.{SweepFile}
-use Rattle.sweep_top.specs.Reported.{IsReported}
-use Rattle.sweep_top.specs.Sweeps.{EndsSo, EndsSweep, IsOpenOf, IsPairShown, IsTold, PrintsSo, file_of}
+use Rattle.sweep_top.specs.Reported.{IsAtLimit, IsReported}
+use Rattle.sweep_top.specs.Sweeps.{EndsSo, EndsSweep, IsOpenOf, IsTold, Opening, PrintsSo, Stops, file_of, is_memory}
 use Rattle.sweep_top.specs.declared.ends.SweepEnd.{SweepEnd}
+use Rattle.sweep_top.specs.declared.ends.SweepEnd.TheVariants.{Stopped}
 use Rattle.sweep_top.specs.declared.top.Printed.{Printed}
 use Rattle.sweep_top.specs.declared.words.Asked.{Asked}
 
@@ -29,17 +30,15 @@ pub status_told : (b : Bool) → IsTold (if b then 8 else 0)
 status_told true = inr refl
 status_told false = inl refl
 
--- the run of the place of a number
-pub once_shown : (f : SweepFile) (following : Following) (o : Opened) (number : ℕ) (m : Moment) (found : Followed) → IsOnceAt number m → (m.second ≡ None → IsSeenAt (IsReported f.configuration) following f.pieces.swept f.pieces.behind o m.first found) → IsSeenAt (IsReported f.configuration) following f.pieces.swept f.pieces.behind o number found
-once_shown f following o number m found e h =
-    subst (λ (n : ℕ). IsSeenAt (IsReported f.configuration) following f.pieces.swept f.pieces.behind o n found) (ap (λ (x : Moment). x.first) e) (h (ap (λ (x : Moment). x.second) e))
-
--- the run of the pair of a number
-pub pair_shown : (f : SweepFile) (following : Following) (o : Opened) (number : ℕ) (m : Moment) (found : Followed) → (second : ℕ) × (m.second ≡ Some second) × IsPairAt (IsReported f.configuration) following f.pieces.swept o number m.first second
-    → ((second : ℕ) → m.second ≡ Some second → (inner : Opened) × IsInnerAt (IsReported f.configuration) following o f.pieces.swept m.first inner × IsSeenAt (IsReported f.configuration) following f.pieces.second f.pieces.behind inner second found) → IsPairShown f following o number found
-pair_shown f following o number m found p h =
-    let r = h p.0 p.1 in
-    record { first = m.first; second = p.0; at = p.2; inner = r.0; opened = r.1; seen = r.2 }
+-- a stop has its reason, where memory wasn't wanting
+pub stop_told : (P : Stop → Type 0) (stop : Stop) → is_memory (Stopped stop) ≡ false → Unless P stop → P stop
+stop_told P stops.TooManyDirectives m u = u
+stop_told P stops.TooManySteps m u = u
+stop_told P stops.TooManyInAll m u = u
+stop_told P stops.TooManyNotices m u = u
+stop_told P stops.TooLongReport m u = u
+stop_told P (stops.NoPlace n) m u = u
+stop_told P stops.NoMemory m u = absurd (cc)
 
 -- the block of a file that was read was opened, with what follows notices by its lines
 abbrev pub file_with : (configuration script : List ℕ) → Marks → Parts → List Reaction → SweepFile
@@ -50,3 +49,10 @@ pub read_ends : (asked : Asked) (configuration script : List ℕ) (marks : Marks
 read_ends asked configuration script marks parts following at reactions o r e f s v opened ends =
     let same : file_of at script marks parts following ≡ file_with configuration script marks parts reactions = ap₂ (λ (c : List ℕ) (rs : List Reaction). file_with c script marks parts rs) e f in
     subst (λ (x : SweepFile). EndsSo asked (Ok x) r) same (ends (record { follows = record { calls = refl; sweep = s; over = v }; block = opened }))
+
+-- a block that isn't opened
+pub opening_ends : (asked : Asked) (configuration script : List ℕ) (marks : Marks) (parts : Parts) (following : Following) (at : List ℕ) (reactions : List Reaction) (stop : Stop) → at ≡ configuration → following.calls.now ≡ reactions → following.sweep ≡ marks.sweep → following.over ≡ marks.over → Unless (StopsOpening (IsReported at) (IsAtLimit at) following parts.before.now parts.block.now) stop
+    → EndsSo asked (Ok (file_with configuration script marks parts reactions)) (Err (Stopped stop))
+opening_ends asked configuration script marks parts following at reactions stop e f s v u =
+    let same : file_of at script marks parts following ≡ file_with configuration script marks parts reactions = ap₂ (λ (c : List ℕ) (rs : List Reaction). file_with c script marks parts rs) e f in
+    subst (λ (x : SweepFile). EndsSo asked (Ok x) (Err (Stopped stop))) same (λ m. Stops stop (Opening following (record { calls = refl; sweep = s; over = v }) (stop_told (StopsOpening (IsReported at) (IsAtLimit at) following parts.before.now parts.block.now) stop m u)))

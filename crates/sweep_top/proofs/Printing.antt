@@ -34,3 +34,8 @@ written_nothing left form rose status before after None h w n four = (n refl).1
 written_nothing left form rose status before after (Some p) h w n four =
     let s = w (λ three. let never : 4 ≡ 3 = sym four ∙ three in absurd (cc)) in
     subst (λ (text : List ℕ). Appends before after text) (h.silent (sym s.0 ∙ four)) s.1
+
+-- the source met no fault, where neither its line nor want of memory, nor a fault of the sink is told
+pub written_still : (status : ℕ) (before after : Option (List ℕ)) (o : Option Printed) (X : Type 0) → IfSome o (λ p. p.status ≢ 2 → X) → IsWritten status before after o → (o ≡ None → (status ≡ 4) × Appends before after []) → status ≢ 2 → status ≢ 3 → status ≢ 4 → X
+written_still status before after None X h w n two three four = absurd (four (n refl).0)
+written_still status before after (Some p) X h w n two three four = h (λ q. two ((w three).0 ∙ q))

@@ -1,5 +1,5 @@
 -- What is seen of a sweep's run.
-use Rattle.std.specs.Prelude.{◌≡◌, ◌⊎◌, ◌++◌, ℕ, List, [], Option, Some, None, false, map, string_bytes}
+use Rattle.std.specs.Prelude.{◌≡◌, ◌⊎◌, ◌<◌, ◌++◌, ℕ, List, [], Option, Some, None, false, length, map, string_bytes}
 use Rattle.std.specs.List.{filter_map}
 use Rattle.irq_control.specs.declared.held.Held.{Held}
 use Rattle.irq_control.specs.declared.held.Held.TheVariants.{Masked, Level, Reentry}
@@ -15,9 +15,13 @@ use Rattle.run_model.specs.declared.item.Item.{Item}
 use Rattle.run_model.specs.declared.item.What.{What}
 use Rattle.run_model.specs.declared.item.What.TheVariants as whats
 use Rattle.bench_report.specs.Lines.{event_text, incoming_text, move_text}
-use Rattle.bench_top.specs.Runs.{IsWholeRun, report_of}
+use Rattle.bench_report.specs.Limit.{most_bytes}
+use Rattle.bench_top.specs.Runs.{IsStoppedRun, IsWholeRun, report_of}
+use Rattle.script_runner.specs.Scripts.{IsScript}
 use Rattle.sweep_trials.specs.declared.seen.Seen.{Seen}
 use Rattle.sweep_trials.specs.declared.seen.StepSeen.{StepSeen}
+use Rattle.sweep_trials.specs.declared.stop.Stop.{Stop}
+use Rattle.sweep_trials.specs.declared.stop.Stop.TheVariants as stops
 
 -- the notice that a move gives
 abbrev pub notice_of : Move → Option Notice
@@ -97,3 +101,10 @@ pub record IsReported (configuration : List ℕ) (script : List Directive) (seen
   pub config : Config
   pub read : record_of configuration ≡ Some config
   pub on : IsReportedOn config script seen
+
+-- A script's run over the configuration of a text stops at a limit of its own: it is no script that may be run, one more step than the
+-- most would be taken, or its report would be too long.
+pub data IsAtLimit (configuration : List ℕ) (script : List Directive) : Stop → Type 0 where
+  NoScript : (IsScript script → ⊥) → IsAtLimit configuration script stops.TooManyDirectives
+  LongRun : (config : Config) (journal : List Entry) → record_of configuration ≡ Some config → IsStoppedRun 0 config script journal → IsAtLimit configuration script stops.TooManySteps
+  LongReport : (config : Config) (journal : List Entry) → record_of configuration ≡ Some config → IsWholeRun 0 config script journal → most_bytes < length (report_of 0 false config script journal) → IsAtLimit configuration script stops.TooLongReport

@@ -1,5 +1,5 @@
 -- What a call of the sweep prints of its bytes, and its status.
-use Rattle.std.specs.Prelude.{◌≡◌, ◌≢◌, ◌⊎◌, ℕ, ◌-◌, ◌<◌, ◌||◌, Bool, true, false, List, [], Option, Some, None, Result, Ok, Err, codes, length, map, string_bytes, sum_by, vec_len, if◌then◌else◌}
+use Rattle.std.specs.Prelude.{◌≡◌, ◌≢◌, ◌⊎◌, ℕ, ◌-◌, ◌<◌, ◌≤◌, ◌||◌, Bool, true, false, List, [], Option, Some, None, Result, Ok, Err, codes, length, map, string_bytes, sum_by, vec_len, if◌then◌else◌}
 use Rattle.std.specs.List.{All}
 use Rattle.std.specs.Option.{IfSome}
 use Rattle.std.specs.Io.KnownBytes.{Appends}
@@ -11,8 +11,9 @@ use Rattle.bench_sweep.specs.declared.parting.Parts.{Parts}
 use Rattle.bench_top.specs.Judged.{Ending}
 use Rattle.sweep_trials.specs.Pairs.{IsSweptTwice}
 use Rattle.sweep_trials.specs.Rows.{AreRowsOf, IsRowOf}
-use Rattle.sweep_trials.specs.Shown.{IsInnerAt, IsPairAt, IsSeenAt}
+use Rattle.sweep_trials.specs.Shown.{IsPairSeen, IsPlaceSeen}
 use Rattle.sweep_trials.specs.Standings.{has_neither, standing_of}
+use Rattle.sweep_trials.specs.Stops.{AreFew, StopsNaming, StopsOnce, StopsOpening, StopsPair, StopsShown, StopsTwice, most_in_all, steps_of}
 use Rattle.sweep_trials.specs.Trials.{IsBlock, IsSweptOnce, has_steps, part_end}
 use Rattle.sweep_trials.specs.declared.followed.Followed.{Followed}
 use Rattle.sweep_trials.specs.declared.opened.Opened.{Opened}
@@ -27,7 +28,7 @@ use Rattle.sweep_report.specs.Place.{flat_text}
 use Rattle.sweep_report.specs.Table.{Table}
 use Rattle.sweep_top.specs.Endings.{ended, stopped}
 use Rattle.sweep_top.specs.Reads.{SweepFile, read}
-use Rattle.sweep_top.specs.Reported.{IsReported}
+use Rattle.sweep_top.specs.Reported.{IsAtLimit, IsReported}
 use Rattle.sweep_top.specs.declared.ends.SweepEnd.{SweepEnd}
 use Rattle.sweep_top.specs.declared.ends.SweepEnd.TheVariants.{Fault, NoMemory, Stopped, Usage}
 use Rattle.sweep_top.specs.declared.top.Printed.{Printed}
@@ -44,10 +45,17 @@ pub record IsOpenOf (f : SweepFile) (following : Following) (o : Opened) : Type 
   pub follows : IsFollowing f following
   pub block : IsBlock (IsReported f.configuration) following f.pieces.before f.pieces.block o
 
--- All places of the asked part were tried, each once and in order: those of the block, or all pairs.
+-- the first place that is behind so many parts of those that are asked for
+abbrev pub behind_parts : Asked → Opened → ℕ → ℕ
+behind_parts asked o parts = part_end (vec_len o.all) parts asked.parts
+
+-- All places of the asked part were tried, each once and in order: those of the block, or all pairs. All runs take no more steps than they
+-- may.
 pub record IsSwept (asked : Asked) (f : SweepFile) (following : Following) (o : Opened) (s : Swept) : Type 0 where
-  pub once : length f.pieces.second ≡ 0 → IsSweptOnce (IsReported f.configuration) following f.pieces.swept f.pieces.behind o (part_end (vec_len o.all) (asked.part - 1) asked.parts) (part_end (vec_len o.all) asked.part asked.parts) asked.first s
-  pub twice : 0 < length f.pieces.second → IsSweptTwice (IsReported f.configuration) following f.pieces.swept f.pieces.second f.pieces.behind o (part_end (vec_len o.all) (asked.part - 1) asked.parts) (part_end (vec_len o.all) asked.part asked.parts) asked.first s
+  pub few_once : length f.pieces.second ≡ 0 → steps_of o ≤ most_in_all
+  pub few_twice : 0 < length f.pieces.second → AreFew (IsReported f.configuration) following f.pieces.swept o
+  pub once : length f.pieces.second ≡ 0 → IsSweptOnce (IsReported f.configuration) following f.pieces.swept f.pieces.behind o (behind_parts asked o (asked.part - 1)) (behind_parts asked o asked.part) asked.first s
+  pub twice : 0 < length f.pieces.second → IsSweptTwice (IsReported f.configuration) following f.pieces.swept f.pieces.second f.pieces.behind o (behind_parts asked o (asked.part - 1)) (behind_parts asked o asked.part) asked.first s
 
 -- of so many ranges of places at most is told of each outcome, unless all are asked for
 abbrev pub most_of : Asked → ℕ
@@ -78,19 +86,28 @@ text_of asked t = if asked.json then json_line t else page t
 abbrev pub told_of : Asked → Swept → Table → Ending
 told_of asked s t = record { status = status_of s; text = text_of asked t }
 
--- The run of the pair of a number: of its first place, and of its second one, of the block that begins there.
-pub record IsPairShown (f : SweepFile) (following : Following) (o : Opened) (number : ℕ) (found : Followed) : Type 0 where
-  pub first : ℕ
-  pub second : ℕ
-  pub at : IsPairAt (IsReported f.configuration) following f.pieces.swept o number first second
-  pub inner : Opened
-  pub opened : IsInnerAt (IsReported f.configuration) following o f.pieces.swept first inner
-  pub seen : IsSeenAt (IsReported f.configuration) following f.pieces.second f.pieces.behind inner second found
-
 -- The run of the place of a number, from 0: of the block, or the pair.
 pub record IsShownAt (f : SweepFile) (following : Following) (o : Opened) (number : ℕ) (found : Followed) : Type 0 where
-  pub once : length f.pieces.second ≡ 0 → IsSeenAt (IsReported f.configuration) following f.pieces.swept f.pieces.behind o number found
-  pub twice : 0 < length f.pieces.second → IsPairShown f following o number found
+  pub once : length f.pieces.second ≡ 0 → IsPlaceSeen (IsReported f.configuration) following f.pieces.swept f.pieces.behind o number found
+  pub twice : 0 < length f.pieces.second → IsPairSeen (IsReported f.configuration) following f.pieces.swept f.pieces.second f.pieces.behind o number found
+
+-- the place of a number isn't shown: of the block, or the pair
+pub record StopsShow (f : SweepFile) (following : Following) (o : Opened) (number : ℕ) (stop : Stop) : Type 0 where
+  pub once : length f.pieces.second ≡ 0 → StopsShown (IsReported f.configuration) (IsAtLimit f.configuration) following f.pieces.swept f.pieces.behind o number stop
+  pub twice : 0 < length f.pieces.second → StopsPair (IsReported f.configuration) (IsAtLimit f.configuration) following f.pieces.swept f.pieces.second f.pieces.behind o number stop
+
+-- the places of the asked part aren't tried: those of the block, or all pairs
+pub record StopsTrials (asked : Asked) (f : SweepFile) (following : Following) (o : Opened) (stop : Stop) : Type 0 where
+  pub once : length f.pieces.second ≡ 0 → StopsOnce (IsReported f.configuration) (IsAtLimit f.configuration) following f.pieces.swept f.pieces.behind o (behind_parts asked o (asked.part - 1)) (behind_parts asked o asked.part) stop
+  pub twice : 0 < length f.pieces.second → StopsTwice (IsReported f.configuration) (IsAtLimit f.configuration) following f.pieces.swept f.pieces.second f.pieces.behind o stop
+
+-- When the sweep of a file is stopped: its block isn't opened, the place that is asked for isn't shown, or the places aren't tried. Where
+-- pairs are told of, the block of each opens once more, for its name.
+pub data StopsSweep (asked : Asked) (f : SweepFile) (stop : Stop) : Type 0 where
+  Opening : (following : Following) → IsFollowing f following → StopsOpening (IsReported f.configuration) (IsAtLimit f.configuration) following f.pieces.before f.pieces.block stop → StopsSweep asked f stop
+  Show : (following : Following) (o : Opened) (place : ℕ) → asked.show ≡ Some place → IsOpenOf f following o → has_steps o ≡ true → StopsShow f following o (place - 1) stop → StopsSweep asked f stop
+  Trials : (following : Following) (o : Opened) → asked.show ≡ None → IsOpenOf f following o → has_steps o ≡ true → StopsTrials asked f following o stop → StopsSweep asked f stop
+  Naming : (following : Following) (o : Opened) (s : Swept) → asked.show ≡ None → IsOpenOf f following o → has_steps o ≡ true → IsSwept asked f following o s → StopsNaming (IsReported f.configuration) (IsAtLimit f.configuration) following f.pieces.swept o s.moments.items stop → StopsSweep asked f stop
 
 -- the bench file of a flat script that was run
 abbrev pub flat_ending : (configuration script : List ℕ) → Followed → Ending
@@ -99,7 +116,7 @@ flat_ending configuration script found = record { status = 0; text = flat_text c
 -- How the sweep of a file ends: it is stopped at a limit; no directive of the block makes a step; the bench file of a place is
 -- printed; or the table of the outcomes of all its places.
 pub data EndsSweep (asked : Asked) (f : SweepFile) : Ending → Type 0 where
-  Stops : (stop : Stop) → EndsSweep asked f (stopped stop)
+  Stops : (stop : Stop) → StopsSweep asked f stop → EndsSweep asked f (stopped stop)
   NoStep : (following : Following) (o : Opened) → IsOpenOf f following o → has_steps o ≡ false → EndsSweep asked f (ended (Fault (faults.NoStep f.marks.over)))
   Shows : (following : Following) (o : Opened) (place : ℕ) (found : Followed) → asked.show ≡ Some place → IsOpenOf f following o → has_steps o ≡ true → IsShownAt f following o (place - 1) found → EndsSweep asked f (flat_ending f.configuration f.script found)
   Tells : (following : Following) (o : Opened) (s : Swept) (groups : List Group) → asked.show ≡ None → IsOpenOf f following o → has_steps o ≡ true → IsSwept asked f following o s → AreOutcomes asked f following o s groups → EndsSweep asked f (told_of asked s (table_for f s groups))

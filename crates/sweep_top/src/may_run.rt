@@ -1,4 +1,4 @@
-ghost use Rattle.std.specs.Prelude.{◌≡◌};
+ghost use Rattle.std.specs.Prelude.{◌≡◌, ◌<◌, ◌&&◌, Some, length, nat_lt, slice_get, true};
 ghost use Rattle.std.specs.Bool.{OnTrue};
 ghost use Rattle.script_runner.specs.Scripts.{IsScript};
 ghost use Rattle.script_runner.specs.Standing as spec;
@@ -20,19 +20,37 @@ fn is_obeyed(order: &Order) -> bool
     }
 }
 
+/// Whether a directive may stand behind a line: its own is higher, and its order is one that a run obeys.
+fn may_stand(low: u32, directive: &Directive) -> bool
+    ensures { result ≡ (spec.is_built directive.now.order && nat_lt low directive.now.line) }
+{
+    is_obeyed(&directive.order) && low < directive.line
+}
+
+/// The directive at a place.
+fn directive_at(directives: &[Directive], at: usize) -> &Directive
+    requires { at < length directives.now }
+    ensures { slice_get directives.now at ≡ Some result.now }
+{
+    &directives[at]
+}
+
 /// Whether a script may be run: its lines rise, each order is one that a run obeys, and there are no more than an input
 /// can have.
 pub(crate) fn may_run(script: &[Directive]) -> bool
-    ensures { OnTrue result (IsScript script.now) }
+    ensures may { OnTrue result (IsScript script.now) }
+    ensures only { IsScript script.now → result ≡ true }
 {
-    let mut rest = script;
+    if script.len() > MOST_DIRECTIVES {
+        return false;
+    }
     let mut low = 0;
-    while let [directive, behind @ ..] = rest {
-        if directive.line <= low || !is_obeyed(&directive.order) {
+    for place in 0..script.len() {
+        let directive = directive_at(script, place);
+        if !may_stand(low, directive) {
             return false;
         }
         low = directive.line;
-        rest = behind;
     }
-    script.len() <= MOST_DIRECTIVES
+    true
 }

@@ -1,4 +1,4 @@
-ghost use Rattle.std.specs.Prelude.{◌≡◌, ◌≢◌, ◌≤◌, [], None, Ok, Some, true, IfOk, codes, length, map, string_bytes};
+ghost use Rattle.std.specs.Prelude.{◌≡◌, ◌≢◌, ◌<◌, ◌≤◌, [], None, Ok, Some, true, IfOk, codes, length, map, string_bytes};
 ghost use Rattle.std.specs.Option.{IfSome};
 ghost use Rattle.std.specs.Io.KnownBytes.{Appends};
 ghost use Rattle.mcal_base.specs.Causes.{Rose};
@@ -26,7 +26,7 @@ use std::alloc::{AllocError, Global};
 use sweep_report::{SweepShown, flat_text, sweep_json, sweep_text};
 use sweep_trials::{
     Bench, Followed, Following, Opened, Progress, Reaction, Sweep, Swept, Wish, groups_of,
-    make_sweep, moment_of,
+    make_sweep,
 };
 
 /// All that is printed, and the status.
@@ -72,11 +72,7 @@ fn shown_place(
     ensures { (marks : records.Marks) → let f = spec.file_of sweep.now.bench.runs.now.configuration.now script.now marks sweep.now.parts sweep.now.bench.following in
         IsOpenOf f sweep.now.bench.following opened.now → has_steps opened.now ≡ true → EndsSo asked (Ok f) result }
 {
-    let moment = match moment_of(alloc, sweep, opened, place.saturating_sub(1)) {
-        Ok(moment) => moment,
-        Err(stop) => return Err(SweepEnd::Stopped(stop)),
-    };
-    match sweep.run_of(alloc, opened, moment) {
+    match sweep.run_at(alloc, opened, place.saturating_sub(1)) {
         Ok(found) => shown_flat(alloc, sweep.bench.runs.configuration, script, &found),
         Err(stop) => Err(SweepEnd::Stopped(stop)),
     }
@@ -194,6 +190,8 @@ fn sweep_read<P: Progress>(
     asked: Asked,
     progress: &mut P,
 ) -> Result<Printed, SweepEnd>
+    requires swept { 0 < length parts.swept.now }
+    requires block { 0 < length parts.block.now }
     ensures { EndsSo asked (Ok (record { configuration = configuration.now; script = script.now; marks = marks; pieces = pieces_of parts.entry; reactions = reactions.now })) result }
 {
     let board = Board { configuration };
@@ -224,7 +222,9 @@ fn with_parts<P: Progress>(
     asked: Asked,
     progress: &mut P,
 ) -> Result<Printed, SweepEnd>
-    requires { length script.now ≤ 1048576 }
+    requires few { length script.now ≤ 1048576 }
+    requires swept { 0 < length parts.swept.now }
+    requires block { 0 < length parts.block.now }
     ensures { EndsSo asked (reads.with_reactions configuration.now script.now marks (pieces_of parts.entry)) result }
 {
     match reactions_of(alloc, script) {
@@ -350,7 +350,8 @@ fn printed_by<S: Source, P: Progress>(
     input: &mut S,
     progress: &mut P,
 ) -> Option<Printed>
-    ensures { IfSome result (IsPrinted (S.left input.old) (asked_by (map string_bytes words.now)) (Rose (S.faults input.old) (S.faults input.new))) }
+    ensures printed { IfSome result (IsPrinted (S.left input.old) (asked_by (map string_bytes words.now)) (Rose (S.faults input.old) (S.faults input.new))) }
+    ensures still { IfSome result (λ p. p.status ≢ 2 → S.faults input.new ≡ S.faults input.old) }
 {
     let Some(asked) = asked_by(words) else {
         return refused(alloc, SweepEnd::Usage);
@@ -405,6 +406,8 @@ pub fn sweep<S: Source, K: Sink, P: Progress>(
     // A fault of the sink.
     ensures write { result ≡ 3 → Rose (K.faults out.old) (K.faults out.new) }
     ensures write_only { result ≢ 3 → K.faults out.new ≡ K.faults out.old }
+    // Each fault of the source gives status 2, unless its line finds no memory or can't be written.
+    ensures read_only { result ≢ 2 → result ≢ 3 → result ≢ 4 → S.faults input.new ≡ S.faults input.old }
     // Want of memory: nothing is written.
     ensures nothing { result ≡ 4 → Appends (K.taken out.old) (K.taken out.new) [] }
 {

@@ -1,9 +1,11 @@
 pub mod Counting
 pub mod Grown
+pub mod Naming
 pub mod Numbering
 pub mod Pairing
 pub mod Putting
 pub mod Showing
+pub mod Stopping
 pub mod Summing
 pub mod Trying
 pub mod Walking

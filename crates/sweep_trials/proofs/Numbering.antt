@@ -1,11 +1,10 @@
 -- The pairs of one first place more.
-use Rattle.std.proofs.Common.{◌≡◌, ℕ, ◌+◌, ◌-◌, ◌≤◌, List, [], ◌∷◌, ◌++◌, Option, Result, Ok, Err, Some, IfOk, inl, inr, length, length-append, refl, sym, subst, ◌∙◌, arith}
-use Rattle.std.specs.Prelude.{slice_get, vec_len}
+use Rattle.std.proofs.Common.{◌≡◌, ℕ, ◌+◌, ◌-◌, ◌<◌, ◌≤◌, List, [], ◌∷◌, ◌++◌, Result, Ok, Err, IfOk, inl, inr, length, length-append, refl, sym, subst, ◌∙◌, arith}
+use Rattle.std.specs.Prelude.{vec_len}
 use Rattle.std.proofs.lemmas.List.Sums.{sum_by_push}
-use Rattle.std.proofs.lemmas.Option.{same_Some}
 use Rattle.mcal_base.specs.declared.directive.Directive.{Directive}
 use Rattle.bench_sweep.proofs.Differing.{get_of_more}
-use Rattle.sweep_trials.specs.Shown.{IsInnerAt, IsPairAt, IsSeenAt}
+use Rattle.sweep_trials.specs.Shown.{IsInnerAt, IsPairAt, IsPairSeen, IsPlaceSeen, IsSeenAt}
 use Rattle.sweep_trials.specs.declared.followed.Followed.{Followed}
 use Rattle.sweep_trials.specs.declared.opened.Opened.{Opened}
 use Rattle.sweep_trials.specs.declared.reactions.Following.{Following}
@@ -29,11 +28,12 @@ pair_on of_run following placed o number first left count inner p at c l =
       numbered = omega (arith, sum_by_push (λ (y : Opened). vec_len y.all) p.before inner, p.numbered, c, l);
     }
 
--- the run of a pair
-pub pair_seen : {E : Type 0} (of_run : List Directive → Seen → Type 0) (following : Following) (placed second_placed behind : List Directive) (o inner : Opened) (first second : ℕ) (r : Result Followed E) → IsInnerAt of_run following o placed first inner → IfOk r (λ found. IsSeenAt of_run following second_placed behind inner second found)
-    → IfOk r (λ found. (x : Opened) × IsInnerAt of_run following o placed first x × IsSeenAt of_run following second_placed behind x second found)
-pair_seen of_run following placed second_placed behind o inner first second (Ok found) at seen = (inner, at, seen)
-pair_seen of_run following placed second_placed behind o inner first second (Err e) at seen = tt
+-- the run of a place that is there
+pub place_seen : {E : Type 0} (of_run : List Directive → Seen → Type 0) (following : Following) (placed behind : List Directive) (o : Opened) (number : ℕ) (r : Result Followed E) → number < vec_len o.all → IfOk r (λ found. IsSeenAt of_run following placed behind o number found) → IfOk r (IsPlaceSeen of_run following placed behind o number)
+place_seen of_run following placed behind o number (Ok found) there seen = record { there = there; seen = seen }
+place_seen of_run following placed behind o number (Err e) there seen = tt
 
-pub same_second : (P : ℕ → Type 0) (now : Option ℕ) (second other : ℕ) → now ≡ Some second → P second → now ≡ Some other → P other
-same_second P now second other e p f = subst P (same_Some second other (sym e ∙ f)) p
+-- the run of a pair
+pub pair_seen : {E : Type 0} (of_run : List Directive → Seen → Type 0) (following : Following) (placed second behind : List Directive) (o inner : Opened) (number first left : ℕ) (r : Result Followed E) → first < vec_len o.all → IsPairAt of_run following placed o number first left → IsInnerAt of_run following o placed first inner → left < vec_len inner.all → IfOk r (λ found. IsSeenAt of_run following second behind inner left found) → IfOk r (IsPairSeen of_run following placed second behind o number)
+pair_seen of_run following placed second behind o inner number first left (Ok found) there at opened within seen = record { first = first; left = left; there = there; at = at; inner = inner; opened = opened; run = record { there = within; seen = seen } }
+pair_seen of_run following placed second behind o inner number first left (Err e) there at opened within seen = tt

@@ -1,8 +1,9 @@
 -- Pairs that were tried, one first place after another.
-use Rattle.std.proofs.Common.{◌≡◌, ℕ, ◌+◌, ◌<◌, ◌≤◌, Bool, false, List, [], ◌∷◌, ◌++◌, Option, Some, None, if◌then◌else◌, get_or, length, map, take, suc, refl, sym, ap, ap₂, ◌∙◌, subst, inl, inr, append_assoc, append-nil, length-append, arith}
-use Rattle.std.specs.Prelude.{count_by, is_some, slice_get, vec_len}
-use Rattle.std.proofs.lemmas.List.{length-take-le, map-append, take_more}
+use Rattle.std.proofs.Common.{◌≡◌, ℕ, ◌+◌, ◌<◌, ◌≤◌, Bool, false, List, [], ◌∷◌, ◌++◌, Option, Some, None, if◌then◌else◌, get_or, length, map, take, zero, suc, refl, sym, ap, ap₂, ◌∙◌, subst, inl, inr, append_assoc, append-nil, length-append, arith}
+use Rattle.std.specs.Prelude.{count_by, is_some, slice_get, sum_by, vec_len}
+use Rattle.std.proofs.lemmas.List.{length-map, length-take-le, map-append, take_more}
 use Rattle.std.proofs.lemmas.List.Sums.{count_by-le-length, sum_by-cons, sum_by_push}
+use Rattle.std.proofs.lemmas.Option.{none-some, same_Some}
 use Rattle.mcal_base.specs.declared.directive.Directive.{Directive}
 use Rattle.bench_sweep.proofs.Differing.{get_of_more}
 use Rattle.bench_sweep.specs.Places.{places}
@@ -10,12 +11,18 @@ use Rattle.bench_sweep.specs.declared.groups.Settled.{Settled}
 use Rattle.bench_sweep.specs.declared.groups.Tried.{Tried}
 use Rattle.bench_sweep.specs.declared.outcomes.Outcome.{Outcome}
 use Rattle.bench_sweep.specs.declared.places.Place.{Place}
+use Rattle.sweep_trials.proofs.Stopping.{few_places, inner_more}
 use Rattle.sweep_trials.proofs.Trying.{at_on, tried_on}
 use Rattle.sweep_trials.specs.Pairs.{ArePairs, AreSweptPairs, Behind, IsBehind, IsPairTried, count_pairs, told_from, told_pair, told_pairs}
+use Rattle.sweep_trials.specs.Shown.{IsInnerAt}
+use Rattle.sweep_trials.specs.Stops.{AreInners, StopsTwice, steps_of}
+use Rattle.sweep_trials.specs.Stops.StopsTwice.{InAll}
 use Rattle.sweep_trials.specs.Trials.{AreKept, AreTried, IsInner}
 use Rattle.sweep_trials.specs.declared.opened.Opened.{Opened}
 use Rattle.sweep_trials.specs.declared.reactions.Following.{Following}
 use Rattle.sweep_trials.specs.declared.seen.Seen.{Seen}
+use Rattle.sweep_trials.specs.declared.stop.Stop.{Stop}
+use Rattle.sweep_trials.specs.declared.stop.Stop.TheVariants.{TooManyInAll}
 use Rattle.sweep_trials.specs.declared.sweeping.Moment.{Moment}
 use Rattle.sweep_trials.specs.declared.trials.Ends.{Ends}
 
@@ -140,3 +147,24 @@ swept_as of_run following placed second behind o outcomes from until stops first
 
 pub pair_on : (of_run : List Directive → Seen → Type 0) (following : Following) (placed second behind : List Directive) (o : Opened) (a b : List Outcome) (first : ℕ) (place : Opened → ℕ) (outcome : ℕ) → AreKept a b → IsPairTried of_run following placed second behind o a first place outcome → IsPairTried of_run following placed second behind o b first place outcome
 pair_on of_run following placed second behind o a b first place outcome k t = record { inner = t.inner; opened = t.opened; tried = at_on of_run following second behind t.inner a b (place t.inner) outcome k t.tried }
+
+-- ---- more pairs than steps may be taken
+
+mapped : {X Y : Type 0} (h : X → Y) (xs : List X) (i : ℕ) (y : Y) → slice_get (map h xs) i ≡ Some y → (x : X) × (slice_get xs i ≡ Some x) × (h x ≡ y)
+mapped h [] i y e = absurd (none-some y e)
+mapped h (x ∷ xs) zero y e = (x, refl, same_Some (h x) y e)
+mapped h (x ∷ xs) (suc i) y e = mapped h xs i y e
+
+more_steps : (bs : List Behind) → count_pairs bs ≤ sum_by steps_of (map (λ (b : Behind). b.inner) bs)
+more_steps [] = omega arith
+more_steps (b ∷ bs) = omega (arith, more_steps bs, few_places b.inner, sum_by-cons (λ (x : Behind). vec_len x.inner.all) b bs, sum_by-cons steps_of b.inner (map (λ (x : Behind). x.inner) bs))
+
+pub too_many_pairs : (of_run : List Directive → Seen → Type 0) (at_limit : List Directive → Stop → Type 0) (following : Following) (placed second behind : List Directive) (o : Opened) (outcomes : List Outcome) (from : ℕ) (stops : Bool) (moments : List Moment) (settled : List Settled) (skipped number first count : ℕ) (inner : Opened) → PairsSoFar of_run following placed second behind o outcomes from stops moments settled skipped number first → IsInnerAt of_run following o placed first inner → count ≡ vec_len inner.all → number ≤ 100000000 → 100000000 < number + count → StopsTwice of_run at_limit following placed second behind o TooManyInAll
+too_many_pairs of_run at_limit following placed second behind o outcomes from stops moments settled skipped number first count inner so_far opened c few many =
+    let before : List Opened = map (λ (b : Behind). b.inner) so_far.all in
+    let all : length before ≡ first = length-map so_far.all (λ (b : Behind). b.inner) ∙ so_far.count in
+    let each : AreInners of_run following placed o before = λ i x g.
+    let b = mapped (λ (y : Behind). y.inner) so_far.all i x g in
+    subst (λ (y : Opened). IsInnerAt of_run following o placed i y) b.2 (so_far.pairs.each i b.0 b.1).opened
+    in
+    InAll (before ++ inner ∷ []) (inner_more of_run following placed o before inner first each all opened) (omega (arith, more_steps so_far.all, few_places inner, sum_by_push steps_of before inner, so_far.numbered, c, many))

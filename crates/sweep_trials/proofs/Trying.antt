@@ -14,7 +14,7 @@ use Rattle.bench_sweep.specs.declared.groups.Tried.{Tried}
 use Rattle.bench_sweep.specs.declared.outcomes.Outcome.{Outcome}
 use Rattle.bench_sweep.specs.declared.places.Place.{Place}
 use Rattle.sweep_trials.specs.Counts.{counts}
-use Rattle.sweep_trials.specs.Grown.{AreGrown, IsSeen}
+use Rattle.sweep_trials.specs.Grown.{IsSeen}
 use Rattle.sweep_trials.specs.Trials.{AreKept, AreTried, IsBlock, IsInner, IsOpened, IsTrial, IsTriedAt, once_from}
 use Rattle.sweep_trials.specs.declared.followed.Followed.{Followed}
 use Rattle.sweep_trials.specs.declared.opened.Opened.{Opened}
@@ -35,23 +35,29 @@ opened_of of_run following first start count j found (Ok o) e f seen b k s w m n
 }
 opened_of of_run following first start count j found (Err x) e f seen b k s w m n = tt
 
+-- what the run of a block that begins at a place begins with
+pub inner_start : (o : Opened) (placed before block up on : List Directive) (p : Place) → up ≡ block_up o.block.items p → on ≡ block_on o.block.items o.steps.items p → before ≡ o.before.items ++ up → block ≡ placed ++ on → before ++ block ≡ o.before.items ++ block_up o.block.items p ++ placed ++ block_on o.block.items o.steps.items p
+inner_start o placed before block up on p u w b k =
+    let e : before ≡ o.before.items ++ block_up o.block.items p = b ∙ ap (λ (ds : List Directive). o.before.items ++ ds) u in
+    let f : block ≡ placed ++ block_on o.block.items o.steps.items p = k ∙ ap (λ (ds : List Directive). placed ++ ds) w in
+    ap₂ (λ (xs ys : List Directive). xs ++ ys) e f ∙ sym (append_assoc (o.before.items ++ block_up o.block.items p) placed (block_on o.block.items o.steps.items p))
+
 pub inner_of : {E : Type 0} (of_run : List Directive → Seen → Type 0) (following : Following) (o : Opened) (placed : List Directive) (n : ℕ) (before block up on : List Directive) (count : ℕ) (r : Result Opened E) → ((p : Place) → slice_get (places o.block.items o.steps.items) n ≡ Some p → up ≡ block_up o.block.items p) → ((p : Place) → slice_get (places o.block.items o.steps.items) n ≡ Some p → on ≡ block_on o.block.items o.steps.items p) → before ≡ o.before.items ++ up → block ≡ placed ++ on → count ≡ length before → IfOk r (λ inner. IsOpened of_run following (before ++ block) count inner) → IfOk r (λ inner. (p : Place) → slice_get (places o.block.items o.steps.items) n ≡ Some p → IsInner of_run following o placed p inner)
 inner_of of_run following o placed n before block up on count (Ok inner) u w b k c opened = λ p h.
     let e : before ≡ o.before.items ++ block_up o.block.items p = b ∙ ap (λ (ds : List Directive). o.before.items ++ ds) (u p h) in
-    let f : block ≡ placed ++ block_on o.block.items o.steps.items p = k ∙ ap (λ (ds : List Directive). placed ++ ds) (w p h) in
-    let g : before ++ block ≡ o.before.items ++ block_up o.block.items p ++ placed ++ block_on o.block.items o.steps.items p = ap₂ (λ (xs ys : List Directive). xs ++ ys) e f ∙ sym (append_assoc (o.before.items ++ block_up o.block.items p) placed (block_on o.block.items o.steps.items p)) in
+    let g : before ++ block ≡ o.before.items ++ block_up o.block.items p ++ placed ++ block_on o.block.items o.steps.items p = inner_start o placed before block up on p (u p h) (w p h) b k in
     let m : count ≡ length (o.before.items ++ block_up o.block.items p) = c ∙ ap length e in
     let at : IsOpened of_run following (before ++ block) (length (o.before.items ++ block_up o.block.items p)) inner = subst (λ (i : ℕ). IsOpened of_run following (before ++ block) i inner) m opened in
     subst (λ (ds : List Directive). IsOpened of_run following ds (length (o.before.items ++ block_up o.block.items p)) inner) g at
 inner_of of_run following o placed n before block up on count (Err x) u w b k c opened = tt
 
-pub block_of : {E : Type 0} (of_run : List Directive → Seen → Type 0) (following : Following) (before block first z start : List Directive) (count : ℕ) (r : Result Opened E) → z ≡ [] → first ≡ z ++ before → AreGrown of_run following.calls.now first start → count ≡ length start → IfOk r (λ o. IsOpened of_run following (start ++ block) count o) → IfOk r (λ o. IsBlock of_run following before block o)
-block_of of_run following before block first z start count (Ok o) n e g c opened = record {
-  start = start;
-  grown = subst (λ (ds : List Directive). AreGrown of_run following.calls.now ds start) (e ∙ ap (λ (ds : List Directive). ds ++ before) n) g;
-  opened = subst (λ (i : ℕ). IsOpened of_run following (start ++ block) i o) c opened;
+pub block_of : {E : Type 0} (of_run : List Directive → Seen → Type 0) (following : Following) (before block first z : List Directive) (ahead : Followed) (count : ℕ) (r : Result Opened E) → z ≡ [] → first ≡ z ++ before → IsSeen of_run following first ahead → count ≡ vec_len ahead.directives → IfOk r (λ o. IsOpened of_run following (ahead.directives.items ++ block) count o) → IfOk r (λ o. IsBlock of_run following before block o)
+block_of of_run following before block first z ahead count (Ok o) n e seen c opened = record {
+  ahead = ahead;
+  seen = subst (λ (ds : List Directive). IsSeen of_run following ds ahead) (e ∙ ap (λ (ds : List Directive). ds ++ before) n) seen;
+  opened = subst (λ (i : ℕ). IsOpened of_run following (ahead.directives.items ++ block) i o) c opened;
 }
-block_of of_run following before block first z start count (Err x) n e g c opened = tt
+block_of of_run following before block first z ahead count (Err x) n e seen c opened = tt
 
 -- outcomes that were kept, one step after another
 pub kept_same : (all : List Outcome) → AreKept all all

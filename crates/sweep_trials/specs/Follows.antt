@@ -1,5 +1,5 @@
 -- How calls stand behind the notices that they follow.
-use Rattle.std.specs.Prelude.{◌≡◌, ℕ, ◌+◌, ◌<◌, ◌≤◌, ◌==◌, ◌&&◌, ◌||◌, ◌++◌, nat_lt, Bool, true, false, List, [], ◌∷◌, Option, Some, None, bytes_eq, length, slice_get, take}
+use Rattle.std.specs.Prelude.{◌≡◌, ℕ, ◌+◌, ◌<◌, ◌≤◌, ◌==◌, ◌&&◌, ◌||◌, ◌++◌, nat_lt, not, Bool, true, false, List, [], ◌∷◌, Option, Some, None, bytes_eq, length, slice_get, take}
 use Rattle.std.specs.List.{list_any, position}
 use Rattle.mcal_base.specs.Names.{notice_text}
 use Rattle.mcal_base.specs.declared.directive.Directive.{Directive}
@@ -53,34 +53,40 @@ begins_call _ = false
 abbrev pub is_call_from : ℕ → Directive → Bool
 is_call_from line d = d.line == line && begins_call d.order
 
--- The call from a line stands right behind a directive: nothing is between them but what may.
-pub record StandsBehind (f : Following) (directives : List Directive) (directive line at : ℕ) : Type 0 where
+-- the directive at a place begins the call from a line, and follows no other notice
+abbrev pub is_free_call : (line : ℕ) (taken : List ℕ) (at : ℕ) → Directive → Bool
+is_free_call line taken at d = is_call_from line d && not (list_any (λ place. place == at) taken)
+
+-- The call from a line stands right behind a directive: it is the first that follows no other notice, and nothing is between them but
+-- what may.
+pub record StandsBehind (f : Following) (directives : List Directive) (taken : List ℕ) (directive line at : ℕ) : Type 0 where
   pub call : Directive
   pub there : slice_get directives at ≡ Some call
-  pub from : is_call_from line call ≡ true
+  pub free : is_free_call line taken at call ≡ true
   pub behind : directive < at
+  pub first : (k : ℕ) (d : Directive) → directive < k → k < at → slice_get directives k ≡ Some d → is_free_call line taken k d ≡ false
   pub between : (k : ℕ) (d : Directive) → directive < k → k < at → slice_get directives k ≡ Some d → may_intrude f d.line ≡ true
 
--- the place of a call that follows no other notice
-abbrev pub IsNew : List ℕ → ℕ → Type 0
-IsNew taken at = list_any (λ place. place == at) taken ≡ false
+-- no call from a line stands right behind a directive
+abbrev pub StandsAlone : Following → List Directive → List ℕ → ℕ → ℕ → Type 0
+StandsAlone f directives taken directive line = (at : ℕ) → StandsBehind f directives taken directive line at → ⊥
 
 -- A step, behind others, gives a notice that is followed by the call at a place: the step is the last one of its directive in the
 -- whole run, and the call stands right behind that.
-pub record IsFollowed (f : Following) (directives : List Directive) (whole before : List StepSeen) (step : StepSeen) (at : ℕ) : Type 0 where
+pub record IsFollowed (f : Following) (directives : List Directive) (whole before : List StepSeen) (taken : List ℕ) (step : StepSeen) (at : ℕ) : Type 0 where
   pub directive : ℕ
   pub number : ℕ
   pub reaction : Reaction
   pub wanted : IsWanted f.calls.now (length directives) step directive number
   pub is : slice_get f.calls.now number ≡ Some reaction
   pub last : steps_on step.line (before ++ step ∷ []) ≡ steps_on step.line whole
-  pub stands : StandsBehind f directives directive reaction.directive.line at
+  pub stands : StandsBehind f directives taken directive reaction.directive.line at
 
 -- Each notice among some steps of a run that a call is to follow is followed by one of its own: the calls are at these places.
 pub data AreFollowed (f : Following) (directives : List Directive) (whole : List StepSeen) : List StepSeen → List ℕ → Type 0 where
   Start : AreFollowed f directives whole [] []
   Quiet : (before : List StepSeen) (taken : List ℕ) (step : StepSeen) → AreFollowed f directives whole before taken → IsQuiet f.calls.now (length directives) step → AreFollowed f directives whole (before ++ step ∷ []) taken
-  Next : (before : List StepSeen) (taken : List ℕ) (step : StepSeen) (at : ℕ) → AreFollowed f directives whole before taken → IsFollowed f directives whole before step at → IsNew taken at → AreFollowed f directives whole (before ++ step ∷ []) (taken ++ at ∷ [])
+  Next : (before : List StepSeen) (taken : List ℕ) (step : StepSeen) (at : ℕ) → AreFollowed f directives whole before taken → IsFollowed f directives whole before taken step at → AreFollowed f directives whole (before ++ step ∷ []) (taken ++ at ∷ [])
 
 -- A directive gives a notice with the last of so many of its steps.
 pub record GivesAt (seen : List StepSeen) (directive made : ℕ) (notice : Notice) : Type 0 where
@@ -98,11 +104,14 @@ pub record AreAllFollowed (f : Following) (directives : List Directive) (seen : 
   pub taken : List ℕ
   pub each : AreFollowed f directives seen seen taken
 
--- A notice of a run, which a directive gives with the last of so many of its steps, is one that a call is to follow. The directives
--- make so many steps each in the run.
-pub record IsUnfollowed (calls : List Reaction) (directives : List Directive) (seen : List StepSeen) (directive made number : ℕ) (steps : List ℕ) : Type 0 where
+-- A notice of a run, which a directive gives with the last of so many of its steps, is the first that a call is to follow and doesn't.
+-- The directives make so many steps each in the run.
+pub record IsUnfollowed (f : Following) (directives : List Directive) (seen : List StepSeen) (directive made number : ℕ) (steps : List ℕ) : Type 0 where
   pub there : directive < length directives
   pub counted : steps ≡ counts (length directives) seen
   pub reaction : Reaction
-  pub is : slice_get calls number ≡ Some reaction
+  pub is : slice_get f.calls.now number ≡ Some reaction
   pub gives : GivesAt seen directive made reaction.notice
+  pub taken : List ℕ
+  pub followed : AreFollowed f directives seen (take gives.number seen) taken
+  pub alone : (at : ℕ) → IsFollowed f directives seen (take gives.number seen) taken gives.step at → ⊥

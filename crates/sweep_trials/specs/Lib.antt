@@ -6,4 +6,5 @@ pub mod Pairs
 pub mod Rows
 pub mod Shown
 pub mod Standings
+pub mod Stops
 pub mod Trials

@@ -11,7 +11,7 @@ use Rattle.bench_sweep.specs.declared.groups.Tried.{Tried}
 use Rattle.bench_sweep.specs.declared.outcomes.Outcome.{Outcome}
 use Rattle.bench_sweep.specs.declared.places.Place.{Place}
 use Rattle.sweep_trials.specs.Counts.{counts}
-use Rattle.sweep_trials.specs.Grown.{AreGrown, IsSeen}
+use Rattle.sweep_trials.specs.Grown.{IsSeen}
 use Rattle.sweep_trials.specs.declared.followed.Followed.{Followed}
 use Rattle.sweep_trials.specs.declared.opened.Opened.{Opened}
 use Rattle.sweep_trials.specs.declared.reactions.Following.{Following}
@@ -37,9 +37,9 @@ has_steps o = list_any (λ n. nat_lt 0 n) o.steps.items
 
 -- the same behind what runs before the block, in which calls follow notices too
 pub record IsBlock (of_run : List Directive → Seen → Type 0) (following : Following) (before block : List Directive) (o : Opened) : Type 0 where
-  pub start : List Directive
-  pub grown : AreGrown of_run following.calls.now before start
-  pub opened : IsOpened of_run following (start ++ block) (length start) o
+  pub ahead : Followed
+  pub seen : IsSeen of_run following before ahead
+  pub opened : IsOpened of_run following (ahead.directives.items ++ block) (vec_len ahead.directives) o
 
 -- the block that begins at a place of another, with something placed there
 abbrev pub IsInner : (of_run : List Directive → Seen → Type 0) (following : Following) (o : Opened) (placed : List Directive) → Place → Opened → Type 0

@@ -1,8 +1,8 @@
-ghost use Rattle.std.specs.Prelude.{Some, true, ◌≡◌, ◌<◌, ◌++◌, ◌∷◌, length, slice_get, vec_len, IfOk, MatchOption};
-ghost use Rattle.std.specs.Option.{IfSome};
+ghost use Rattle.std.specs.Prelude.{Some, true, ◌≡◌, ◌<◌, ◌++◌, ◌∷◌, length, slice_get, vec_len, IfErr, IfOk, MatchOption};
 ghost use Rattle.sweep_trials.specs.Counts.{counts, with_step};
-ghost use Rattle.sweep_trials.specs.Follows.{AreAllFollowed, IsNew, IsUnfollowed, StandsBehind};
+ghost use Rattle.sweep_trials.specs.Follows.{AreAllFollowed, IsUnfollowed, StandsAlone, StandsBehind};
 ghost use Rattle.sweep_trials.specs.Grown.{IsSeen, with_call_behind};
+ghost use Rattle.sweep_trials.specs.Stops.{StopsRun, Unless};
 ghost use Rattle.sweep_trials.specs.declared.reactions.Reaction as records;
 
 use crate::reactions::{Bench, Following, Reaction, call_wanted, reaction_at};
@@ -13,8 +13,9 @@ use mcal_base::Directive;
 use std::alloc::{AllocError, Global};
 use std::slice;
 
-/// The most notices that are followed in a run.
-const MOST_FOLLOWED: usize = 1000;
+/// The most runs of a script in which calls follow notices: one for each of a thousand notices, and the one in which all are
+/// followed.
+const MOST_RUNS: usize = 1001;
 
 /// The most directives of a run.
 const MOST_DIRECTIVES: usize = 1_100_000;
@@ -82,7 +83,7 @@ fn own_call(
     taken: &[usize],
 ) -> Option<usize>
     requires { directive < length directives.now }
-    ensures { IfSome result (λ at. (steps.0 ≡ steps.1) × StandsBehind following.entry directives.now directive line at × IsNew taken.now at) }
+    ensures { MatchOption result (steps.0 ≡ steps.1 → StandsAlone following.entry directives.now taken.now directive line) (λ at. (steps.0 ≡ steps.1) × StandsBehind following.entry directives.now taken.now directive line at) }
 {
     let (made, all) = steps;
     if made == all {
@@ -99,7 +100,7 @@ fn first_unfollowed(
     directives: &[Directive],
     seen: &[StepSeen],
 ) -> Result<Option<Unfollowed>, AllocError>
-    ensures { IfOk result (λ found. MatchOption found (AreAllFollowed following.entry directives.now seen.now) (λ f. IsUnfollowed following.entry.calls.now directives.now seen.now f.directive f.made f.reaction f.steps.items)) }
+    ensures { IfOk result (λ found. MatchOption found (AreAllFollowed following.entry directives.now seen.now) (λ f. IsUnfollowed following.entry directives.now seen.now f.directive f.made f.reaction f.steps.items)) }
 {
     let count = directives.len();
     let steps = steps_of(alloc, count, seen)?;
@@ -187,11 +188,12 @@ pub fn run_followed<R: Runs>(
 ) -> Result<Followed, Stop>
     ensures seen { IfOk result (λ found. IsSeen (R.is_seen bench.now.runs.now) bench.now.following start.items found) }
     ensures named { named ≡ true → IfOk result (λ found. vec_len found.seen.moves ≡ vec_len found.seen.steps) }
+    ensures stopped { IfErr result (Unless (StopsRun (R.is_seen bench.now.runs.now) (R.at_limit bench.now.runs.now) bench.now.following start.items)) }
 {
     let runs = bench.runs;
     let following = bench.following;
     let mut directives = start;
-    for _ in 0..MOST_FOLLOWED {
+    for put in 0..MOST_RUNS {
         if directives.len() > MOST_DIRECTIVES {
             return Err(Stop::TooManyDirectives);
         }

@@ -23,6 +23,6 @@ pub use reactions::{Bench, Following, Reaction, reaction_to};
 pub use seen::{Runs, Seen, StepSeen};
 pub use stop::Stop;
 pub use summary::{Group, Row, Standing, groups_of};
-pub use sweeping::{Moment, Sweep, moment_of};
+pub use sweeping::{Moment, Sweep};
 pub use swept::{Swept, make_sweep};
 pub use trials::Wish;

@@ -1,10 +1,11 @@
-ghost use Rattle.std.specs.Prelude.{◌≡◌, ◌<◌, ◌++◌, Some, drop, map, take, length, string_bytes, vec_len, IfOk, slice_get};
+ghost use Rattle.std.specs.Prelude.{◌≡◌, ◌<◌, ◌-◌, ◌^◌, ◌++◌, Some, drop, map, min, take, length, string_bytes, vec_len, IfErr, IfOk, slice_get};
 ghost use Rattle.bench_sweep.specs.Placed.{block_on, block_up, put_in};
 ghost use Rattle.bench_sweep.specs.Places.{places};
 ghost use Rattle.bench_sweep.specs.declared.places.Place.{Place};
 ghost use Rattle.sweep_trials.specs.Counts.{counts};
 ghost use Rattle.sweep_trials.specs.Grown.{IsSeen};
 ghost use Rattle.sweep_trials.specs.Names.{IsPlaceName, last_move, move_of};
+ghost use Rattle.sweep_trials.specs.Stops.{StopsAt, StopsInner, StopsRun, Unless, steps_of};
 ghost use Rattle.sweep_trials.specs.Trials.{IsInner, IsOpened, has_steps};
 
 use crate::followed::{Followed, run_followed, steps_of};
@@ -80,17 +81,20 @@ impl Opened {
         before: Vec<Directive>,
         block: &[Directive],
     ) -> Result<Opened, Stop>
-        ensures { IfOk result (λ o. IsOpened (R.is_seen bench.now.runs.now) bench.now.following (before.items ++ block.now) (vec_len before) o) }
+        requires { 0 < length block.now }
+        ensures opened { IfOk result (λ o. IsOpened (R.is_seen bench.now.runs.now) bench.now.following (before.items ++ block.now) (vec_len before) o) }
+        ensures stopped { IfErr result (Unless (StopsRun (R.is_seen bench.now.runs.now) (R.at_limit bench.now.runs.now) bench.now.following (before.items ++ block.now))) }
     {
         let count = before.len();
         let mut start = before;
         copy_behind(&mut start, block)?;
         let found = run_followed(alloc, bench, start, true)?;
-        Opened::of(alloc, found, count)
+        Ok(Opened::of(alloc, found, count)?)
     }
 
     /// The block of a run, behind the first so many directives.
-    fn of(alloc: Global, found: Followed, count: usize) -> Result<Opened, Stop>
+    fn of(alloc: Global, found: Followed, count: usize) -> Result<Opened, AllocError>
+        requires { count < vec_len found.directives }
         ensures before { IfOk result (λ o. o.before.items ≡ take count found.directives.items) }
         ensures block { IfOk result (λ o. o.block.items ≡ drop count found.directives.items) }
         ensures steps { IfOk result (λ o. o.steps.items ≡ drop count (counts (vec_len found.directives) found.seen.steps.items)) }
@@ -104,9 +108,6 @@ impl Opened {
         let steps = steps_of(alloc, before.len(), &seen.steps)?;
         let steps = steps_from(alloc, &steps, count)?;
         before.truncate(count);
-        if block.is_empty() {
-            return Err(Stop::NoPlace(0));
-        }
         let all = places_in(alloc, &block, &steps)?;
         Ok(Opened {
             before,
@@ -135,9 +136,11 @@ impl Opened {
         self.all[number]
     }
 
-    /// How many steps the run had.
-    pub fn length(&self) -> usize {
-        self.seen.len()
+    /// How many steps the runs of all places take at most: each as many as this one, and one at least.
+    pub fn steps_of_all(&self) -> usize
+        ensures { result ≡ min (steps_of self.now) (2 ^ 64 - 1) }
+    {
+        self.all.len().saturating_mul(self.seen.len().max(1))
     }
 
     /// The block, cut at a place.
@@ -182,8 +185,9 @@ impl Opened {
         behind: &[Directive],
     ) -> Result<Followed, Stop>
         requires { place < vec_len self.now.all }
-        ensures { IfOk result (λ found. (p : Place) → slice_get (places self.now.block.items self.now.steps.items) place ≡ Some p →
+        ensures seen { IfOk result (λ found. (p : Place) → slice_get (places self.now.block.items self.now.steps.items) place ≡ Some p →
             IsSeen (R.is_seen bench.now.runs.now) bench.now.following (put_in self.now.before.items placed.now self.now.block.items behind.now self.now.steps.items p) found) }
+        ensures stopped { IfErr result (Unless (StopsAt (R.is_seen bench.now.runs.now) (R.at_limit bench.now.runs.now) bench.now.following placed.now behind.now self.now place)) }
     {
         let start = self.placed(alloc, place, placed, behind)?;
         run_followed(alloc, bench, start, false)
@@ -207,9 +211,11 @@ impl Opened {
         place: usize,
         placed: &[Directive],
     ) -> Result<Opened, Stop>
-        requires { place < vec_len self.now.all }
-        ensures { IfOk result (λ inner. (p : Place) → slice_get (places self.now.block.items self.now.steps.items) place ≡ Some p →
+        requires there { place < vec_len self.now.all }
+        requires some { 0 < length placed.now }
+        ensures opened { IfOk result (λ inner. (p : Place) → slice_get (places self.now.block.items self.now.steps.items) place ≡ Some p →
             IsInner (R.is_seen bench.now.runs.now) bench.now.following self.now placed.now p inner) }
+        ensures stopped { IfErr result (Unless (StopsInner (R.is_seen bench.now.runs.now) (R.at_limit bench.now.runs.now) bench.now.following placed.now self.now place)) }
     {
         let cut = self.cut(alloc, place)?;
         let before = self.up_to(alloc, &cut)?;
@@ -233,11 +239,13 @@ impl Opened {
         }
     }
 
-    /// The name of a place.
+    /// The name of a place, and none where there is no such place.
     pub fn name(&self, alloc: Global, place: usize) -> Result<String, AllocError>
-        requires { place < vec_len self.now.all }
         ensures { IfOk result (λ text. IsPlaceName self.now place (string_bytes text)) }
     {
+        if self.all.len() <= place {
+            return Ok(String::new(alloc));
+        }
         let Place { directive, spot } = self.place(place);
         let line = self.block[directive].line;
         let steps = self.steps[directive];

@@ -109,6 +109,13 @@ fn is_call_from(directive: &Directive, line: u32) -> bool
     directive.line == line && begins_call(&directive.order)
 }
 
+/// Whether the directive at a place begins the call from a line, and follows no other notice.
+fn is_free_call(directive: &Directive, at: usize, line: u32, taken: &[usize]) -> bool
+    ensures { result ≡ spec.is_free_call line taken.now at directive.now }
+{
+    is_call_from(directive, line) && !taken.contains(&at)
+}
+
 /// The directive at a place.
 fn directive_at(directives: &[Directive], at: usize) -> &Directive
     requires { at < length directives.now }
@@ -134,11 +141,11 @@ impl Following<'_> {
         taken: &[usize],
     ) -> Option<usize>
         requires { directive < length directives.now }
-        ensures { IfSome result (λ at. spec.StandsBehind self.entry directives.now directive line at × spec.IsNew taken.now at) }
+        ensures { MatchOption result (spec.StandsAlone self.entry directives.now taken.now directive line) (spec.StandsBehind self.entry directives.now taken.now directive line) }
     {
         for place in directive + 1..directives.len() {
             let found = directive_at(directives, place);
-            if is_call_from(found, line) && !taken.contains(&place) {
+            if is_free_call(found, place, line, taken) {
                 return Some(place);
             }
             if !self.may_intrude(found.line) {

@@ -1,3 +1,6 @@
+ghost use Rattle.std.specs.Prelude.{◌≡◌};
+ghost use Rattle.sweep_trials.specs.declared.stop.Stop.TheVariants as stops;
+
 use std::alloc::{AllocError, AllocFailed};
 
 /// Why a sweep comes to no end.
@@ -20,12 +23,16 @@ pub enum Stop {
 }
 
 impl From<AllocError> for Stop {
+    ghost from_gives = { λ _ stop. stop ≡ stops.NoMemory };
+
     fn from(_e: AllocError) -> Stop {
         Stop::NoMemory
     }
 }
 
 impl<T: Drop> From<AllocFailed<T>> for Stop {
+    ghost from_gives = { λ _ stop. stop ≡ stops.NoMemory };
+
     fn from(_e: AllocFailed<T>) -> Stop {
         Stop::NoMemory
     }

@@ -1,14 +1,15 @@
-ghost use Rattle.std.specs.Prelude.{◌≡◌, ◌<◌, ℕ, Some, length, map, slice_get, string_bytes, sum_by, vec_len, IfOk};
+ghost use Rattle.std.specs.Prelude.{◌≡◌, ◌<◌, Some, length, map, slice_get, string_bytes, sum_by, vec_len, IfErr, IfOk};
 ghost use Rattle.std.specs.List.{All};
 ghost use Rattle.bench_sweep.specs.Groups as spec;
 ghost use Rattle.sweep_trials.specs.Names.{IsNamed};
 ghost use Rattle.sweep_trials.specs.Rows.{AreRowsOf, IsNumberOf, IsRowAt, IsRowOf};
 ghost use Rattle.sweep_trials.specs.Standings as standings;
+ghost use Rattle.sweep_trials.specs.Stops.{StopsNaming, Unless};
 
 use crate::opened::Opened;
 use crate::seen::Runs;
 use crate::stop::Stop;
-use crate::sweeping::Sweep;
+use crate::sweeping::{Moment, Sweep};
 use crate::swept::Swept;
 use bench_sweep::{Range, count_with, numbers_in, ranges};
 use std::alloc::Global;
@@ -78,6 +79,14 @@ fn range_at(ranges: &[Range], number: usize) -> Range
     ranges[number]
 }
 
+/// The moment that is told of at a place.
+fn moment_at(moments: &[Moment], place: usize) -> Moment
+    requires { place < length moments.now }
+    ensures { slice_get moments.now place ≡ Some result }
+{
+    moments[place]
+}
+
 impl Swept {
     /// How an outcome stands to those before and behind the block.
     fn standing(&self, outcome: usize) -> Standing
@@ -101,11 +110,13 @@ impl Swept {
     ) -> Result<(usize, String), Stop>
         ensures number { IfOk result (λ r. IsNumberOf self.now place r.0) }
         ensures name { IfOk result (λ r. IsNamed (R.is_seen sweep.now.bench.runs.now) sweep.now.bench.following sweep.now.parts.swept.now opened.now self.now.moments.items place (string_bytes r.1)) }
+        ensures stopped { IfErr result (Unless (StopsNaming (R.is_seen sweep.now.bench.runs.now) (R.at_limit sweep.now.bench.runs.now) sweep.now.bench.following sweep.now.parts.swept.now opened.now self.now.moments.items)) }
     {
-        let Some(moment) = self.moments.get(place) else {
-            return Err(Stop::NoPlace(self.moments.len()));
-        };
-        let name = sweep.name_of(alloc, opened, *moment)?;
+        if self.moments.len() <= place {
+            return Ok((0, String::new(alloc)));
+        }
+        let moment = moment_at(&self.moments, place);
+        let name = sweep.name_of(alloc, opened, moment)?;
         Ok((moment.number.saturating_add(1), name))
     }
 
@@ -117,7 +128,8 @@ impl Swept {
         opened: &Opened,
         range: Range,
     ) -> Result<Row, Stop>
-        ensures { IfOk result (λ row. IsRowAt (R.is_seen sweep.now.bench.runs.now) sweep.now.bench.following sweep.now.parts.swept.now opened.now self.now range row) }
+        ensures row { IfOk result (λ row. IsRowAt (R.is_seen sweep.now.bench.runs.now) sweep.now.bench.following sweep.now.parts.swept.now opened.now self.now range row) }
+        ensures stopped { IfErr result (Unless (StopsNaming (R.is_seen sweep.now.bench.runs.now) (R.at_limit sweep.now.bench.runs.now) sweep.now.bench.following sweep.now.parts.swept.now opened.now self.now.moments.items)) }
     {
         let (first, first_name) = self.named(alloc, sweep, opened, range.first)?;
         let (last, last_name) = self.named(alloc, sweep, opened, range.last)?;
@@ -144,6 +156,7 @@ impl Swept {
         ensures places { IfOk result (λ g. g.places ≡ spec.count_with outcome self.now.settled.items) }
         ensures rows { IfOk result (λ g. All (IsRowOf (R.is_seen sweep.now.bench.runs.now) sweep.now.bench.following sweep.now.parts.swept.now opened.now self.now outcome) g.rows.items) }
         ensures ranges { IfOk result (λ g. AreRowsOf (R.is_seen sweep.now.bench.runs.now) sweep.now.bench.following sweep.now.parts.swept.now opened.now self.now outcome most g.rows.items g.more) }
+        ensures stopped { IfErr result (Unless (StopsNaming (R.is_seen sweep.now.bench.runs.now) (R.at_limit sweep.now.bench.runs.now) sweep.now.bench.following sweep.now.parts.swept.now opened.now self.now.moments.items)) }
     {
         let ranges = ranges(alloc, &self.settled, outcome)?;
         let shown = ranges.len().min(most);
@@ -176,6 +189,7 @@ pub fn groups_of<R: Runs>(
     ensures rows { IfOk result (λ groups. All (λ g. All (IsRowOf (R.is_seen sweep.now.bench.runs.now) sweep.now.bench.following sweep.now.parts.swept.now opened.now swept.now g.outcome) g.rows.items) groups.items) }
     ensures ranges { IfOk result (λ groups. All (λ g. AreRowsOf (R.is_seen sweep.now.bench.runs.now) sweep.now.bench.following sweep.now.parts.swept.now opened.now swept.now g.outcome most g.rows.items g.more) groups.items) }
     ensures all { IfOk result (λ groups. sum_by (λ g. g.places) groups.items ≡ vec_len swept.now.settled) }
+    ensures stopped { IfErr result (Unless (StopsNaming (R.is_seen sweep.now.bench.runs.now) (R.at_limit sweep.now.bench.runs.now) sweep.now.bench.following sweep.now.parts.swept.now opened.now swept.now.moments.items)) }
 {
     let mut groups = Vec::new(alloc);
     let numbers = numbers_in(alloc, &swept.settled)?;

@@ -1,9 +1,11 @@
-ghost use Rattle.std.specs.Prelude.{◌≡◌, ◌<◌, ◌≤◌, ◌+◌, ◌-◌, ◌^◌, ◌++◌, [], ◌∷◌, None, count_by, false, is_some, map, take, vec_len, length, IfOk, OnOk};
+ghost use Rattle.std.specs.Prelude.{◌≡◌, ◌<◌, ◌≤◌, ◌+◌, ◌-◌, ◌^◌, ◌++◌, [], ◌∷◌, None, count_by, false, is_some, map, min, take, vec_len, length, IfErr, IfOk, OnOk};
 ghost use Rattle.bench_sweep.specs.Groups.{settled};
 ghost use Rattle.bench_sweep.specs.Outcomes.{AreDifferent};
 ghost use Rattle.sweep_trials.specs.Pairs.{AreSweptPairs, IsSweptTwice, told_from};
 ghost use Rattle.sweep_trials.specs.Standings.{has_neither};
+ghost use Rattle.sweep_trials.specs.Stops.{AreFew, HaveSteps, StopsOnce, StopsTrying, StopsTwice, Unless, most_in_all, steps_of};
 ghost use Rattle.sweep_trials.specs.Trials.{AreKept, IsSweptOnce, once_from, part_end};
+ghost use Rattle.sweep_trials.specs.declared.stop.Stop.TheVariants as stops;
 
 use crate::opened::Opened;
 use crate::progress::Progress;
@@ -102,7 +104,8 @@ fn sweep_once<R: Runs, P: Progress>(
     requires first { first ≤ vec_len opened.now.all }
     requires end { end ≤ vec_len opened.now.all }
     requires few { vec_len opened.now.all ≤ 100000000 }
-    ensures { IfOk result (λ s. IsSweptOnce (R.is_seen sweep.now.bench.runs.now) sweep.now.bench.following sweep.now.parts.swept.now sweep.now.parts.behind.now opened.now first end wish.first s) }
+    ensures swept { IfOk result (λ s. IsSweptOnce (R.is_seen sweep.now.bench.runs.now) sweep.now.bench.following sweep.now.parts.swept.now sweep.now.parts.behind.now opened.now first end wish.first s) }
+    ensures stopped { IfErr result (Unless (StopsTrying (R.is_seen sweep.now.bench.runs.now) (R.at_limit sweep.now.bench.runs.now) sweep.now.bench.following sweep.now.parts.swept.now sweep.now.parts.behind.now opened.now first end)) }
 {
     let mut trials = trials;
     let ends = trials.try_ends(alloc, sweep, opened)?;
@@ -139,14 +142,13 @@ fn sweep_places<R: Runs, P: Progress>(
     trials: Trials,
     progress: &mut P,
 ) -> Result<Swept, Stop>
-    requires { AreDifferent trials.outcomes.items }
-    ensures { IfOk result (λ s. IsSweptOnce (R.is_seen sweep.now.bench.runs.now) sweep.now.bench.following sweep.now.parts.swept.now sweep.now.parts.behind.now opened.now
+    requires differ { AreDifferent trials.outcomes.items }
+    requires few { steps_of opened.now ≤ most_in_all }
+    ensures swept { IfOk result (λ s. IsSweptOnce (R.is_seen sweep.now.bench.runs.now) sweep.now.bench.following sweep.now.parts.swept.now sweep.now.parts.behind.now opened.now
         (part_end (vec_len opened.now.all) (wish.part - 1) wish.parts) (part_end (vec_len opened.now.all) wish.part wish.parts) wish.first s) }
+    ensures stopped { IfErr result (Unless (StopsTrying (R.is_seen sweep.now.bench.runs.now) (R.at_limit sweep.now.bench.runs.now) sweep.now.bench.following sweep.now.parts.swept.now sweep.now.parts.behind.now opened.now (part_end (vec_len opened.now.all) (wish.part - 1) wish.parts) (part_end (vec_len opened.now.all) wish.part wish.parts))) }
 {
     let count = opened.count();
-    if count > MOST_IN_ALL {
-        return Err(Stop::TooManyInAll);
-    }
     let first = end_of(count, wish.part.saturating_sub(1), wish.parts);
     let end = end_of(count, wish.part, wish.parts);
     sweep_once(alloc, sweep, opened, wish, first, end, trials, progress)
@@ -174,6 +176,7 @@ impl Pairs {
         ensures moments { OnOk result (self.new.moments.items ≡ self.old.moments.items ++ map (λ t. t.0) (told_from number first second (found ∷ []))) }
         ensures settled { OnOk result (self.new.settled.items ≡ self.old.settled.items ++ map (λ t. t.1) (told_from number first second (found ∷ []))) }
         ensures skipped { self.new.skipped ≡ self.old.skipped }
+        ensures memory { IfErr result (λ stop. stop ≡ stops.NoMemory) }
     {
         if found.waits {
             return Ok(());
@@ -198,6 +201,7 @@ impl Pairs {
         ensures moments { OnOk result (self.new.moments.items ≡ self.old.moments.items ++ map (λ t. t.0) (told_from number first 0 tried.now)) }
         ensures settled { OnOk result (self.new.settled.items ≡ self.old.settled.items ++ map (λ t. t.1) (told_from number first 0 tried.now)) }
         ensures skipped { OnOk result (self.new.skipped ≡ self.old.skipped + count_by (λ t. t.waits) tried.now) }
+        ensures memory { IfErr result (λ stop. stop ≡ stops.NoMemory) }
     {
         for second in 0..tried.len() {
             self.keep(number, first, second, tried[second])?;
@@ -224,6 +228,7 @@ impl Pairs {
         requires skipped { self.old.skipped ≡ 0 }
         ensures pairs { OnOk result (AreSweptPairs (R.is_seen sweep.now.bench.runs.now) sweep.now.bench.following sweep.now.parts.swept.now sweep.now.parts.second.now sweep.now.parts.behind.now opened.now trials.new.outcomes.items part.0 part.1 (is_some stops) self.new.moments.items self.new.settled.items self.new.skipped) }
         ensures kept { OnOk result (AreKept trials.old.outcomes.items trials.new.outcomes.items) }
+        ensures stopped { AreFew (R.is_seen sweep.now.bench.runs.now) sweep.now.bench.following sweep.now.parts.swept.now opened.now → IfErr result (Unless (StopsTwice (R.is_seen sweep.now.bench.runs.now) (R.at_limit sweep.now.bench.runs.now) sweep.now.bench.following sweep.now.parts.swept.now sweep.now.parts.second.now sweep.now.parts.behind.now opened.now)) }
     {
         let (from, end) = part;
         let mut number = 0usize;
@@ -254,8 +259,9 @@ fn sweep_twice<R: Runs, P: Progress>(
     progress: &mut P,
 ) -> Result<Swept, Stop>
     requires { AreDifferent trials.outcomes.items }
-    ensures { IfOk result (λ s. IsSweptTwice (R.is_seen sweep.now.bench.runs.now) sweep.now.bench.following sweep.now.parts.swept.now sweep.now.parts.second.now sweep.now.parts.behind.now opened.now
+    ensures swept { IfOk result (λ s. IsSweptTwice (R.is_seen sweep.now.bench.runs.now) sweep.now.bench.following sweep.now.parts.swept.now sweep.now.parts.second.now sweep.now.parts.behind.now opened.now
         (part_end (vec_len opened.now.all) (wish.part - 1) wish.parts) (part_end (vec_len opened.now.all) wish.part wish.parts) wish.first s) }
+    ensures stopped { AreFew (R.is_seen sweep.now.bench.runs.now) sweep.now.bench.following sweep.now.parts.swept.now opened.now → IfErr result (Unless (StopsTwice (R.is_seen sweep.now.bench.runs.now) (R.at_limit sweep.now.bench.runs.now) sweep.now.bench.following sweep.now.parts.swept.now sweep.now.parts.second.now sweep.now.parts.behind.now opened.now)) }
 {
     let mut trials = trials;
     let ends = trials.try_end_pairs(alloc, sweep, opened)?;
@@ -287,25 +293,83 @@ fn sweep_twice<R: Runs, P: Progress>(
     })
 }
 
-/// How many places there are, and how many steps all runs take at most.
-fn lengths<R: Runs>(
+/// So many steps, with those of the runs of all places of one block more.
+fn with_steps(steps: usize, inner: &Opened) -> usize
+    ensures { result ≡ min (steps + steps_of inner.now) (2 ^ 64 - 1) }
+{
+    steps.saturating_add(inner.steps_of_all())
+}
+
+/// How many pairs of places there are, and how many steps all their runs take at most.
+fn lengths_of_pairs<R: Runs>(
     alloc: Global,
     sweep: &Sweep<'_, R>,
     opened: &Opened,
-) -> Result<(usize, usize), Stop> {
-    let count = opened.count();
-    if !sweep.is_double() {
-        return Ok((count, count.saturating_mul(opened.length())));
-    }
+) -> Result<(usize, usize), Stop>
+    ensures steps { IfOk result (λ r. HaveSteps (R.is_seen sweep.now.bench.runs.now) sweep.now.bench.following sweep.now.parts.swept.now opened.now (vec_len opened.now.all) r.1) }
+    ensures stopped { IfErr result (Unless (StopsTwice (R.is_seen sweep.now.bench.runs.now) (R.at_limit sweep.now.bench.runs.now) sweep.now.bench.following sweep.now.parts.swept.now sweep.now.parts.second.now sweep.now.parts.behind.now opened.now)) }
+{
     let mut pairs = 0usize;
     let mut steps = 0usize;
-    for first in 0..count {
+    for first in 0..opened.count() {
         let inner = sweep.inner(alloc, opened, first)?;
-        let count = inner.count();
-        pairs = pairs.saturating_add(count);
-        steps = steps.saturating_add(count.saturating_mul(inner.length()));
+        pairs = pairs.saturating_add(inner.count());
+        steps = with_steps(steps, &inner);
     }
     Ok((pairs, steps))
+}
+
+/// Makes a sweep of all pairs of places.
+fn make_double<R: Runs, P: Progress>(
+    alloc: Global,
+    sweep: &Sweep<'_, R>,
+    opened: &Opened,
+    wish: Wish,
+    progress: &mut P,
+) -> Result<Swept, Stop>
+    ensures swept { IfOk result (λ s. IsSweptTwice (R.is_seen sweep.now.bench.runs.now) sweep.now.bench.following sweep.now.parts.swept.now sweep.now.parts.second.now sweep.now.parts.behind.now opened.now
+        (part_end (vec_len opened.now.all) (wish.part - 1) wish.parts) (part_end (vec_len opened.now.all) wish.part wish.parts) wish.first s) }
+    ensures few { OnOk result (AreFew (R.is_seen sweep.now.bench.runs.now) sweep.now.bench.following sweep.now.parts.swept.now opened.now) }
+    ensures stopped { IfErr result (Unless (StopsTwice (R.is_seen sweep.now.bench.runs.now) (R.at_limit sweep.now.bench.runs.now) sweep.now.bench.following sweep.now.parts.swept.now sweep.now.parts.second.now sweep.now.parts.behind.now opened.now)) }
+{
+    let (all, steps) = lengths_of_pairs(alloc, sweep, opened)?;
+    if steps > MOST_IN_ALL {
+        return Err(Stop::TooManyInAll);
+    }
+    sweep_twice(
+        alloc,
+        sweep,
+        opened,
+        wish,
+        Trials::new(alloc, all),
+        progress,
+    )
+}
+
+/// Makes a sweep of all places.
+fn make_single<R: Runs, P: Progress>(
+    alloc: Global,
+    sweep: &Sweep<'_, R>,
+    opened: &Opened,
+    wish: Wish,
+    progress: &mut P,
+) -> Result<Swept, Stop>
+    ensures swept { IfOk result (λ s. IsSweptOnce (R.is_seen sweep.now.bench.runs.now) sweep.now.bench.following sweep.now.parts.swept.now sweep.now.parts.behind.now opened.now
+        (part_end (vec_len opened.now.all) (wish.part - 1) wish.parts) (part_end (vec_len opened.now.all) wish.part wish.parts) wish.first s) }
+    ensures few { OnOk result (steps_of opened.now ≤ most_in_all) }
+    ensures stopped { IfErr result (Unless (StopsOnce (R.is_seen sweep.now.bench.runs.now) (R.at_limit sweep.now.bench.runs.now) sweep.now.bench.following sweep.now.parts.swept.now sweep.now.parts.behind.now opened.now (part_end (vec_len opened.now.all) (wish.part - 1) wish.parts) (part_end (vec_len opened.now.all) wish.part wish.parts))) }
+{
+    if opened.steps_of_all() > MOST_IN_ALL {
+        return Err(Stop::TooManyInAll);
+    }
+    sweep_places(
+        alloc,
+        sweep,
+        opened,
+        wish,
+        Trials::new(alloc, opened.count()),
+        progress,
+    )
 }
 
 /// Makes a sweep.
@@ -320,15 +384,15 @@ pub fn make_sweep<R: Runs, P: Progress>(
         (part_end (vec_len opened.now.all) (wish.part - 1) wish.parts) (part_end (vec_len opened.now.all) wish.part wish.parts) wish.first s) }
     ensures twice { 0 < length sweep.now.parts.second.now → IfOk result (λ s. IsSweptTwice (R.is_seen sweep.now.bench.runs.now) sweep.now.bench.following sweep.now.parts.swept.now sweep.now.parts.second.now sweep.now.parts.behind.now opened.now
         (part_end (vec_len opened.now.all) (wish.part - 1) wish.parts) (part_end (vec_len opened.now.all) wish.part wish.parts) wish.first s) }
+    ensures few_once { length sweep.now.parts.second.now ≡ 0 → OnOk result (steps_of opened.now ≤ most_in_all) }
+    ensures few_twice { 0 < length sweep.now.parts.second.now → OnOk result (AreFew (R.is_seen sweep.now.bench.runs.now) sweep.now.bench.following sweep.now.parts.swept.now opened.now) }
+    ensures stopped_once { length sweep.now.parts.second.now ≡ 0 → IfErr result (Unless (StopsOnce (R.is_seen sweep.now.bench.runs.now) (R.at_limit sweep.now.bench.runs.now) sweep.now.bench.following sweep.now.parts.swept.now sweep.now.parts.behind.now opened.now
+        (part_end (vec_len opened.now.all) (wish.part - 1) wish.parts) (part_end (vec_len opened.now.all) wish.part wish.parts))) }
+    ensures stopped_twice { 0 < length sweep.now.parts.second.now → IfErr result (Unless (StopsTwice (R.is_seen sweep.now.bench.runs.now) (R.at_limit sweep.now.bench.runs.now) sweep.now.bench.following sweep.now.parts.swept.now sweep.now.parts.second.now sweep.now.parts.behind.now opened.now)) }
 {
-    let (all, steps) = lengths(alloc, sweep, opened)?;
-    if steps > MOST_IN_ALL {
-        return Err(Stop::TooManyInAll);
-    }
-    let trials = Trials::new(alloc, all);
     if sweep.is_double() {
-        sweep_twice(alloc, sweep, opened, wish, trials, progress)
+        make_double(alloc, sweep, opened, wish, progress)
     } else {
-        sweep_places(alloc, sweep, opened, wish, trials, progress)
+        make_single(alloc, sweep, opened, wish, progress)
     }
 }

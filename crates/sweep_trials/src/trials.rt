@@ -1,8 +1,10 @@
-ghost use Rattle.std.specs.Prelude.{◌≡◌, ℕ, ◌<◌, ◌≤◌, ◌+◌, ◌-◌, [], None, false, vec_len, IfOk, OnOk, string_bytes};
+ghost use Rattle.std.specs.Prelude.{◌≡◌, ℕ, ◌<◌, ◌≤◌, ◌+◌, ◌-◌, ◌||◌, ◌++◌, [], ◌∷◌, None, false, nat_lt, vec_len, IfErr, IfOk, OnOk, string_bytes};
 ghost use Rattle.bench_sweep.specs.Outcomes.{Tells};
 ghost use Rattle.bench_sweep.specs.Reports.{telling_of};
 ghost use Rattle.sweep_trials.specs.Pairs.{IsPairTried};
+ghost use Rattle.sweep_trials.specs.Stops.{StopsAt, StopsTrying, StopsTryingPairs, Unless};
 ghost use Rattle.sweep_trials.specs.Trials.{AreKept, AreTried, IsTriedAt, part_end};
+ghost use Rattle.sweep_trials.specs.declared.stop.Stop.TheVariants as stops;
 
 use crate::followed::Followed;
 use crate::opened::Opened;
@@ -72,6 +74,14 @@ pub(crate) fn end_of(places: usize, part: usize, parts: usize) -> usize
     (places as u128 * part as u128 / parts as u128).min(places as u128) as usize
 }
 
+/// Whether a place is to be tried: it is before the end of a part, or what is placed waits at the place before.
+fn is_wanted(place: usize, end: usize, waits: bool) -> bool
+    ensures is { result ≡ (nat_lt place end || waits) }
+    ensures no { result ≡ false → end ≤ place }
+{
+    place < end || waits
+}
+
 /// The line of the first of some directives.
 fn first_line(directives: &[Directive]) -> u32 {
     match directives.first() {
@@ -133,6 +143,7 @@ impl Trials {
     fn keep(&mut self, alloc: Global, found: &Followed) -> Result<usize, Stop>
         ensures tells { IfOk result (λ n. Tells self.new.outcomes.items n (telling_of found.now.flat.lines.items (string_bytes found.now.seen.report))) }
         ensures kept { OnOk result (AreKept self.old.outcomes.items self.new.outcomes.items) }
+        ensures memory { IfErr result (λ stop. stop ≡ stops.NoMemory) }
     {
         let outcome = outcome_of(alloc, found.seen.report.as_str(), &found.flat.lines)?;
         let number = number_among(&mut self.outcomes, outcome)?;
@@ -151,6 +162,7 @@ impl Trials {
         requires { place < vec_len opened.now.all }
         ensures tried { IfOk result (λ t. IsTriedAt (R.is_seen sweep.now.bench.runs.now) sweep.now.bench.following placed.now sweep.now.parts.behind.now opened.now self.new.outcomes.items place t.outcome) }
         ensures kept { OnOk result (AreKept self.old.outcomes.items self.new.outcomes.items) }
+        ensures stopped { IfErr result (Unless (StopsAt (R.is_seen sweep.now.bench.runs.now) (R.at_limit sweep.now.bench.runs.now) sweep.now.bench.following placed.now sweep.now.parts.behind.now opened.now place)) }
     {
         let found = sweep.with(alloc, opened, place, placed)?;
         let outcome = self.keep(alloc, &found)?;
@@ -169,6 +181,7 @@ impl Trials {
         ensures before { IfOk result (λ e. IsTriedAt (R.is_seen sweep.now.bench.runs.now) sweep.now.bench.following sweep.now.parts.swept.now sweep.now.parts.behind.now opened.now self.new.outcomes.items 0 e.before) }
         ensures behind { IfOk result (λ e. IsTriedAt (R.is_seen sweep.now.bench.runs.now) sweep.now.bench.following sweep.now.parts.swept.now sweep.now.parts.behind.now opened.now self.new.outcomes.items (vec_len opened.now.all - 1) e.behind) }
         ensures kept { OnOk result (AreKept self.old.outcomes.items self.new.outcomes.items) }
+        ensures stopped { (from until : ℕ) → IfErr result (Unless (StopsTrying (R.is_seen sweep.now.bench.runs.now) (R.at_limit sweep.now.bench.runs.now) sweep.now.bench.following sweep.now.parts.swept.now sweep.now.parts.behind.now opened.now from until)) }
     {
         let count = opened.count();
         let placed = sweep.parts.swept;
@@ -190,6 +203,7 @@ impl Trials {
         ensures before { IfOk result (λ e. IsPairTried (R.is_seen sweep.now.bench.runs.now) sweep.now.bench.following sweep.now.parts.swept.now sweep.now.parts.second.now sweep.now.parts.behind.now opened.now self.new.outcomes.items 0 (λ inner. 0) e.before) }
         ensures behind { IfOk result (λ e. IsPairTried (R.is_seen sweep.now.bench.runs.now) sweep.now.bench.following sweep.now.parts.swept.now sweep.now.parts.second.now sweep.now.parts.behind.now opened.now self.new.outcomes.items (vec_len opened.now.all - 1) (λ inner. vec_len inner.all - 1) e.behind) }
         ensures kept { OnOk result (AreKept self.old.outcomes.items self.new.outcomes.items) }
+        ensures stopped { IfErr result (Unless (StopsTryingPairs (R.is_seen sweep.now.bench.runs.now) (R.at_limit sweep.now.bench.runs.now) sweep.now.bench.following sweep.now.parts.swept.now sweep.now.parts.second.now sweep.now.parts.behind.now opened.now)) }
     {
         let placed = sweep.parts.second;
         let first = sweep.inner(alloc, opened, 0)?;
@@ -218,7 +232,9 @@ impl Trials {
             AreTried (R.is_seen sweep.now.bench.runs.now) sweep.now.bench.following placed.now sweep.now.parts.behind.now opened.now self.old.outcomes.items from all.old.items →
             AreTried (R.is_seen sweep.now.bench.runs.now) sweep.now.bench.following placed.now sweep.now.parts.behind.now opened.now self.new.outcomes.items from all.new.items) }
         ensures more { OnOk result (vec_len all.new ≡ vec_len all.old + 1) }
+        ensures pushed { IfOk result (λ t. all.new.items ≡ all.old.items ++ t ∷ []) }
         ensures kept { OnOk result (AreKept self.old.outcomes.items self.new.outcomes.items) }
+        ensures stopped { IfErr result (Unless (StopsAt (R.is_seen sweep.now.bench.runs.now) (R.at_limit sweep.now.bench.runs.now) sweep.now.bench.following placed.now sweep.now.parts.behind.now opened.now place)) }
     {
         let found = self.try_at(alloc, sweep, opened, place, placed)?;
         self.count(progress);
@@ -244,11 +260,12 @@ impl Trials {
         ensures whole { stops ≡ None → IfOk result (λ all. end - first ≤ vec_len all) }
         ensures each { IfOk result (λ all. AreTried (R.is_seen sweep.now.bench.runs.now) sweep.now.bench.following placed.now sweep.now.parts.behind.now opened.now self.new.outcomes.items first all.items) }
         ensures kept { OnOk result (AreKept self.old.outcomes.items self.new.outcomes.items) }
+        ensures stopped { IfErr result (Unless (StopsTrying (R.is_seen sweep.now.bench.runs.now) (R.at_limit sweep.now.bench.runs.now) sweep.now.bench.following placed.now sweep.now.parts.behind.now opened.now first end)) }
     {
         let mut all = Vec::new(alloc);
         let mut waits = false;
         for place in first..opened.count() {
-            if end <= place && !waits {
+            if !is_wanted(place, end, waits) {
                 return Ok(all);
             }
             let found = self.try_next(alloc, sweep, opened, place, placed, &mut all, progress)?;
@@ -277,6 +294,7 @@ impl Trials {
         ensures whole { from ≤ first → stops ≡ None → IfOk result (λ all. vec_len inner.now.all ≤ vec_len all) }
         ensures each { IfOk result (λ all. AreTried (R.is_seen sweep.now.bench.runs.now) sweep.now.bench.following sweep.now.parts.second.now sweep.now.parts.behind.now inner.now self.new.outcomes.items 0 all.items) }
         ensures kept { OnOk result (AreKept self.old.outcomes.items self.new.outcomes.items) }
+        ensures stopped { IfErr result (Unless (StopsTrying (R.is_seen sweep.now.bench.runs.now) (R.at_limit sweep.now.bench.runs.now) sweep.now.bench.following sweep.now.parts.second.now sweep.now.parts.behind.now inner.now 0 (vec_len inner.now.all))) }
     {
         if first < from {
             return Ok(Vec::new(alloc));

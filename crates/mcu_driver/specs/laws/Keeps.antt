@@ -1,7 +1,7 @@
 -- The driver keeps to its module: registers, words and lines of others are nothing to it.
 -- From Lawful.
 -- Used by mcal_drivers: proofs/Joining.
-use Rattle.std.proofs.Common.{◌≡◌, ◌&&◌, if◌then◌else◌}
+use Rattle.std.proofs.Common.{◌≡◌}
 use Rattle.mcu_driver.specs.Terms
 use Terms.{and_first, arith, ClockLock, ClockPll, ClockRate, EnableClear, EnableSet, false, is_of, is_own_word, is_register, KeepsTo, Load, Mcu, McuTable, module_of_register, module_of_word, Move, names_there, NamesOthers, NamesWithin, nat_lt, nat_tests, not-unless, only, owns, Ram, Read, refl, Reg, ResetReason, ResetRequest, services_driver, Store, true, Write, WritesOthers, WritesWithin, ℕ}
 use Rattle.mcu_driver.specs.laws.Lawful.{mcu}

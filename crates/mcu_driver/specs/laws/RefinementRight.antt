@@ -1,7 +1,7 @@
 -- The basis keeps what it owes: at the start, in time, under moves elsewhere and over a reset.
 -- From service_outline: Words, service_outline: There.
 -- Used by Reset, Base, Fill, Clock, Lawful and 1 more.
-use Rattle.std.proofs.Common.{◌≡◌, ◌<◌, ◌&&◌, [], ◌∙◌}
+use Rattle.std.proofs.Common.{◌≡◌, ◌<◌, [], ◌∙◌}
 use Rattle.mcu_driver.specs.Terms
 use Terms.{Acts, acts_by, after_read, after_reset, Agreed, all-step, and_parts, ap, arith, Call, Called}
 use Terms.{CaptureCountLow, CaptureTimeLow, Chip, chip_after, Clock, clock-left, clock_of, ClockBlock, ClockPll}

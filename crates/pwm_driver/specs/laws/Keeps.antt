@@ -1,7 +1,7 @@
 -- The driver keeps to its module: registers, words and lines of others are nothing to it.
 -- From RefinementRight, Lawful, pwm_machine: Channels.
 -- Used by mcal_drivers: proofs/Joining.
-use Rattle.std.proofs.Common.{◌≡◌, ◌+◌, ◌-◌, ◌/◌, ◌%◌, ◌<◌, ◌≤◌, ◌^◌, ◌==◌, ◌&&◌, ◌||◌, if◌then◌else◌}
+use Rattle.std.proofs.Common.{◌≡◌, ◌+◌, ◌-◌, ◌/◌, ◌%◌, ◌<◌, ◌≤◌, ◌^◌, ◌==◌, ◌&&◌, if◌then◌else◌}
 use Rattle.pwm_driver.specs.Terms
 use Terms.{and_first, arith, Asked, Bool, Channel, channel_of, channel_of_line, EnableClear, EnableSet, EnablesOthers}
 use Terms.{EnablesWithin, entering, false, has_bit, has_lines, is_for_lines, is_of, is_own_word, is_pulse, is_some}

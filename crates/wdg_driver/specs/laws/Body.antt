@@ -1,15 +1,14 @@
 -- The services of the watchdog: their steps, what holds at each, and that they are right.
 -- From service_outline: Words, service_outline: Acts, RefinementRight.
 -- Used by Lawful, service/rt.
-use Rattle.std.proofs.Common.{◌≡◌, ℕ, ◌<◌, Bool, true, false, not, nat_lt, Option, Some, None, refl, sym, ◌∙◌, ap, subst, arith}
+use Rattle.std.proofs.Common.{◌≡◌, ℕ, ◌<◌, Bool, true, false, not, Option, Some, None, refl, sym, ◌∙◌, ap, subst, arith}
 use Rattle.std.specs.Prelude.{if◌then◌else◌, is_some}
 use Rattle.std.proofs.lemmas.Bool.{lt-ltb}
-use Rattle.chip_model.specs.Chip.{Chip, chip_after, word_of, value_of}
+use Rattle.chip_model.specs.Chip.{Chip, chip_after, word_of}
 use Rattle.chip_units.specs.Watchdogs.{loaded}
 use Rattle.mcal_base.specs.declared.answer.Answer.{Answer}
 use Rattle.mcal_base.specs.declared.answer_name.AnswerName.TheVariants.{EOk}
 use Rattle.mcal_base.specs.declared.config.wdg.WdgMode.{WdgMode}
-use Rattle.mcal_base.specs.declared.moves.Event.TheVariants.{Act}
 use Rattle.mcal_base.specs.declared.moves.Move.{Move}
 use Rattle.mcal_base.specs.declared.moves.Move.TheVariants.{Write, Load, Store}
 use Rattle.mcal_base.specs.declared.register.Reg.TheVariants.{WatchdogLoad}

@@ -1,7 +1,7 @@
 -- The driver keeps to its module: registers, words and lines of others are nothing to it.
 -- From Lawful.
 -- Used by mcal_drivers: proofs/Joining.
-use Rattle.std.proofs.Common.{◌≡◌, ℕ, ◌<◌, ◌≤◌, ◌&&◌, true, false, refl, arith}
+use Rattle.std.proofs.Common.{◌≡◌, ℕ, ◌<◌, ◌≤◌, true, false, refl, arith}
 use Rattle.std.proofs.lemmas.Bool.{lt-ltb, le-ltb}
 use Rattle.std.proofs.lemmas.Bool.Decides.{nat_tests}
 use Rattle.plain_facts.specs.Truths.{and_first}

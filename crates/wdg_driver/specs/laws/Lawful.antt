@@ -1,7 +1,7 @@
 -- The watchdog's driver, as the outline and the runner see it, and that it owes nothing.
 -- From Body, Look, service_outline: Reports, service_outline: Seen, RefinementRight.
 -- Used by frames/rt, mcal_drivers: proofs/Hosting, mcal_drivers: Laws, caller/rt, Keeps and 3 more.
-use Rattle.std.proofs.Common.{List, ◌≡◌, ℕ, ◌+◌, ◌<◌, ◌≤◌, Bool, true, false, ◌==◌, not, nat_lt, Option, Some, None, refl, sym, ◌∙◌, ap, subst, arith}
+use Rattle.std.proofs.Common.{List, ◌≡◌, ℕ, ◌<◌, ◌≤◌, Bool, true, false, ◌==◌, not, nat_lt, Option, Some, None, refl, sym, ◌∙◌, ap, subst, arith}
 use Rattle.std.specs.Prelude.{is_some}
 use Rattle.std.proofs.lemmas.Bool.Decides.{nat_tests}
 use Rattle.chip_model.specs.Chip.{Chip, word_of}
@@ -10,8 +10,8 @@ use Rattle.mcal_base.specs.declared.config.wdg.WdgMode.{WdgMode}
 use Rattle.mcal_base.specs.declared.config.wdg.WdgMode.TheVariants.{Off, Slow, Fast}
 use Rattle.mcal_base.specs.declared.error_name.ErrorName.{ErrorName}
 use Rattle.run_model.specs.World.{World}
-use Rattle.run_model.specs.Machine.{no_answer, outcome, named, answers, tells_error}
-use Rattle.run_model.specs.Frame.{Open, Called}
+use Rattle.run_model.specs.Machine.{named, answers, tells_error}
+use Rattle.run_model.specs.Frame.{Open}
 use Rattle.service_outline.specs.Outline.{Outlined, IsOutlined, LooksRight, Is_before}
 use Rattle.service_outline.specs.WindowHistory.{Plain, is_windowed}
 use Rattle.service_outline.specs.ShortServices.{driver_of}
@@ -23,7 +23,6 @@ use Rattle.wdg_machine.specs.Checks.{error_by, answer_refused}
 use Rattle.wdg_driver.specs.Refinement.{settled, WdgRepresents, wdg_ground}
 use Rattle.wdg_machine.specs.Machine.{WdgState, set_mode, set_timeout, acts_by, wdg_machine}
 use Rattle.wdg_machine.specs.Table.{allows, FitsWdg}
-use Rattle.wdg_machine.specs.Numbers.{narrow}
 use Rattle.wdg_driver.specs.Words.{mode_word, state_word, mode_in}
 use Rattle.wdg_driver.specs.declared.asked.Asked.{Asked}
 use Rattle.wdg_machine.specs.declared.call.Call.{Call}

@@ -1,8 +1,8 @@
 -- The ground keeps what it owes: at the start, in time, under moves elsewhere and over a reset.
 -- From service_outline: Words, service_outline: There.
 -- Used by Body, Lawful.
-use Rattle.std.proofs.Common.{◌≡◌, ℕ, ◌+◌, ◌-◌, ◌*◌, ◌<◌, ◌≤◌, Bool, true, false, ◌&&◌, ◌==◌, not, nat_lt, Option, Some, None, refl, sym, ◌∙◌, ap, subst, arith}
-use Rattle.std.specs.Prelude.{is_some, IsSome, if◌then◌else◌, max, option_map}
+use Rattle.std.proofs.Common.{◌≡◌, ℕ, ◌+◌, ◌-◌, ◌*◌, ◌≤◌, Bool, true, false, ◌==◌, not, Option, Some, None, refl, sym, ◌∙◌, ap, subst, arith}
+use Rattle.std.specs.Prelude.{is_some, IsSome, max, option_map}
 use Rattle.std.proofs.lemmas.Bool.{and_parts}
 use Rattle.std.proofs.lemmas.Bool.Decides.{nat_tests}
 use Rattle.chip_model.specs.Chip.{Chip, chip_after, happened, expiry_of, reset_chip, is_masked, word_of}
@@ -20,17 +20,16 @@ use Rattle.mcal_base.specs.declared.directive.Reason.TheVariants.{PowerOn}
 use Rattle.mcal_base.specs.declared.error_name.ErrorName.{ErrorName}
 use Rattle.mcal_base.specs.declared.moves.Move.{Move}
 use Rattle.mcal_base.specs.declared.moves.Move.TheVariants.{Read, Write, Load, Store}
-use Rattle.mcal_base.specs.declared.register.Reg.TheVariants.{EnableSet, SerialData, ClockPll, ClockRate, ResetRequest, WatchdogLoad, TimerLow, CaptureCountLow, CaptureTimeLow, ConverterAbort, PinFlip}
+use Rattle.mcal_base.specs.declared.register.Reg.TheVariants.{SerialData, ClockPll, ClockRate, ResetRequest, WatchdogLoad, TimerLow, CaptureCountLow, CaptureTimeLow, ConverterAbort, PinFlip}
 use Rattle.run_model.specs.World.{World, world_after}
 use Rattle.run_model.specs.Machine.{Acts, Outcome, ErrorLeaves, tells_nothing, outcome}
 use Rattle.run_model.specs.Frame.{Called, is_shared, resets_chip, begins_word, is_reset_service}
 use Rattle.run_model.specs.Outside.{StandsIn}
 use Rattle.run_model.proofs.OutsideLaws.{stands-move, stands-event, stands-reset}
 use Rattle.service_outline.specs.Outline.{IsGround, Comes}
-use Rattle.service_outline.specs.There.{names_there}
 use Rattle.service_outline.specs.laws.There.{move_there}
 use Rattle.service_outline.specs.laws.Words.{stores_in, word_apart, word_later, fills_there}
-use Rattle.wdg_driver.specs.Bounds.{owns, may, is_own_word, wdg_setting}
+use Rattle.wdg_driver.specs.Bounds.{owns, is_own_word, wdg_setting}
 use Rattle.wdg_machine.specs.Checks.{service_of, error_by}
 use Rattle.wdg_driver.specs.Refinement.{Lag, settled, WatchRepresents, WdgRepresents, wdg_ground}
 use Rattle.wdg_machine.specs.Machine.{WdgState, first_state, unit_of, deadline_by, set_mode, set_timeout, work, acts_by, happens, expires}

@@ -1,4 +1,4 @@
-use Rattle.std.proofs.Common.{arith, refl, vec_len}
+use Rattle.std.proofs.Common.{arith, vec_len}
 use Rattle.bench_top.proofs.Calling.{hung_so, told_printed}
 use Rattle.bench_top.proofs.Scripts.{may_ask, may_run}
 use Rattle.bench_top.proofs.top.act.Goals as goal

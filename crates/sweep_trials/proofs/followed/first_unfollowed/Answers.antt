@@ -26,7 +26,7 @@ loop-step-preserved c =
         | in-Some+in-Some-own_call+in_ok-push-in-Some-own_call w ↦
             let made = counted_next (length a.directives.now) a.seen.now s.step-index _ s.made.items c.count_step.new.steps.items c.loop-step-test.true c.count_step.ensures.is s.invariant.counted in
             let own = w.in-Some-own_call.ensures in
-            followed_more a.following a.directives.now a.seen.now s.step-index (length a.directives.now) w.in-Some.found.directive w.in-Some.found.reaction w.number_at-so_far.result w.number_at-all.result w.in-Some-own_call.at _ w.reaction_at.result.now c.count_step.new.steps.items c.in_ok-steps.steps.items s.taken.items c.match-call_wanted.taken.items c.loop-step-test.true refl s.invariant.followed w.in-Some.ensures w.reaction_at.ensures made (rw w.deref.ensures.value at w.number_at-so_far.ensures) c.in_ok-steps.ensures.is (rw w.deref-in-Some.ensures.value at w.number_at-all.ensures) own.0 own.1 (rw w.deref-in-Some-2.ensures.value at own.2) (ap (λ v. v.items) w.taken-is ∙ w.in_ok-push-in-Some-own_call.ensures.items)
+            followed_more a.following a.directives.now a.seen.now s.step-index (length a.directives.now) w.in-Some.found.directive w.in-Some.found.reaction w.number_at-so_far.result w.number_at-all.result w.in-Some-own_call.at _ w.reaction_at.result.now c.count_step.new.steps.items c.in_ok-steps.steps.items s.taken.items c.match-call_wanted.taken.items c.loop-step-test.true refl s.invariant.followed w.in-Some.ensures w.reaction_at.ensures made (rw w.deref.ensures.value at w.number_at-so_far.ensures) c.in_ok-steps.ensures.is (rw w.deref-in-Some.ensures.value at w.number_at-all.ensures) own.0 (rw w.deref-in-Some-2.ensures.value at own.1) (ap (λ v. v.items) w.taken-is ∙ w.in_ok-push-in-Some-own_call.ensures.items)
         | in_default w ↦
             subst (λ (ts : List ℕ). AreFollowed a.following a.directives.now a.seen.now (take (s.step-index + 1) a.seen.now) ts) (ap (λ v. v.items) (sym w.taken-is))
             (quiet_more a.following a.directives.now a.seen.now s.step-index (length a.directives.now) _ s.taken.items c.loop-step-test.true refl s.invariant.followed w.in_default.ensures)
@@ -38,7 +38,7 @@ returns-in-None c =
     let a = c.args in
     let s = c.loop-step in
     let made = counted_next (length a.directives.now) a.seen.now s.step-index _ s.made.items c.count_step.new.steps.items c.loop-step-test.true c.count_step.ensures.is s.invariant.counted in
-    unfollowed_at a.following a.directives.now a.seen.now s.step-index (length a.directives.now) c.in-Some.found.directive c.in-Some.found.reaction c.number_at-so_far.result _ c.reaction_at.result.now c.count_step.new.steps.items c.in_ok-steps.steps.items c.loop-step-test.true refl c.in-Some.ensures c.reaction_at.ensures made (rw c.deref.ensures.value at c.number_at-so_far.ensures) c.in_ok-steps.ensures.is
+    unfollowed_at a.following a.directives.now a.seen.now s.step-index (length a.directives.now) c.in-Some.found.directive c.in-Some.found.reaction c.number_at-so_far.result c.number_at-all.result _ c.reaction_at.result.now c.count_step.new.steps.items c.in_ok-steps.steps.items s.taken.items c.loop-step-test.true refl s.invariant.followed c.in-Some.ensures c.reaction_at.ensures made (rw c.deref.ensures.value at c.number_at-so_far.ensures) c.in_ok-steps.ensures.is (rw c.deref-in-Some.ensures.value at c.number_at-all.ensures) (rw c.deref-in-Some-2.ensures.value at c.in-None.ensures)
 
 pub returns : goal.returns
 returns c = record {

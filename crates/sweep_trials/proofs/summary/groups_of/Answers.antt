@@ -5,6 +5,8 @@ use Rattle.bench_sweep.specs.Groups as spec
 use Rattle.sweep_trials.specs.Rows.{AreRowsOf, IsRowOf}
 use Rattle.sweep_trials.specs.Standings.{standing_of}
 use Rattle.sweep_trials.specs.declared.summary.Group.{Group}
+use Rattle.sweep_trials.proofs.Stopping.{no_memory, passed}
+use Rattle.sweep_trials.specs.Stops.{StopsNaming}
 use Rattle.sweep_trials.proofs.Summing.{all_places, each_more, outcomes_more, places_more}
 use Rattle.sweep_trials.proofs.summary.groups_of.Goals as goal
 
@@ -31,4 +33,14 @@ returns g c =
       rows = l.invariant.rows;
       ranges = l.invariant.ranges;
       all = all_places l.groups.items settled.items places ∙ sym settled.ok.0;
+      stopped = tt;
     }
+
+pub returns-in_err-numbers-clause-stopped : goal.returns-in_err-numbers-clause-stopped
+returns-in_err-numbers-clause-stopped g c = no_memory (StopsNaming (g.R.Runs.is_seen c.args.sweep.now.bench.runs.now) (g.R.Runs.at_limit c.args.sweep.now.bench.runs.now) c.args.sweep.now.bench.following c.args.sweep.now.parts.swept.now c.args.opened.now c.args.swept.now.moments.items) c.from_residual.result c.from_residual.ensures.1
+
+pub returns-in_err-group-clause-stopped : goal.returns-in_err-group-clause-stopped
+returns-in_err-group-clause-stopped g c = passed (StopsNaming (g.R.Runs.is_seen c.args.sweep.now.bench.runs.now) (g.R.Runs.at_limit c.args.sweep.now.bench.runs.now) c.args.sweep.now.bench.following c.args.sweep.now.parts.swept.now c.args.opened.now c.args.swept.now.moments.items) (StopsNaming (g.R.Runs.is_seen c.args.sweep.now.bench.runs.now) (g.R.Runs.at_limit c.args.sweep.now.bench.runs.now) c.args.sweep.now.bench.following c.args.sweep.now.parts.swept.now c.args.opened.now c.args.swept.now.moments.items) c.from_residual-in_err-group.result c.in_err-group.field-0.0 c.from_residual-in_err-group.ensures.1 (λ h. h) c.in_err-group.ensures.stopped
+
+pub returns-in_err-push-clause-stopped : goal.returns-in_err-push-clause-stopped
+returns-in_err-push-clause-stopped g c = no_memory (StopsNaming (g.R.Runs.is_seen c.args.sweep.now.bench.runs.now) (g.R.Runs.at_limit c.args.sweep.now.bench.runs.now) c.args.sweep.now.bench.following c.args.sweep.now.parts.swept.now c.args.opened.now c.args.swept.now.moments.items) c.from_residual-in_err-push.result c.from_residual-in_err-push.ensures.1

@@ -1,5 +1,4 @@
-use Rattle.std.proofs.Common.{◌≡◌, None, Some, subst, sym}
-use Rattle.std.specs.Prelude.{IfOk}
+use Rattle.std.proofs.Common.{subst}
 use Rattle.run_model.specs.Machine.{Aborts}
 use Rattle.audit_base.proofs.Products.{if_ok, starts_first, starts_second}
 use Rattle.audit_base.specs.Deeds.{Follows}

@@ -1,4 +1,4 @@
-use Rattle.std.proofs.Common.{◌≡◌, subst, sym}
+use Rattle.std.proofs.Common.{subst, sym}
 use Rattle.std.specs.Prelude.{IfOk}
 use Rattle.run_model.specs.Machine.{Acts}
 use Rattle.audit_base.proofs.Products.{Stand, follows_first, follows_second, if_ok}

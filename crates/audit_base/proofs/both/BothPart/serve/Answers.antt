@@ -1,4 +1,4 @@
-use Rattle.std.proofs.Common.{◌≡◌, cond, subst, sym}
+use Rattle.std.proofs.Common.{cond, subst}
 use Rattle.std.specs.Prelude.{IfOk}
 use Rattle.run_model.specs.Machine.{Serves}
 use Rattle.audit_base.proofs.Products.{Stand, follows_first, follows_second, if_ok}

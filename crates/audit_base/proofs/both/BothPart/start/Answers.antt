@@ -1,4 +1,4 @@
-use Rattle.std.proofs.Common.{◌≡◌, None, Some, subst, sym}
+use Rattle.std.proofs.Common.{subst}
 use Rattle.std.specs.Prelude.{IfOk, option_copied}
 use Rattle.run_model.specs.Machine.{Starts}
 use Rattle.audit_base.proofs.Products.{if_ok, starts_first, starts_second}

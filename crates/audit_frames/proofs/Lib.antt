@@ -1,0 +1,11 @@
+pub mod AccessLaws
+pub mod ActLaws
+pub mod Deciding
+pub mod EventLaws
+pub mod LineLaws
+pub mod MaskLaws
+pub mod OwingLaws
+pub mod PartLaws
+pub mod SameLaws
+pub mod StackLaws
+pub mod StepLaws

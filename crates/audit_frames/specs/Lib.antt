@@ -1,0 +1,16 @@
+pub mod AccessRules
+pub mod ActRules
+pub mod Decides
+pub mod EventRules
+pub mod FrameRules
+pub mod Judged
+pub mod Kept
+pub mod LineRules
+pub mod Masks
+pub mod OwingRules
+pub mod PaceRules
+pub mod Parts
+pub mod Same
+pub mod StackRules
+pub mod StandsFor
+pub mod Told

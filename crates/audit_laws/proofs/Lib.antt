@@ -1,0 +1,3 @@
+pub mod Guests
+pub mod Products
+pub mod Systems

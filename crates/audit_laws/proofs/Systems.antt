@@ -1,0 +1,39 @@
+-- The checker's machine of all modules is the drivers'.
+use Rattle.std.proofs.Common.{◌≡◌}
+use Rattle.mcal_base.specs.declared.config.whole.Config.{Config}
+use Rattle.adc_machine.specs.Table as converter_table
+use Rattle.chip_model.specs.Wiring.{wiring_of}
+use Rattle.dio_machine.specs.Table as port_table
+use Rattle.gpt_machine.specs.Table as timer_table
+use Rattle.icu_machine.specs.Table as capture_table
+use Rattle.mcu_machine.specs.Table as clock_table
+use Rattle.port_machine.specs.Table as pin_table
+use Rattle.pwm_machine.specs.Table as pulse_table
+use Rattle.spi_machine.specs.Table as serial_table
+use Rattle.wdg_machine.specs.Table as watchdog_table
+use Rattle.mcal_drivers.specs.Setting.{system_setting, host_setting, host_pins}
+use Rattle.audit_captures.specs.Members as captures
+use Rattle.audit_clock.specs.Members.{clock_member, pins_member, watchdog_member}
+use Rattle.audit_converters.specs.Members as converters
+use Rattle.audit_pulses.specs.Members as pulses
+use Rattle.audit_serial.specs.Members as serial
+use Rattle.audit_timers.specs.Members as timers
+use Rattle.audit_laws.specs.Calls.{any_call, kept, pair, named, state_call}
+use Rattle.audit_laws.specs.Same.{IsSame}
+use Rattle.audit_laws.specs.System.{state_member, system_member}
+use Rattle.audit_laws.proofs.Guests.{is_guest}
+use Rattle.audit_laws.proofs.Products.{is_kept, is_union}
+
+module _ (c : Config) where
+  is_host : IsSame state_call (state_member c) (host_setting c).machine (host_setting c).used
+  is_host = is_union (named pair pair) (named pair pair) _ _ _ _ _ _
+      (is_union pair pair _ _ _ _ _ _
+      (is_union kept kept _ _ _ _ _ _ (is_kept (clock_member (clock_table.table_of c.mcu))) (is_kept (watchdog_member (watchdog_table.table_of c.wdg))))
+      (is_union kept kept _ _ _ _ _ _ (is_kept (pins_member (pin_table.table_of c.port))) (is_kept (timers.member_of (timer_table.table_of c.gpt)))))
+      (is_union pair pair _ _ _ _ _ _
+      (is_union kept kept _ _ _ _ _ _ (is_kept (pulses.member_of (pulse_table.table_of c.pwm))) (is_kept (captures.member_of (capture_table.table_of c.icu))))
+      (is_union kept kept _ _ _ _ _ _ (is_kept (converters.member_of (converter_table.table_of c.adc))) (is_kept (serial.member_of (serial_table.table_of c.spi)))))
+
+  pub is_system : IsSame any_call (system_member c) (system_setting c).machine (system_setting c).used
+  unfolding system_setting
+  is_system = is_guest state_call (state_member c) (host_setting c).machine (host_setting c).used is_host (host_pins (pulse_table.table_of c.pwm) (wiring_of c).outputs) (port_table.table_of c.port c.dio) (λ wiring. wiring.outputs ≡ (wiring_of c).outputs)

@@ -1,0 +1,34 @@
+-- The checker's machine of all modules under a configuration.
+use Rattle.mcal_base.specs.declared.config.whole.Config.{Config}
+use Rattle.adc_machine.specs.Table as converter_table
+use Rattle.chip_model.specs.Wiring.{wiring_of}
+use Rattle.dio_machine.specs.Table as port_table
+use Rattle.spi_machine.specs.State.{SpiState}
+use Rattle.spi_machine.specs.Table as serial_table
+use Rattle.gpt_machine.specs.Table as timer_table
+use Rattle.icu_machine.specs.Table as capture_table
+use Rattle.mcu_machine.specs.Table as clock_table
+use Rattle.port_machine.specs.Table as pin_table
+use Rattle.pwm_machine.specs.Table as pulse_table
+use Rattle.wdg_machine.specs.Table as watchdog_table
+use Rattle.audit_base.specs.Deeds.{Member}
+use Rattle.audit_base.specs.Product.{both}
+use Rattle.audit_captures.specs.Members as captures
+use Rattle.audit_clock.specs.Members.{clock_member, pins_member, watchdog_member}
+use Rattle.audit_converters.specs.Members as converters
+use Rattle.audit_machines.specs.Guest.{hosted, host_pins}
+use Rattle.audit_machines.specs.Requests.{AnyCall, StateCall}
+use Rattle.audit_machines.specs.System.{SystemState}
+use Rattle.audit_pulses.specs.Members as pulses
+use Rattle.audit_serial.specs.Members as serial
+use Rattle.audit_timers.specs.Members as timers
+
+-- of the modules that have a state
+abbrev pub state_member : Config → Member (SystemState SpiState) StateCall
+state_member c = both
+    (both (both (clock_member (clock_table.table_of c.mcu)) (watchdog_member (watchdog_table.table_of c.wdg))) (both (pins_member (pin_table.table_of c.port)) (timers.member_of (timer_table.table_of c.gpt))))
+    (both (both (pulses.member_of (pulse_table.table_of c.pwm)) (captures.member_of (capture_table.table_of c.icu))) (both (converters.member_of (converter_table.table_of c.adc)) (serial.member_of (serial_table.table_of c.spi))))
+
+-- with channels and ports
+abbrev pub system_member : Config → Member (SystemState SpiState) AnyCall
+system_member c = hosted (state_member c) (host_pins (pulse_table.table_of c.pwm) (wiring_of c).outputs) (port_table.table_of c.port c.dio)

@@ -1,0 +1,4 @@
+pub mod GuestLaws
+pub mod Seen
+pub mod Taken
+pub mod Valid

@@ -1,0 +1,89 @@
+-- A configuration that was read has what the machines ask of it.
+use Rattle.std.proofs.Common.{◌≡◌, ℕ, zero, suc, ◌<◌, ◌≤◌, ◌==◌, ◌%◌, Bool, true, false, List, [], ◌∷◌, Option, Some, None, subst, arith, slice_index_or}
+use Rattle.std.specs.Prelude.{All, if◌then◌else◌}
+use Rattle.std.specs.List.{AllByRecursion}
+use Rattle.std.specs.Option.{IfSome}
+use Rattle.config_facts.specs.Ids.{InRange}
+use Rattle.config_facts.specs.Valid.{IsChannel, IsChannelType, IsGroup, IsPinGroup, IsValid}
+use Rattle.mcal_base.specs.Layout.{words_of}
+use Rattle.mcal_base.specs.declared.config.adc.AdcGroup.{AdcGroup}
+use Rattle.mcal_base.specs.declared.config.dio.DioChannelGroup.{DioChannelGroup}
+use Rattle.mcal_base.specs.declared.config.spi.SpiChannel.{SpiChannel}
+use Rattle.mcal_base.specs.declared.config.spi.SpiChannelType.{SpiChannelType}
+use Rattle.mcal_base.specs.declared.config.spi.SpiChannelType.TheVariants.{Internal, External}
+use Rattle.mcal_base.specs.declared.config.whole.Config.{Config}
+use Rattle.adc_machine.specs.Table.{AreSmall, IsSmall, IsSmallInput}
+use Rattle.dio_machine.specs.Table as ports
+use Rattle.dio_machine.specs.Table.{FitsDio, group_in}
+use Rattle.dio_machine.specs.declared.table.PortPins.{PortPins}
+use Rattle.spi_jobs.specs.declared.channel.Channel.{Channel}
+use Rattle.spi_machine.specs.Table as serial
+use Rattle.spi_machine.specs.Table.{channel_in, taken_channel}
+use Rattle.audit_serial.specs.Short.{IsShort}
+
+-- ---- converters: their numbers have room in a byte
+
+small_input : (o : Option ℕ) → IfSome o (InRange 0 3) → IsSmallInput o
+small_input None v = tt
+small_input (Some i) v = let most = v.most in omega (arith, most)
+
+small_group : (x : AdcGroup) → IsGroup x → IsSmall x
+small_group x v = record {
+  unit = (let most = v.unit.most in omega (arith, most));
+  inputs = (v.definition.few, λ i d lt. (let most = (v.definition.each i d lt).most in omega (arith, most)));
+  priority = (let most = v.priority.most in omega (arith, most));
+  samples = (let most = v.streaming_num_samples.most in omega (arith, most));
+  trigger = small_input x.trigger_input v.trigger_input;
+  level = (let most = v.level.most in omega (arith, most));
+}
+
+pub small_converters : (c : Config) → IsValid c → AreSmall c.adc
+small_converters c v = record {
+  groups = λ k d lt. small_group (slice_index_or c.adc.groups k d) (v.adc.tables.groups.each k d lt);
+  units = λ k d lt. (let most = (v.adc.tables.units.each k d lt).level.most in omega (arith, most));
+}
+
+-- ---- channels and ports: the port of a group is one of eight
+
+found_group : (xs : List DioChannelGroup) (n : ℕ) (pins : PortPins) → All IsPinGroup xs → group_in xs n ≡ Some pins → pins.port < 8
+found_group [] n pins each e = absurd (cc)
+found_group (x ∷ xs) n pins each e = by (x.id == n) (found_group xs n pins (λ i y lt. each (suc i) y (omega (arith, lt)))) e
+  where
+    by : (q : Bool) → (group_in xs n ≡ Some pins → pins.port < 8) → (if q then Some (ports.taken x) else group_in xs n) ≡ Some pins → pins.port < 8
+    by true more f =
+        let at : ports.taken x ≡ pins = cc in
+        let most = (each 0 x (omega arith)).port.most in
+        subst (λ (y : PortPins). y.port < 8) at (omega (arith, most))
+    by false more f = more f
+
+-- one of these, each of which is so where it is there
+one_is : {T : Type 0} (P : T → Type 0) (os : List (Option T)) → AllByRecursion (λ (o : Option T). (x : T) → o ≡ Some x → P x) os → (n : ℕ) (x : T) → slice_index_or os n None ≡ Some x → P x
+one_is P [] each n x e = absurd (cc)
+one_is P (o ∷ os) each zero x e = each.0 x e
+one_is P (o ∷ os) each (suc n) x e = one_is P os each.1 n x e
+
+pub groups_fit : (c : Config) → IsValid c → FitsDio (ports.table_of c.port c.dio)
+groups_fit c v =
+    let r : (n : ℕ) (pins : PortPins) → group_in c.dio.groups n ≡ Some pins → pins.port < 8 = λ n pins. found_group c.dio.groups n pins v.dio.tables.groups.each in
+    record { port = λ n pins lt e. one_is (λ (pins : PortPins). pins.port < 8) (ports.table_of c.port c.dio).groups (r 0, (r 1, (r 2, (r 3, (r 4, (r 5, (r 6, (r 7, tt)))))))) n pins e }
+
+-- ---- serial channels: none has more than 64 words
+
+few_words : (t : SpiChannelType) → IsChannelType t → words_of t % 256 ≤ 64
+few_words (Internal n) h = let most = h.most in omega (arith, most)
+few_words (External n) h = let most = h.most in omega (arith, most)
+
+found_channel : (xs : List SpiChannel) (n : ℕ) (k : Channel) → All IsChannel xs → channel_in xs n ≡ Some k → k.length ≤ 64
+found_channel [] n k each e = absurd (cc)
+found_channel (x ∷ xs) n k each e = by (x.id == n) (found_channel xs n k (λ i y lt. each (suc i) y (omega (arith, lt)))) e
+  where
+    by : (q : Bool) → (channel_in xs n ≡ Some k → k.length ≤ 64) → (if q then Some (taken_channel x) else channel_in xs n) ≡ Some k → k.length ≤ 64
+    by true more f =
+        let at : taken_channel x ≡ k = cc in
+        subst (λ (y : Channel). y.length ≤ 64) at (few_words x.channel_type (each 0 x (omega arith)).channel_type)
+    by false more f = more f
+
+pub short_channels : (c : Config) → IsValid c → IsShort (serial.table_of c.spi)
+short_channels c v =
+    let r : (n : ℕ) (k : Channel) → channel_in c.spi.channels n ≡ Some k → k.length ≤ 64 = λ n k. found_channel c.spi.channels n k v.spi.tables.channels.each in
+    one_is (λ (k : Channel). k.length ≤ 64) (serial.table_of c.spi).channels (r 0, (r 1, (r 2, (r 3, (r 4, (r 5, (r 6, (r 7, (r 8, (r 9, (r 10, (r 11, (r 12, (r 13, (r 14, (r 15, tt))))))))))))))))

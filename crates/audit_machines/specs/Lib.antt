@@ -1,0 +1,5 @@
+pub mod Guest
+pub mod Happens
+pub mod Requests
+pub mod Shows
+pub mod System

@@ -1,0 +1,10 @@
+pub mod ByNumber
+pub mod Freed
+pub mod Indexed
+pub mod Kept
+pub mod QueueLaws
+pub mod ResultLaws
+pub mod Sends
+pub mod Terms
+pub mod Whole
+pub mod WordLists

@@ -1,0 +1,10 @@
+use Rattle.audit_serial.proofs.Terms.{ap, at, ChannelState, get_or_read, IfOk-weaker, untouched, with_item, written_from, ◌∙◌}
+use Rattle.audit_serial.proofs.channels.Channels.write.Goals as goal
+
+pub returns : goal.returns
+returns c =
+    let n = c.args.number in
+    let xs = c.self.inside.items.items in
+    let grown = c.in_ok-grow.ensures in
+    let here = get_or_read c.grow.new.items.items n c.index_mut.result.now grown.there c.index_mut.ensures.value untouched ∙ grown.same in
+    IfOk-weaker c.write.result _ _ (λ _ e. grown.sets c.write.new.self ∙ (ap (with_item untouched xs n) (e ∙ ap (λ (x : ChannelState). written_from c.args.pointer c.args.channel x) here) ∙ ap (λ zs. with_item untouched zs n ((λ (x : ChannelState). written_from c.args.pointer c.args.channel x) (at zs n))) c.self.view_is)) c.write.ensures

@@ -1,0 +1,23 @@
+//! The machine of the serial units as a program: what each call, each start, each serving, each fill and fault and a reset
+//! do to its state, and what they tell.
+#![tactic(auto)]
+
+mod buffers;
+mod carrying;
+mod channels;
+mod checks;
+mod configured;
+mod numbered;
+mod options;
+mod part;
+mod pending;
+mod queue;
+mod results;
+mod run;
+mod serials;
+mod units;
+mod wire;
+mod words;
+
+pub use part::SerialsState;
+pub use serials::Serials;
