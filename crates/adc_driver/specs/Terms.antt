@@ -32,6 +32,7 @@ pub use Rattle.mcal_base.specs.{declared.register.Reg.TheVariants.{ConverterAck,
 pub use Rattle.mcal_base.specs.{declared.register.Reg.TheVariants.{ConverterList, ConverterResult, ConverterState}}
 pub use Rattle.mcal_base.specs.{declared.register.Reg.TheVariants.{EnableClear, EnableSet, PulseCommit, PulseIdle}}
 pub use Rattle.mcal_base.specs.{declared.register.Reg.TheVariants.{TimerHigh, TriggerClear, TriggerFlags, TriggerSet}}
+pub use Rattle.mcal_base.specs.There.{names_there}
 pub use Rattle.det_errors.specs.Rows.{first_error}
 pub use Rattle.chip_converter.specs.{Converters.{Converters}, declared.converter.Converter.{Converter}}
 pub use Rattle.chip_model.proofs.HistoryLaws.{level_leaves}
@@ -69,7 +70,7 @@ pub use Rattle.service_outline.specs.{Services.{Looking, MakesStarts, mark_of, M
 pub use Rattle.service_outline.specs.{Services.{PointAssertion, ReservedBy, Right, RightOr, Services, services_driver}}
 pub use Rattle.service_outline.specs.{Services.{TurnsTo, with_holds, Within}, Short.{ended_by, ending_gave, short_left}}
 pub use Rattle.service_outline.specs.{Short.{short_move}, Sweep.{takes_at}, Sweeping.{IsSweeping, sweep, sweep_spot}}
-pub use Rattle.service_outline.specs.{Sweeping.{Sweeping}, There.{names_there}, WindowHistory.{is_windowed, Plain}}
+pub use Rattle.service_outline.specs.{Sweeping.{Sweeping}, WindowHistory.{is_windowed, Plain}}
 pub use Rattle.service_outline.specs.{declared.body.Looked.{Looked}, declared.body.Or.TheVariants.{First, Second}}
 pub use Rattle.service_outline.specs.{declared.done.BodyTaken.{BodyTaken}, declared.done.Done.{Done}}
 pub use Rattle.service_outline.specs.{declared.done.Epilogue.{Epilogue}, declared.done.Epilogue.TheVariants.{Error}}

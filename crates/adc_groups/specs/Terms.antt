@@ -30,6 +30,8 @@ pub use Rattle.mcal_base.specs.{declared.register.Reg.TheVariants.{ClockRate, Co
 pub use Rattle.mcal_base.specs.{declared.register.Reg.TheVariants.{ConverterGo, ConverterList, EnableClear, EnableSet}}
 pub use Rattle.mcal_base.specs.{declared.register.Reg.TheVariants.{PinFlip, ResetRequest, SerialData, TimerLow}}
 pub use Rattle.mcal_base.specs.{declared.register.Reg.TheVariants.{TriggerClear, TriggerFlags, TriggerSet}}
+pub use Rattle.mcal_base.specs.There.{names_there}
+pub use Rattle.mcal_base.specs.laws.There.{move_there}
 pub use Rattle.det_errors.specs.Rows.{first_error}
 pub use Rattle.chip_converter.proofs.HistoryLaws.{ended-later, ended-open, has_ended-not_yet, has_ended-open}
 pub use Rattle.chip_converter.proofs.HistoryLaws.{result-settled, unit_at-analog}
@@ -67,12 +69,12 @@ pub use Rattle.service_outline.specs.{FrameHistory.{FrameHistory}}
 pub use Rattle.service_outline.specs.{FrameHistory.{fresh_history, Is_this_frame, IsThisFrame}, Services.{Adding}}
 pub use Rattle.service_outline.specs.{Services.{AssertedAt, ended_at, IsBasis, Looking, MakesTo, MayCome, MayStop}}
 pub use Rattle.service_outline.specs.{Services.{Outside, PointAssertion, ReservedBy, RightOr, SharedRefinement, Steady}}
-pub use Rattle.service_outline.specs.{Services.{with_holds, Within}, Short.{ended_by}, There.{names_there}}
+pub use Rattle.service_outline.specs.{Services.{with_holds, Within}, Short.{ended_by}}
 pub use Rattle.service_outline.specs.{declared.done.BodyTaken.{BodyTaken}, declared.done.Done.{Done}}
 pub use Rattle.service_outline.specs.{declared.done.Epilogue.TheVariants.{Nothing}}
 pub use Rattle.service_outline.specs.laws.{Ending.{goes_right}, Owing.{not_filled, owing_basis}, Reports.{error_told}}
 pub use Rattle.service_outline.specs.laws.{SimpleMoves.{simple_commutes, simple_value, words_happened}}
-pub use Rattle.service_outline.specs.laws.{StepKinds.{asks_no, same_line}, There.{move_there}, Words.{fills_there}}
+pub use Rattle.service_outline.specs.laws.{StepKinds.{asks_no, same_line}, Words.{fills_there}}
 pub use Rattle.service_outline.specs.laws.{Words.{length_after, stored_other, stored_same, stores_in, word_apart}}
 pub use Rattle.service_outline.specs.laws.{Words.{word_later}}
 pub use Rattle.shapes_on_chip.proofs.PartLaws.{settles_list, settles_part}

@@ -4,6 +4,7 @@ ghost use Rattle.adc_machine.specs.Table.{group_of};
 ghost use Rattle.adc_groups.specs.laws.services.LookSteps as spec;
 
 use crate::body::{AdcBody, Place};
+use crate::owed::error_owed;
 use crate::service::module::{InitBody, Setup};
 use crate::service::{ask, looking, request};
 use crate::window::Window;
@@ -116,7 +117,7 @@ impl Asked {
     {
         Done {
             answer: refused(self.call),
-            owed: self.table.owed(self.call.service(), error),
+            owed: error_owed(&self.table, self.call.service(), error),
         }
     }
 

@@ -5,6 +5,7 @@ mod asked;
 mod body;
 mod making;
 mod outside;
+mod owed;
 mod service;
 mod window;
 mod words;

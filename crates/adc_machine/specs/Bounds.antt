@@ -1,4 +1,4 @@
--- The class of each call, the levels of lines, the most steps and moves of frames, and what a run of the driver is over.
+-- The class of each call, the levels of lines, the most steps and moves of frames, and what a run of the module is over.
 use Rattle.std.specs.Prelude.{ℕ, ◌+◌, ◌*◌, ◌-◌, Bool, false, ◌&&◌, cond, List, [], ◌∷◌, length, max, Option, Some, None, is_some}
 use Rattle.chip_model.specs.Chip.{word_of}
 use Rattle.mcal_base.specs.declared.module_name.ModuleName.{ModuleName}
@@ -102,7 +102,7 @@ window_of origin = 32
 
 -- ---- the setting
 
--- what a run of the driver is over
+-- what a run of the module is over
 abbrev pub adc_setting : AdcTable → Setting AdcState Call
 adc_setting d = record {
   machine = adc_machine d;

@@ -9,7 +9,7 @@ use Rattle.mcal_base.specs.declared.moves.Move.{Move}
 use Rattle.mcal_base.specs.declared.moves.Move.TheVariants.{Read, Write, Load, Store}
 use Rattle.mcal_base.specs.declared.register.Reg.{Reg}
 use Rattle.mcal_base.specs.declared.register.Reg.TheVariants.{EnableSet, EnableClear, ConverterList, ConverterGo, ConverterState, ConverterResult, ConverterDone, ConverterAbort, ConverterAck, TriggerSet, TriggerClear, TriggerFlags}
-use Rattle.service_outline.specs.There.{names_there}
+use Rattle.mcal_base.specs.There.{names_there}
 use Rattle.adc_machine.specs.Groups.{inputs_of, samples_of}
 use Rattle.adc_machine.specs.Machine.{is_unit_line, is_trigger_line, place_value}
 use Rattle.adc_machine.specs.Table.{group_of, all_groups, object_count}

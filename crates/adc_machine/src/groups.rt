@@ -1,24 +1,14 @@
 ghost use Rattle.std.specs.Prelude.{◌≡◌, ◌+◌, ◌<◌, ◌≤◌, length};
 ghost use Rattle.std.specs.Option.{option_map};
-ghost use Rattle.service_outline.specs.Done.{owed_error};
 ghost use Rattle.adc_machine.specs.Configured as spec;
 ghost use Rattle.adc_machine.specs.Groups.{inputs_of, samples_of, trigger_input, is_continuous, suspends, is_full};
-ghost use Rattle.adc_machine.specs.Machine.{reporting, takes_one};
+ghost use Rattle.adc_machine.specs.Machine.{takes_one};
 ghost use Rattle.adc_machine.specs.Table.{group_of};
 ghost use Rattle.adc_machine.specs.Turns.{is_on, rank_of};
 
 use crate::table::{AdcTable, Group};
-use mcal_base::{ErrorName, Service};
-use service_outline::{Epilogue, error};
 
 impl AdcTable {
-    /// What is owed for an error.
-    pub fn owed(&self, service: Service, name: ErrorName) -> Epilogue
-        ensures { result ≡ owed_error (reporting self.now) service name }
-    {
-        error(self.detect, self.classification, service, name)
-    }
-
     /// The group of a number, where it is configured.
     pub fn at(&self, group: u8) -> Option<&Group>
         ensures { option_map (λ k. k.now) result ≡ group_of self.now group }

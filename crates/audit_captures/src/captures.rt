@@ -77,6 +77,13 @@ impl Captures {
         }
     }
 
+    /// What is configured.
+    pub fn table(&self) -> &IcuTable
+        ensures { result.now ≡ self.now.driver }
+    {
+        &self.driver
+    }
+
     /// A channel.
     fn at(&self, number: u32) -> Capture
         ensures is { result ≡ slice_index_or self.now.channels number blank }

@@ -1,4 +1,6 @@
 pub mod Fills
+pub mod LatchLaws
+pub mod Masks
 pub mod Places
 pub mod PortLevels
 pub mod PortPlaces

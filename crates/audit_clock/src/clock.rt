@@ -10,8 +10,10 @@ ghost use Rattle.mcu_machine.specs.Machine.{McuState, ram_at};
 ghost use Rattle.mcu_machine.specs.Table.{section_of};
 ghost use Rattle.audit_base.specs.Comes.{Comes, Gives};
 ghost use Rattle.audit_clock.specs.ClockStands.{StandsFor, is_between, pll_of};
+ghost use Rattle.audit_clock.specs.Sections.{AreShort};
 
 use crate::clock_checks::{facts, reason_name, refused, status_name};
+use crate::configured::Configured;
 use audit_base::{Told, named};
 use det_errors::first_error;
 use mcal_base::{AnswerName, ErrorName, Reason};
@@ -30,7 +32,7 @@ pub struct Pll {
 /// The machine of clock, RAM and resets under a configuration. Times are in ticks of the oscillator.
 #[derive(Drop)]
 pub struct Clock {
-    driver: McuTable,
+    driver: Configured,
     initialised: bool,
     rate: u32,
     pll: Option<Pll>,
@@ -45,7 +47,7 @@ impl Model for Clock {
 
     ghost Value = { ClockKept };
 
-    ghost view = { λ t. record { driver = t.driver; initialised = t.initialised; rate = t.rate; pll = option_map pll_of t.pll; reason = t.reason; mode = t.mode; ram = t.ram } };
+    ghost view = { λ t. record { driver = t.driver.table; initialised = t.initialised; rate = t.rate; pll = option_map pll_of t.pll; reason = t.reason; mode = t.mode; ram = t.ram } };
 
     ghost invariant = { λ t. length t.ram ≡ 512 };
 }
@@ -70,11 +72,12 @@ fn is_locked(pll: Option<Pll>, osc: u64) -> bool
 impl Clock {
     /// After power on.
     pub fn new(driver: McuTable) -> Clock
+        requires { AreShort driver }
         ensures is { StandsFor result spec.first_state }
         ensures driver { result.driver ≡ driver }
     {
         Clock {
-            driver,
+            driver: Configured::new(driver),
             initialised: false,
             rate: 1,
             pll: None,
@@ -82,6 +85,14 @@ impl Clock {
             mode: None,
             ram: [0; 512],
         }
+    }
+
+    /// What is configured.
+    pub fn table(&self) -> &McuTable
+        ensures is { result.now ≡ self.now.driver }
+        ensures short { AreShort result.now }
+    {
+        self.driver.table()
     }
 
     /// A RAM word, of 512, becomes so.
@@ -117,7 +128,7 @@ impl Clock {
         ensures is { (s : McuState) → StandsFor self.old s → StandsFor self.new (spec.filled (section_of self.old.driver number) s) }
         ensures driver { self.new.driver ≡ self.old.driver }
     {
-        if let Some(section) = self.driver.section(number) {
+        if let Some(section) = self.driver.table.section(number) {
             self.fill_section(section);
         }
     }
@@ -159,7 +170,7 @@ impl Clock {
                 return done();
             }
             Call::Clock(ClockCall::InitClock(number)) => {
-                let multiplier = self.driver.multiplier(number);
+                let multiplier = self.driver.table.multiplier(number);
                 self.start_pll(multiplier, osc);
                 return done();
             }
@@ -182,7 +193,7 @@ impl Clock {
         ensures { (w : World) → w.osc ≡ osc → result ≡ checks.error_by self.now.driver call (not self.now.initialised) (not (spec.is_locked w self.now.pll)) }
     {
         let facts = facts(
-            &self.driver,
+            &self.driver.table,
             call,
             !self.initialised,
             !is_locked(self.pll, osc),
@@ -206,7 +217,7 @@ impl Clock {
     pub fn report(&self, error: ErrorName) -> Option<bool>
         ensures { result ≡ errors.reported (checks.reporting self.now.driver) error }
     {
-        det_errors::reported(self.driver.detect, 1, error)
+        det_errors::reported(self.driver.table.detect, 1, error)
     }
 
     /// The chip is reset for this reason.

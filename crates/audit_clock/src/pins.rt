@@ -50,6 +50,13 @@ impl Pins {
         }
     }
 
+    /// What is configured.
+    pub fn table(&self) -> &PortTable
+        ensures { result.now ≡ self.now.driver }
+    {
+        &self.driver
+    }
+
     /// A pin of a number.
     fn at(&self, number: u32) -> PinState
         ensures { state_of result ≡ slice_index_or self.now.pins number spec.untouched }
@@ -59,6 +66,14 @@ impl Pins {
         } else {
             UNTOUCHED
         }
+    }
+
+    /// A pin, of 64.
+    pub fn state(&self, number: u32) -> PinState
+        requires { number < 64 }
+        ensures { (s : PortState) → StandsFor self.now s → state_of result ≡ spec.pin_at s number }
+    {
+        self.at(number)
     }
 
     /// Each pin is turned.

@@ -83,6 +83,13 @@ impl Watchdog {
         }
     }
 
+    /// What is configured.
+    pub fn table(&self) -> &WdgTable
+        ensures { result.now ≡ self.now.driver }
+    {
+        &self.driver
+    }
+
     /// The watchdog's time begins anew, in a mode and with a timeout.
     fn start(&mut self, mode: WdgMode, timeout: u32, osc: u64)
         requires { osc < 2 ^ 63 }

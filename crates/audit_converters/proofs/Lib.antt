@@ -1,4 +1,5 @@
 pub mod Levels
+pub mod Lines
 pub mod Places
 pub mod Reading
 pub mod Stored

@@ -1,4 +1,4 @@
-ghost use Rattle.std.specs.Prelude.{◌≡◌, ◌<◌, ◌≤◌, ◌+◌, ◌^◌, None, Some, IfOk, ℕ, Option, nat_le, true};
+ghost use Rattle.std.specs.Prelude.{◌≡◌, ◌<◌, ◌≤◌, ◌+◌, ◌^◌, None, Some, IfOk, ℕ, Option, is_some, nat_le, true};
 ghost use Rattle.adc_machine.specs.Bounds.{is_used};
 ghost use Rattle.adc_machine.specs.Machine as spec;
 ghost use Rattle.adc_machine.specs.Table.{group_of};
@@ -83,6 +83,13 @@ impl Converters {
             groups: Groups::new(),
             results,
         })
+    }
+
+    /// What is configured.
+    pub fn table(&self) -> &AdcTable
+        ensures { result.now ≡ self.now.table }
+    {
+        &self.table
     }
 
     /// How many requests were made and rounds served.
@@ -203,6 +210,16 @@ impl Converters {
     {
         match number_of(unit) {
             Some(unit) => self.groups.is_startable(&self.table, unit, now),
+            None => false,
+        }
+    }
+
+    /// Whether a unit may start its next round.
+    pub fn starts(&self, unit: Unit) -> bool
+        ensures { (w : World) (s : AdcState) → StandsFor self.now s → result ≡ is_some (spec.starts_on self.now.table w s (turns.number_of unit)) }
+    {
+        match number_of(unit) {
+            Some(unit) => self.groups.starts(&self.table, unit).is_some(),
             None => false,
         }
     }

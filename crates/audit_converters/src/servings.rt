@@ -24,7 +24,7 @@ pub(crate) fn is_unit_line(line: u32) -> bool
 }
 
 /// Whether a line is a trigger input's.
-fn is_trigger_line(line: u32) -> bool
+pub(crate) fn is_trigger_line(line: u32) -> bool
     ensures { result ≡ spec.is_trigger_line line }
 {
     line >= 28 && line < 32

@@ -1,13 +1,15 @@
 -- A configuration that was read has what the machines ask of it.
-use Rattle.std.proofs.Common.{◌≡◌, ℕ, zero, suc, ◌<◌, ◌≤◌, ◌==◌, ◌%◌, Bool, true, false, List, [], ◌∷◌, Option, Some, None, subst, arith, slice_index_or}
-use Rattle.std.specs.Prelude.{All, if◌then◌else◌}
+use Rattle.std.proofs.Common.{◌≡◌, ℕ, zero, suc, ◌<◌, ◌≤◌, ◌==◌, ◌%◌, Bool, true, false, List, [], ◌∷◌, Option, Some, None, refl, subst, arith, slice_index_or, nat_lt}
+use Rattle.std.specs.Prelude.{All, if◌then◌else◌, slice_get}
 use Rattle.std.specs.List.{AllByRecursion}
 use Rattle.std.specs.Option.{IfSome}
+use Rattle.std.proofs.lemmas.Option.{slice_get_within, get_or_from_slice_get}
 use Rattle.config_facts.specs.Ids.{InRange}
 use Rattle.config_facts.specs.Valid.{IsChannel, IsChannelType, IsGroup, IsPinGroup, IsValid}
 use Rattle.mcal_base.specs.Layout.{words_of}
 use Rattle.mcal_base.specs.declared.config.adc.AdcGroup.{AdcGroup}
 use Rattle.mcal_base.specs.declared.config.dio.DioChannelGroup.{DioChannelGroup}
+use Rattle.mcal_base.specs.declared.config.mcu.McuRamSection.{McuRamSection}
 use Rattle.mcal_base.specs.declared.config.spi.SpiChannel.{SpiChannel}
 use Rattle.mcal_base.specs.declared.config.spi.SpiChannelType.{SpiChannelType}
 use Rattle.mcal_base.specs.declared.config.spi.SpiChannelType.TheVariants.{Internal, External}
@@ -16,9 +18,13 @@ use Rattle.adc_machine.specs.Table.{AreSmall, IsSmall, IsSmallInput}
 use Rattle.dio_machine.specs.Table as ports
 use Rattle.dio_machine.specs.Table.{FitsDio, group_in}
 use Rattle.dio_machine.specs.declared.table.PortPins.{PortPins}
+use Rattle.mcu_machine.specs.Table as sections
+use Rattle.mcu_machine.specs.Table.{section_in, taken_if}
+use Rattle.mcu_machine.specs.declared.table.Section.{Section}
 use Rattle.spi_jobs.specs.declared.channel.Channel.{Channel}
 use Rattle.spi_machine.specs.Table as serial
 use Rattle.spi_machine.specs.Table.{channel_in, taken_channel}
+use Rattle.audit_clock.specs.Sections.{AreShort}
 use Rattle.audit_serial.specs.Short.{IsShort}
 
 -- ---- converters: their numbers have room in a byte
@@ -87,3 +93,26 @@ pub short_channels : (c : Config) → IsValid c → IsShort (serial.table_of c.s
 short_channels c v =
     let r : (n : ℕ) (k : Channel) → channel_in c.spi.channels n ≡ Some k → k.length ≤ 64 = λ n k. found_channel c.spi.channels n k v.spi.tables.channels.each in
     one_is (λ (k : Channel). k.length ≤ 64) (serial.table_of c.spi).channels (r 0, (r 1, (r 2, (r 3, (r 4, (r 5, (r 6, (r 7, (r 8, (r 9, (r 10, (r 11, (r 12, (r 13, (r 14, (r 15, tt))))))))))))))))
+
+-- ---- RAM sections: none has more than 64 words
+
+few_section : (o : Option McuRamSection) (x : Section) → ((y : McuRamSection) → o ≡ Some y → y.size ≤ 64) → taken_if o ≡ Some x → x.size ≤ 64
+few_section None x each e = absurd (cc)
+few_section (Some y) x each e =
+    let at : sections.taken y ≡ x = cc in
+    subst (λ (z : Section). z.size ≤ 64) at (each y refl)
+
+configured_section : (c : Config) → IsValid c → (n : ℕ) (y : McuRamSection) → slice_get c.mcu.ram_sections n ≡ Some y → y.size ≤ 64
+configured_section c v n y e =
+    let xs = c.mcu.ram_sections in
+    subst (λ (z : McuRamSection). z.size ≤ 64) (get_or_from_slice_get xs n y y e) (v.mcu.tables.ram_sections.each n y (slice_get_within xs n y e)).size.most
+
+pub short_sections : (c : Config) → IsValid c → AreShort (sections.table_of c.mcu)
+short_sections c v n x e = by (nat_lt n 8) e
+  where
+    r : (m : ℕ) (x : Section) → section_in c.mcu.ram_sections m ≡ Some x → x.size ≤ 64
+    r m x f = few_section (slice_get c.mcu.ram_sections m) x (configured_section c v m) f
+
+    by : (q : Bool) → (if q then slice_index_or (sections.table_of c.mcu).sections n None else None) ≡ Some x → x.size ≤ 64
+    by true f = one_is (λ (s : Section). s.size ≤ 64) (sections.table_of c.mcu).sections (r 0, (r 1, (r 2, (r 3, (r 4, (r 5, (r 6, (r 7, tt)))))))) n x f
+    by false f = absurd (cc)

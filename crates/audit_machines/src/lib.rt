@@ -6,6 +6,7 @@ mod all;
 mod around_pins;
 mod happening;
 mod hosted;
+mod hosting;
 mod machines;
 mod pin_calls;
 mod request;

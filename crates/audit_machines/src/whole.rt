@@ -2,10 +2,14 @@ ghost use Rattle.std.specs.Prelude.{◌≡◌, ℕ, IfOk};
 ghost use Rattle.adc_machine.specs.Table.{AreSmall};
 ghost use Rattle.chip_model.specs.Wiring.{wiring_of, output_in};
 ghost use Rattle.dio_machine.specs.Table as ports;
+ghost use Rattle.mcu_machine.specs.Machine as clock;
+ghost use Rattle.mcu_machine.specs.Table as sections;
 ghost use Rattle.pwm_machine.specs.Table as pwm;
 ghost use Rattle.run_model.specs.World.{world_start};
 ghost use Rattle.audit_base.specs.Outside.{IsWorld};
 ghost use Rattle.audit_base.specs.declared.outside.Outside as outside;
+ghost use Rattle.audit_clock.specs.ClockStands.{StandsFor};
+ghost use Rattle.audit_clock.specs.Sections.{AreShort};
 ghost use Rattle.audit_machines.specs.Happens as spec;
 ghost use Rattle.audit_machines.specs.System.{all_tables, first_states, tables_of};
 
@@ -63,13 +67,24 @@ fn outputs_of(config: &Config) -> [Option<u32>; 8]
     ]
 }
 
+/// The machine of clock, RAM and resets after power on.
+fn clock_part(config: &Config) -> Clock
+    requires { AreShort (sections.table_of config.now.mcu) }
+    ensures is { StandsFor result clock.first_state }
+    ensures driver { result.driver ≡ sections.table_of config.now.mcu }
+{
+    let table = McuTable::new(config);
+    Clock::new(table)
+}
+
 /// The modules that have a state, after power on.
 fn state_parts<S: Part + Drop>(
     alloc: Global,
     config: &Config,
     serial: S,
 ) -> Result<StateParts<S>, AllocError>
-    requires { AreSmall config.now.adc }
+    requires small { AreSmall config.now.adc }
+    requires short { AreShort (sections.table_of config.now.mcu) }
     ensures stands { (s : S.State) → S.stands serial s → IfOk result (λ m. ⟦<StateParts<S> as Part>⟧.stands m (first_states s)) }
     ensures fits { (o : outside.Outside) → S.fits serial o → IfOk result (λ m. ⟦<StateParts<S> as Part>⟧.fits m o) }
     ensures table { IfOk result (λ m. ⟦<StateParts<S> as Part>⟧.table m ≡ tables_of config.now (S.table serial)) }
@@ -78,7 +93,7 @@ fn state_parts<S: Part + Drop>(
     Ok(Both {
         first: Both {
             first: Both {
-                first: Clock::new(McuTable::new(config)),
+                first: clock_part(config),
                 second: Watchdog::new(WdgTable::new(config)),
             },
             second: Both {
@@ -106,6 +121,7 @@ pub(crate) fn after_power_on<S: Part + Drop>(
     serial: S,
 ) -> Result<Machines<Hosted<StateParts<S>>>, AllocError>
     requires small { AreSmall config.now.adc }
+    requires short { AreShort (sections.table_of config.now.mcu) }
     requires ports { ports.FitsDio (ports.table_of config.now.port config.now.dio) }
     requires fits { (o : outside.Outside) → S.fits serial o }
     ensures stands { (s : S.State) → S.stands serial s → IfOk result (λ m. ⟦<Hosted<StateParts<S>> as Part>⟧.stands m.modules (first_states s)) }

@@ -1,2 +1,4 @@
 pub mod Bounds
+pub mod DutyLaws
+pub mod Masks
 pub mod Times

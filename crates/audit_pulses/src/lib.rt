@@ -3,11 +3,14 @@
 #![tactic(auto)]
 
 mod checks;
+mod duties;
+mod may;
 mod output;
 mod part;
 mod pulse;
 mod pulses;
 mod regime;
+mod subject;
 
 pub use output::Output;
 pub use part::PulsesState;

@@ -61,6 +61,13 @@ impl Pulses {
         self.latest = now;
     }
 
+    /// What is configured.
+    pub fn table(&self) -> &PwmTable
+        ensures { result.now ≡ self.now.driver }
+    {
+        &self.driver
+    }
+
     /// A channel.
     fn channel(&self, number: u32) -> Pulse
         ensures is { pulse_of result ≡ spec.pulse_at self.now.state number }

@@ -1,4 +1,5 @@
 pub mod ByNumber
+pub mod Framed
 pub mod Freed
 pub mod Indexed
 pub mod Kept
@@ -6,5 +7,6 @@ pub mod QueueLaws
 pub mod ResultLaws
 pub mod Sends
 pub mod Terms
+pub mod Walks
 pub mod Whole
 pub mod WordLists

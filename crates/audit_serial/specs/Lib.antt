@@ -2,6 +2,7 @@ pub mod Carried
 pub mod Flows
 pub mod Grown
 pub mod Members
+pub mod Polled
 pub mod Queued
 pub mod Short
 pub mod Stands

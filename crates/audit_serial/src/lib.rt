@@ -1,5 +1,5 @@
 //! The machine of the serial units as a program: what each call, each start, each serving, each fill and fault and a reset
-//! do to its state, and what they tell.
+//! do to its state, and what they tell; and what its frames are judged by.
 #![tactic(auto)]
 
 mod buffers;
@@ -7,6 +7,7 @@ mod carrying;
 mod channels;
 mod checks;
 mod configured;
+mod may;
 mod numbered;
 mod options;
 mod part;
@@ -15,6 +16,7 @@ mod queue;
 mod results;
 mod run;
 mod serials;
+mod subject;
 mod units;
 mod wire;
 mod words;

@@ -1,4 +1,4 @@
-ghost use Rattle.std.specs.Prelude.{◌≡◌, ◌<◌, ◌≤◌, ◌+◌, ◌^◌, ◌∷◌, [], ℕ, List, None, Some, IfOk, is_some, option_map, if◌then◌else◌};
+ghost use Rattle.std.specs.Prelude.{◌≡◌, ◌<◌, ◌≤◌, ◌+◌, ◌^◌, ◌&&◌, ◌∷◌, [], ℕ, List, None, Some, IfOk, is_some, not, option_map, if◌then◌else◌};
 ghost use Rattle.det_errors.specs.Reports as errors;
 ghost use Rattle.mcal_base.specs.declared.directive.Order.TheVariants as order;
 ghost use Rattle.mcal_base.specs.declared.directive.Reason.{Reason};
@@ -141,6 +141,13 @@ impl Serials {
         }
     }
 
+    /// What is configured.
+    pub fn table(&self) -> &SpiTable
+        ensures { result.now ≡ self.now.configured.table }
+    {
+        self.configured.table()
+    }
+
     /// How many times pending sequences changed.
     pub fn events(&self) -> u32
         ensures { result ≡ self.now.queue.events }
@@ -224,6 +231,23 @@ impl Serials {
             Some(unit) => self.next_on(unit).is_some(),
             None => false,
         }
+    }
+
+    /// Whether a unit sends for calls alone.
+    fn sends_for_calls(&self, unit: Unit) -> bool
+        ensures { result ≡ spec.is_sync_number self.now.configured.table (spec.number_of unit) }
+    {
+        match number_of(unit) {
+            Some(unit) => is_sync(&self.configured.table, unit),
+            None => false,
+        }
+    }
+
+    /// Whether a unit may start its next job, for no call.
+    pub fn starts_next(&self, unit: Unit) -> bool
+        ensures { result ≡ (not (spec.is_sync_number self.now.configured.table (spec.number_of unit)) && is_some (spec.next_at self.now.configured.table (state_of self.now) (spec.number_of unit))) }
+    {
+        !self.sends_for_calls(unit) && self.startable(unit)
     }
 
     /// Whether a line is a unit's that may start a job.

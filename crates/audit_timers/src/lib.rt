@@ -3,7 +3,9 @@
 
 mod checks;
 mod course;
+mod may;
 mod part;
+mod subject;
 mod timers;
 mod timing;
 

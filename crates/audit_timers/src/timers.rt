@@ -72,6 +72,13 @@ impl Timers {
         }
     }
 
+    /// What is configured.
+    pub fn table(&self) -> &GptTable
+        ensures { result.now ≡ self.now.driver }
+    {
+        &self.driver
+    }
+
     /// A channel.
     fn channel(&self, number: u32) -> Timing
         ensures is { timing_of result ≡ spec.channel_at self.now.state number }

@@ -2,6 +2,7 @@ ghost use Rattle.std.specs.Prelude.{◌≡◌, ◌≢◌, ℕ, ◌<◌, ◌≤�
 ghost use Rattle.mcal_base.specs.Bits.{has_bit, bit_of};
 ghost use Rattle.mcal_base.specs.declared.moves.Move.TheVariants.{Read, Write};
 ghost use Rattle.mcal_base.specs.declared.register.Reg.TheVariants.{SerialData};
+ghost use Rattle.chip_pulses.specs.Pulses.{level_at};
 ghost use Rattle.chip_model.specs.Chip.{power_on, port_of, flipped, next_word, register_of, after_read, has_device, word_begun, hung, after_write, word_of, value_of, chip_after, ticked, outside_at, levelled, filled, happened, CanHappen, expiry_of, ticks_for, wait_on, stall_of, reset_chip, flag_of, is_pending, is_masked, channel_from, output_at, pin_of};
 ghost use Rattle.mcal_base.specs.Reach.{CanApply};
 ghost use Rattle.chip_model.specs.Devices.{ComesIn, CallsRight};
@@ -545,6 +546,27 @@ impl Bus {
         ensures { result ≡ outgoing (unit_at self.now.serials unit) sent }
     {
         self.serials.outgoing(unit, sent)
+    }
+
+    /// The peripheral ticks of a tick of the oscillator.
+    pub fn rate(&self) -> u32
+        ensures { result ≡ self.now.clock.rate }
+    {
+        self.clock.rate()
+    }
+
+    /// The level of a pulse channel's output.
+    pub fn pulse_level(&self, channel: u32) -> bool
+        ensures { result ≡ level_at self.now.pulses channel }
+    {
+        self.pulses.level(channel)
+    }
+
+    /// The pin block.
+    pub fn pins(&self) -> &PinBlock
+        ensures { result.now ≡ self.now.pins }
+    {
+        &self.pins
     }
 
     /// The level of a pin.

@@ -1,5 +1,5 @@
 ghost use Rattle.std.specs.Prelude.{◌≡◌, Bool, List, ℕ, length, slice_index, slice_set, ◌<◌, ◌%◌, ◌^◌};
-ghost use Rattle.chip_units.specs.Pins.{fresh, bit_at, mode, is_pulse, level, latch, mode_named, ones_set, ones_clear, with_mode, after_write, flip, put, chosen, at_port};
+ghost use Rattle.chip_units.specs.Pins.{fresh, bit_at, is_out, mode, is_pulse, level, latch, mode_named, ones_set, ones_clear, with_mode, after_write, flip, put, chosen, at_port};
 
 use crate::bits::has;
 use mcal_base::{Config, PortPinMode, Reg};
@@ -86,10 +86,10 @@ impl PinBlock {
     pub fn flip(&mut self, pin: u32)
         ensures { self.new ≡ flip self.old pin }
     {
-        if !bit(&self.out, pin) {
+        if !self.is_out(pin) {
             return;
         }
-        if bit(&self.latches, pin) {
+        if self.latch(pin) {
             clear(&mut self.latches, pin / 32, place(pin));
         } else {
             set(&mut self.latches, pin / 32, place(pin));
@@ -106,16 +106,32 @@ impl PinBlock {
     pub fn pin(&self, pin: u32, outside: bool, pulse: Option<bool>) -> bool
         ensures { result ≡ level self.now pin outside pulse }
     {
-        if !bit(&self.out, pin) {
+        if !self.is_out(pin) {
             return outside;
         }
         match (self.mode(pin), pulse) {
             (PortPinMode::Pwm, Some(output)) => output,
-            _ => bit(&self.latches, pin),
+            _ => self.latch(pin),
         }
     }
 
-    fn mode(&self, pin: u32) -> PortPinMode
+    /// Whether a pin is out.
+    pub fn is_out(&self, pin: u32) -> bool
+        ensures { result ≡ is_out self.now pin }
+    {
+        bit(&self.out, pin)
+    }
+
+    /// The latch of a pin.
+    pub fn latch(&self, pin: u32) -> bool
+        ensures latch { result ≡ latch self.now pin }
+        ensures halves { length self.now.latches ≡ 2 }
+    {
+        bit(&self.latches, pin)
+    }
+
+    /// The mode of a pin.
+    pub fn mode(&self, pin: u32) -> PortPinMode
         ensures { result ≡ mode self.now pin }
     {
         if pin < PINS {

@@ -1,5 +1,5 @@
 ghost use Rattle.std.specs.Prelude.{◌≡◌, ◌≤◌};
-ghost use Rattle.gpt_driver.specs.Refinement.{whole_steps, counted};
+ghost use Rattle.gpt_machine.specs.Bounds.{whole_steps, counted};
 
 use crate::driver::GptDriver;
 use gpt_machine::{Call, call_of};

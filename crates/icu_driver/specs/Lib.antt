@@ -1,4 +1,3 @@
-pub mod Bounds
 pub mod Fits
 pub mod Refinement
 pub mod Terms

@@ -25,7 +25,7 @@ use Rattle.mcal_base.specs.declared.register.Reg.TheVariants.{EnableSet, EnableC
 use Rattle.run_model.specs.World.{World}
 use Rattle.run_model.specs.Outside.{StandsIn}
 use Rattle.service_outline.specs.Outline.{Refinement}
-use Rattle.icu_driver.specs.Bounds.{is_capture, is_own_word, is_stamp, icu_setting}
+use Rattle.icu_machine.specs.Bounds.{is_capture, is_own_word, is_stamp, icu_setting}
 use Rattle.icu_machine.specs.Edges.{Edge, is_same, begins_rising, values, newest}
 use Rattle.icu_machine.specs.Machine.{IcuState, Capture, Start, capture_at, index, is_full, stamp_in, moved}
 use Rattle.icu_machine.specs.Table.{channel_of, is_counter, is_timestamp, is_measurement}

@@ -37,6 +37,7 @@ pub use Rattle.mcal_base.specs.{declared.register.Reg.TheVariants.{CaptureCountH
 pub use Rattle.mcal_base.specs.{declared.register.Reg.TheVariants.{CaptureGateClear, CaptureGateSet, CaptureInfo}}
 pub use Rattle.mcal_base.specs.{declared.register.Reg.TheVariants.{CaptureMode, CapturePop, CaptureTimeHigh}}
 pub use Rattle.mcal_base.specs.{declared.register.Reg.TheVariants.{CaptureTimeLow, CaptureZero, EnableClear, EnableSet}}
+pub use Rattle.mcal_base.specs.There.{names_there}
 unfoldable pub use Rattle.mcal_base.specs.Bits.{at_bits}
 pub use Rattle.det_errors.proofs.RowLaws.{last_at, none_holds}
 pub use Rattle.det_errors.specs.Rows.{errors_of}
@@ -61,7 +62,7 @@ pub use Rattle.service_outline.specs.{Fuel.{Shortens}, Outline.{After, AreRight,
 pub use Rattle.service_outline.specs.{Outline.{error_in, Is_after, Is_before, Is_served, Is_serving, IsOutlined}}
 pub use Rattle.service_outline.specs.{Outline.{LooksRight, notices_in, Outlined, owes_nothing, RightAt, Served}}
 pub use Rattle.service_outline.specs.{Outline.{Serving, StepsTo, TellsAs}, Services.{entering}}
-pub use Rattle.service_outline.specs.{ShortServices.{driver_of}, There.{names_there}, WindowHistory.{HasRead}}
+pub use Rattle.service_outline.specs.{ShortServices.{driver_of}, WindowHistory.{HasRead}}
 pub use Rattle.service_outline.specs.{WindowHistory.{is_windowed, Plain, SeesTo, Starts, WindowHistory}}
 pub use Rattle.service_outline.specs.{declared.body.Looked.{Looked}, declared.body.Looked.TheVariants.{Goes, Refused}}
 pub use Rattle.service_outline.specs.{declared.body.Or.{Or}, declared.body.Or.TheVariants.{First, Second}}
@@ -70,9 +71,9 @@ pub use Rattle.service_outline.specs.{declared.done.Epilogue.{Epilogue}, declare
 pub use Rattle.service_outline.specs.laws.{Acts.{never_clean}, Either.{either_right}, Reports.{error_told}}
 pub use Rattle.service_outline.specs.laws.{Seen.{never_after, never_serving, plain_sees, sees_if}, Sweep.{each_but}}
 pub use Rattle.service_outline.specs.laws.{Words.{stored_other, stored_same, word_later}}
-pub use Rattle.icu_driver.specs.{Bounds.{channel_count, counted, halves, icu_may, is_capture, is_for_lines}}
+pub use Rattle.icu_machine.specs.Bounds.{channel_count, counted, halves, icu_may, is_capture, is_for_lines}
 pub use Rattle.icu_machine.specs.{Shown.{size_by, size_of}}
-pub use Rattle.icu_driver.specs.{Bounds.{is_own_word, is_stamp, may_name, may_write, steps_of}}
+pub use Rattle.icu_machine.specs.Bounds.{is_own_word, is_stamp, may_name, may_write, steps_of}
 pub use Rattle.icu_machine.specs.{Checks.{allows, answer_refused, channel_service, error_by, facts_by, has_notification}}
 pub use Rattle.icu_machine.specs.{Checks.{input_answer, reporting, service_of, suits}, Edges.{beginning_at}}
 pub use Rattle.icu_machine.specs.{Edges.{begins_rising, Edge, ends_rising, is_same, measures as measured_edges}}

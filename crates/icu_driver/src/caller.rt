@@ -1,5 +1,5 @@
 ghost use Rattle.std.specs.Prelude.{◌≡◌, ◌≤◌};
-ghost use Rattle.icu_driver.specs.Bounds as bounds;
+ghost use Rattle.icu_machine.specs.Bounds as bounds;
 
 use crate::driver::IcuDriver;
 use icu_machine::{Call, call_of};

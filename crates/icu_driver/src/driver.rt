@@ -3,7 +3,7 @@ ghost use Rattle.service_outline.specs.Done.{owed_error};
 ghost use Rattle.icu_machine.specs.Checks.{reporting};
 ghost use Rattle.icu_machine.specs.Classes.{class_of};
 ghost use Rattle.icu_machine.specs.Table as spec;
-ghost use Rattle.icu_driver.specs.Bounds as bounds;
+ghost use Rattle.icu_machine.specs.Bounds as bounds;
 
 use icu_machine::{Call, IcuTable};
 use mcal_base::{Config, ErrorName, ModuleName, Service};

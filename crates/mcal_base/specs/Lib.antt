@@ -5,3 +5,5 @@ pub mod Faults
 pub mod Layout
 pub mod Names
 pub mod Reach
+pub mod There
+pub mod laws

@@ -19,6 +19,7 @@ mod routine;
 mod service;
 mod short;
 mod standard;
+mod there;
 
 pub use answer::{Answer, Head, Words};
 pub use answer_name::AnswerName;

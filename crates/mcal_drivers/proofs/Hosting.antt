@@ -29,7 +29,7 @@ use Rattle.mcu_driver.specs.laws.Lawful.{mcu}
 use Rattle.wdg_machine.specs.Table as watchdog_table
 use Rattle.wdg_driver.specs.laws.Lawful as watchdog_laws
 use Rattle.wdg_driver.specs.laws.Lawful.{wdg}
-use Rattle.port_driver.specs.Bounds.{is_alone, port_setting, PinsAgree}
+use Rattle.port_machine.specs.Bounds.{is_alone, port_setting, PinsAgree}
 use Rattle.port_machine.specs.Machine.{Inverted, with_change}
 use Rattle.port_machine.specs.Table as pin_table
 use Rattle.port_machine.specs.declared.call.Call as pin_calls
@@ -44,7 +44,7 @@ use Rattle.dio_driver.specs.declared.frame.TheConstants.{NOWHERE}
 use Rattle.gpt_machine.specs.Table as timer_table
 use Rattle.gpt_driver.specs.laws.Lawful as timer_laws
 use Rattle.gpt_driver.specs.laws.Lawful.{gpt}
-use Rattle.pwm_driver.specs.Bounds.{OutputsAgree}
+use Rattle.pwm_machine.specs.Bounds.{OutputsAgree}
 use Rattle.pwm_machine.specs.Table as pulse_table
 use Rattle.pwm_driver.specs.laws.Lawful as pulse_laws
 use Rattle.icu_machine.specs.Table as capture_table

@@ -13,10 +13,10 @@ use Rattle.mcal_base.specs.declared.layout.Array.{Array}
 use Rattle.mcal_base.specs.declared.layout.Array.TheVariants.{Round, Stamps, Source, Destination}
 use Rattle.run_model.specs.Moment.{Moment}
 use Rattle.run_model.specs.World.{World}
-use Rattle.port_driver.specs.Bounds.{PinsAgree}
+use Rattle.port_machine.specs.Bounds.{PinsAgree}
 use Rattle.port_machine.specs.Machine as pins
 use Rattle.port_driver.specs.laws.Levels.{level_stands}
-use Rattle.pwm_driver.specs.Bounds.{OutputsAgree}
+use Rattle.pwm_machine.specs.Bounds.{OutputsAgree}
 use Rattle.pwm_machine.specs.Machine as pulses
 use Rattle.pwm_machine.specs.Table as pulse_table
 use Rattle.mcal_drivers.specs.Setting.{SystemState, SystemCall, seen_at, system_setting}

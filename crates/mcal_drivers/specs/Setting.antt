@@ -11,17 +11,17 @@ use Rattle.step_runner.specs.Union.{union_setting}
 use Rattle.step_runner.specs.declared.either.Either.{Either}
 use Rattle.step_runner.specs.declared.either.Either.TheVariants.{Left, Right}
 use Rattle.guest_runner.specs.Guest.{Guest, guest_setting}
-use Rattle.mcu_driver.specs.Bounds.{mcu_setting}
+use Rattle.mcu_machine.specs.Bounds.{mcu_setting}
 use Rattle.mcu_machine.specs.Machine.{McuState}
 use Rattle.mcu_machine.specs.Requests as clock_requests
 use Rattle.mcu_machine.specs.Table as clock_table
 use Rattle.mcu_machine.specs.declared.call.Call as clock_calls
-use Rattle.wdg_driver.specs.Bounds.{wdg_setting}
+use Rattle.wdg_machine.specs.Bounds.{wdg_setting}
 use Rattle.wdg_machine.specs.Machine.{WdgState}
 use Rattle.wdg_machine.specs.Requests as watchdog_requests
 use Rattle.wdg_machine.specs.Table as watchdog_table
 use Rattle.wdg_machine.specs.declared.call.Call as watchdog_calls
-use Rattle.port_driver.specs.Bounds.{port_setting}
+use Rattle.port_machine.specs.Bounds.{port_setting}
 use Rattle.port_machine.specs.Machine.{PortState, Put, Inverted, with_change}
 use Rattle.port_machine.specs.Machine as pins
 use Rattle.port_machine.specs.Requests as pin_requests
@@ -34,19 +34,19 @@ use Rattle.dio_machine.specs.Table as port_table
 use Rattle.dio_machine.specs.declared.call.Call as port_calls
 use Rattle.dio_machine.specs.declared.table.DioTable.{DioTable}
 use Rattle.dio_driver.specs.declared.frame.DioFrame.{DioFrame}
-use Rattle.gpt_driver.specs.Refinement.{gpt_setting}
+use Rattle.gpt_machine.specs.Bounds.{gpt_setting}
 use Rattle.gpt_machine.specs.Machine.{GptState}
 use Rattle.gpt_machine.specs.Requests as timer_requests
 use Rattle.gpt_machine.specs.Table as timer_table
 use Rattle.gpt_machine.specs.declared.call.Call as timer_calls
-use Rattle.pwm_driver.specs.Bounds.{pwm_setting}
+use Rattle.pwm_machine.specs.Bounds.{pwm_setting}
 use Rattle.pwm_machine.specs.Machine.{PwmState}
 use Rattle.pwm_machine.specs.Machine as pulses
 use Rattle.pwm_machine.specs.Requests as pulse_requests
 use Rattle.pwm_machine.specs.Table as pulse_table
 use Rattle.pwm_machine.specs.declared.call.Call as pulse_calls
 use Rattle.pwm_machine.specs.declared.table.PwmTable.{PwmTable}
-use Rattle.icu_driver.specs.Bounds.{icu_setting}
+use Rattle.icu_machine.specs.Bounds.{icu_setting}
 use Rattle.icu_machine.specs.Machine.{IcuState}
 use Rattle.icu_machine.specs.Requests as capture_requests
 use Rattle.icu_machine.specs.Table as capture_table

@@ -52,8 +52,9 @@ use Rattle.mcal_drivers.proofs.SoundConverters.{results_few, sound_converters}
 use Rattle.mcal_drivers.proofs.SoundSerial.{array_length, channel_words, sound_serial}
 use Rattle.mcal_drivers.proofs.Stamps.{size_few}
 use Rattle.mcal_system.specs.Runs.{RestingRun, moment_after, moment_at}
-use Rattle.mcal_system.specs.Words.{HasWords}
-use Rattle.mcal_system.specs.Wires.{pairs, told_by}
+use Rattle.shown_rows.specs.Places.{HasWords}
+use Rattle.mcal_system.specs.Wires.{told_by}
+use Rattle.shown_rows.specs.Boards.{pairs}
 use Rattle.mcal_system.specs.laws.Resting.{IsResting}
 use Rattle.mcal_system.proofs.WireTold.{words_told}
 

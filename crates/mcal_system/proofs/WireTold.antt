@@ -37,8 +37,9 @@ use Rattle.spi_machine.specs.Transfers.{shown}
 use Rattle.mcal_system.specs.Runs.{moment_after}
 use Rattle.mcal_drivers.specs.Setting.{SystemState, SystemCall, system_setting, call_of}
 use Rattle.mcal_drivers.specs.Shows.{wire_at}
-use Rattle.mcal_system.specs.Wires.{Wire, untold, exchange, with_step, with_said, with_all, told_by, pairs}
-use Rattle.mcal_system.specs.declared.wires.Exchange.{Exchange}
+use Rattle.mcal_system.specs.Wires.{Wire, untold, exchange, with_step, with_said, with_all, told_by}
+use Rattle.shown_rows.specs.Boards.{pairs}
+use Rattle.shown_rows.specs.declared.shown.Exchange.{Exchange}
 use Rattle.mcal_drivers.proofs.Growing.{step_grows}
 use Rattle.mcal_drivers.proofs.Wordless.{system_wired}
 

@@ -15,6 +15,7 @@ use Rattle.mcal_drivers.specs.Drivers.{drivers_of}
 use Rattle.mcal_drivers.specs.Frames.{SystemFrame}
 use Rattle.mcal_drivers.specs.declared.drivers.Drivers.{Drivers}
 use Rattle.mcal_drivers.specs.Setting.{SystemState, SystemCall, system_setting, call_of}
+use Rattle.shown_rows.specs.Boards.{Board}
 
 -- the most steps of a run
 abbrev pub most_steps : ℕ
@@ -66,6 +67,10 @@ resting r = record { config = r.config; script = r.script; devices = r.devices; 
 -- the moment to which it has come
 abbrev pub moment_at : RestingRun → Moment SystemState SystemCall
 moment_at r = moment_after r.devices r.config r.script r.entries
+
+-- what is shown of it
+abbrev pub board_of : RestingRun → Board
+board_of r = record { config = r.config; world = (moment_at r).world; state = (moment_at r).state }
 
 -- a directive leaves the configuration, the script and the number of devices
 pub record IsSameRun (before after : SystemRun) : Type 0 where

@@ -1,12 +1,12 @@
 -- What a journal tells of the wire of a serial unit since the last reset: each word that was written to it, and what
 -- came in with the word, by the width that the unit had.
-use Rattle.std.specs.Prelude.{ℕ, ◌==◌, ◌++◌, if◌then◌else◌, List, [], ◌∷◌, map}
+use Rattle.std.specs.Prelude.{ℕ, ◌==◌, ◌++◌, if◌then◌else◌, List, [], ◌∷◌}
 use Rattle.chip_units.specs.Serials.{masked, refused}
 use Rattle.mcal_base.specs.declared.moves.Move.{Move}
 use Rattle.mcal_base.specs.declared.moves.Move.TheVariants.{Write}
 use Rattle.mcal_base.specs.declared.register.Reg.TheVariants.{SerialWidth, SerialData}
 use Rattle.run_model.specs.Entry.{Entry, Said, Resets, Steps}
-use Rattle.mcal_system.specs.declared.wires.Exchange.{Exchange}
+use Rattle.shown_rows.specs.declared.shown.Exchange.{Exchange}
 
 -- The unit's width, and the words so far.
 pub record Wire : Type 0 where
@@ -41,7 +41,3 @@ with_all u (e ∷ es) t = with_all u es (with_said u e.said t)
 -- the words that a journal tells of
 abbrev pub told_by : (unit : ℕ) → List Entry → List Exchange
 told_by u es = (with_all u es untold).words
-
--- as a machine's wire has them
-abbrev pub pairs : List Exchange → List (ℕ × ℕ)
-pairs xs = map (λ (x : Exchange). (x.sent, x.received)) xs

@@ -1,15 +1,16 @@
 ghost use Rattle.std.specs.Prelude.{◌≡◌};
 ghost use Rattle.std.specs.Option.{option_map};
 ghost use Rattle.adc_machine.specs.Words.{buffer_number};
+ghost use Rattle.mcal_system.specs.Runs.{board_of};
 
-use crate::shown::{ShownRun, Words};
-use crate::wires::{Exchange, told_by};
+use crate::wires::told_by;
 use adc_driver::AdcDriver;
 use adc_machine::ResultBuffer;
 use chip_model::Bus;
 use icu_driver::IcuDriver;
 use mcal_base::{Config, Directive};
 use run_model::Journal;
+use shown_rows::{Exchange, ShownBoard, Words};
 use spi_driver::SpiDriver;
 use spi_jobs::Channel;
 use std::alloc::{AllocError, Global};
@@ -40,8 +41,8 @@ impl<'a> Model for AtRest<'a> {
     ghost invariant = { λ s. IsResting s.config.now s.script.now s.devices s.journal.now.entries s.bus.now × AreDrivers s.config.now s.captures.now s.converters.now s.serial.now };
 }
 
-impl ShownRun for AtRest<'_> {
-    ghost resting = { λ run. run };
+impl ShownBoard for AtRest<'_> {
+    ghost board = { λ run. board_of run };
 
     fn config(&self) -> &Config {
         self.config

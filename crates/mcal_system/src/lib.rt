@@ -2,13 +2,10 @@
 #![tactic(auto)]
 
 mod at_rest;
-mod shown;
 mod system;
 mod wires;
 
 pub use at_rest::AtRest;
 pub use mcal_drivers::{Drivers, Frame};
 pub use script_runner::TooLong;
-pub use shown::{ShownRun, Words};
 pub use system::{MOST_STEPS, System};
-pub use wires::Exchange;

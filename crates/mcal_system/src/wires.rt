@@ -5,34 +5,24 @@ ghost use Rattle.mcal_system.specs.Wires as spec;
 
 use mcal_base::{Move, Reg};
 use run_model::{Journal, What};
+use shown_rows::Exchange;
 use std::alloc::{AllocError, Global};
 use std::marker::Model;
 
 /// The number that stands for the word that comes in with a refused exchange.
 const REFUSED: u32 = 65_536;
 
-/// A word that was sent on a serial unit, and what came in with it.
-#[derive(Clone, Copy)]
-pub struct Exchange {
-    /// The word, masked by the unit's width.
-    pub sent: u32,
-    /// The word that came in, masked too, and 65,536 where the device refused the exchange.
-    pub received: u32,
-}
-
-impl Exchange {
-    /// What the wire shows of a word that is sent, by the unit's width.
-    fn of(width: u32, sent: u32, received: u32) -> Exchange
-        ensures { result ≡ spec.exchange width sent received }
-    {
-        Exchange {
-            sent: masked(width, sent),
-            received: if received == REFUSED {
-                REFUSED
-            } else {
-                masked(width, received)
-            },
-        }
+/// What the wire shows of a word that is sent, by the unit's width.
+fn exchange(width: u32, sent: u32, received: u32) -> Exchange
+    ensures { result ≡ spec.exchange width sent received }
+{
+    Exchange {
+        sent: masked(width, sent),
+        received: if received == REFUSED {
+            REFUSED
+        } else {
+            masked(width, received)
+        },
     }
 }
 
@@ -77,7 +67,7 @@ impl Told {
                 Ok(())
             }
             Move::Write(Reg::SerialData(number), sent) if number == unit => {
-                self.words.push(Exchange::of(self.width, sent, received))?;
+                self.words.push(exchange(self.width, sent, received))?;
                 Ok(())
             }
             _ => Ok(()),

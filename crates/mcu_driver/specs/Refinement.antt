@@ -7,7 +7,7 @@ use Rattle.chip_units.specs.declared.clock.Pll as chips
 use Rattle.run_model.specs.World.{World}
 use Rattle.run_model.specs.Frame.{Called}
 use Rattle.service_outline.specs.Services.{ReservedBy, SharedRefinement}
-use Rattle.mcu_driver.specs.Bounds.{owns, mcu_setting}
+use Rattle.mcu_machine.specs.Bounds.{owns, mcu_setting}
 use Rattle.mcu_machine.specs.Machine.{Pll, McuState, ram_at}
 use Rattle.mcu_machine.specs.Table.{section_of, is_within}
 use Rattle.mcu_machine.specs.declared.call.Call.{Call}

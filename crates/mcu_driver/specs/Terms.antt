@@ -24,6 +24,8 @@ pub use Rattle.mcal_base.specs.{declared.register.Reg.TheVariants.{CaptureTimeLo
 pub use Rattle.mcal_base.specs.{declared.register.Reg.TheVariants.{ConverterAbort, EnableClear, EnableSet, PinFlip}}
 pub use Rattle.mcal_base.specs.{declared.register.Reg.TheVariants.{PulseCommit, PulseIdle, Ram, ResetReason}}
 pub use Rattle.mcal_base.specs.{declared.register.Reg.TheVariants.{ResetRequest, TimerHigh, TimerLow}}
+pub use Rattle.mcal_base.specs.There.{names_there}
+pub use Rattle.mcal_base.specs.laws.There.{move_there}
 pub use Rattle.det_errors.proofs.RowLaws.{none_holds}
 pub use Rattle.det_errors.specs.Rows.{errors_of, first_error}
 pub use Rattle.chip_units.specs.Clock.{Clock as ClockBlock, is_locked as locked_in, is_locked_at, number_of, ticked}
@@ -46,7 +48,7 @@ pub use Rattle.service_outline.specs.{FrameHistory.{IsThisFrame}, Fuel.{Shortens
 pub use Rattle.service_outline.specs.{Services.{AllLet, AreLong, AreServices, AssertedAt, Beside, Decides, IsBasis}}
 pub use Rattle.service_outline.specs.{Services.{KeepsMask, LongBodies, mark_of, MayCome, place_at, PointAssertion}}
 pub use Rattle.service_outline.specs.{Services.{ReservedBy, Right, Services, services_driver, TurnsTo, Within, Works}}
-pub use Rattle.service_outline.specs.{Sweeping.{sweep, Sweeping}, There.{names_there}, WindowHistory.{is_windowed}}
+pub use Rattle.service_outline.specs.{Sweeping.{sweep, Sweeping}, WindowHistory.{is_windowed}}
 pub use Rattle.service_outline.specs.{WindowHistory.{Plain}, declared.body.Looked.{Looked}}
 pub use Rattle.service_outline.specs.{declared.body.Looked.TheVariants.{Goes, Refused}, declared.body.Or.{Or}}
 pub use Rattle.service_outline.specs.{declared.body.Or.TheVariants.{First, Second}, declared.done.BodyTaken.{BodyTaken}}
@@ -58,12 +60,12 @@ pub use Rattle.service_outline.specs.{declared.sweep.Place.TheVariants.{Opens}, 
 pub use Rattle.service_outline.specs.laws.{Acts.{never_clean}, Both.{both_right}, Duties.{no_duties, no_units}}
 pub use Rattle.service_outline.specs.laws.{Reports.{error_told}, Seen.{free_windows}, ShortServices.{plain_makes}}
 pub use Rattle.service_outline.specs.laws.{ShortServices.{plain_turns}, StepKinds.{or_true}, Sweeping.{sweep_right}}
-pub use Rattle.service_outline.specs.laws.{There.{move_there}, Words.{fills_there, stored_other, stored_same}}
+pub use Rattle.service_outline.specs.laws.Words.{fills_there, stored_other, stored_same}
 pub use Rattle.service_outline.specs.laws.{Words.{stores_in, word_apart, word_later}}
 pub use Rattle.mcu_machine.specs.{Classes.{class_of}}
-pub use Rattle.mcu_driver.specs.{Bounds.{call_steps, is_own_word, is_register, may, mcu_setting, owns}}
+pub use Rattle.mcu_machine.specs.Bounds.{call_steps, is_own_word, is_register, may, mcu_setting, owns}
 pub use Rattle.mcu_machine.specs.{Checks.{answer_refused, error_by, facts_by, reporting, service_of}}
-pub use Rattle.mcu_driver.specs.{Bounds.{size_of}}
+pub use Rattle.mcu_machine.specs.Bounds.{size_of}
 pub use Rattle.mcu_machine.specs.{Machine.{acts_by, after_reset, clocked, distributed, filled, fills_with, happens}}
 pub use Rattle.mcu_machine.specs.{Machine.{is_locked, mcu_machine, McuState, Pll, ram_at, reason_name, status_name}}
 pub use Rattle.mcu_machine.specs.{Machine.{word_in, work}}

@@ -1,5 +1,5 @@
 ghost use Rattle.std.specs.Prelude.{◌≡◌, ◌≤◌};
-ghost use Rattle.mcu_driver.specs.Bounds as spec;
+ghost use Rattle.mcu_machine.specs.Bounds as spec;
 ghost use Rattle.mcu_machine.specs.Table.{FitsMcu, section_of};
 
 use crate::driver::McuDriver;

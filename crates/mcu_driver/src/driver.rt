@@ -2,7 +2,7 @@ ghost use Rattle.std.specs.Prelude.{◌≡◌};
 ghost use Rattle.service_outline.specs.Done.{owed_error};
 ghost use Rattle.mcu_machine.specs.Checks.{reporting};
 ghost use Rattle.mcu_machine.specs.Table as spec;
-ghost use Rattle.mcu_driver.specs.Bounds as bounds;
+ghost use Rattle.mcu_machine.specs.Bounds as bounds;
 
 use mcal_base::{Config, ErrorName, ModuleName, Service};
 use mcu_machine::McuTable;

@@ -8,7 +8,7 @@ use Rattle.mcal_base.specs.declared.config.port.PortPinMode.{PortPinMode}
 use Rattle.run_model.specs.World.{World}
 use Rattle.run_model.specs.Frame.{Called}
 use Rattle.service_outline.specs.Services.{ReservedBy, SharedRefinement}
-use Rattle.port_driver.specs.Bounds.{owns, port_setting}
+use Rattle.port_machine.specs.Bounds.{owns, port_setting}
 use Rattle.port_machine.specs.Machine.{PortState, pin_at, is_out}
 use Rattle.port_machine.specs.Table.{pin_of}
 use Rattle.port_driver.specs.Writes.{wants, configured, rank_of}

@@ -26,6 +26,8 @@ pub use Rattle.mcal_base.specs.{declared.register.Reg.TheVariants.{ConverterAbor
 pub use Rattle.mcal_base.specs.{declared.register.Reg.TheVariants.{PinDirectionClear, PinDirectionSet, PinFlip}}
 pub use Rattle.mcal_base.specs.{declared.register.Reg.TheVariants.{PinMode, PinOutClear, PinOutSet, PortPut}}
 pub use Rattle.mcal_base.specs.{declared.register.Reg.TheVariants.{PulseCommit, PulseIdle, TimerHigh, TimerLow}}
+pub use Rattle.mcal_base.specs.There.{names_there}
+pub use Rattle.mcal_base.specs.laws.There.{move_there}
 pub use Rattle.det_errors.proofs.RowLaws.{none_holds}
 pub use Rattle.det_errors.specs.Rows.{errors_of}
 pub use Rattle.chip_units.proofs.WriteLaws.{bit_at-clear, bit_at-set, clear-spared, set-spared}
@@ -49,7 +51,7 @@ pub use Rattle.service_outline.specs.{Services.{AreServices, AssertedAt, Beside,
 pub use Rattle.service_outline.specs.{Services.{MakesWrites, mark_of, owners, place_at, PointAssertion, ReservedBy}}
 pub use Rattle.service_outline.specs.{Services.{Right, Services, services_driver, Steady, TurnsTo, with_holds, Within}}
 pub use Rattle.service_outline.specs.{Services.{WritesOn}, Short.{short_gave, short_left, short_move}, Sweep.{place_of}}
-pub use Rattle.service_outline.specs.{Sweeping.{sweep, Sweeping}, There.{names_there}, WindowHistory.{is_windowed}}
+pub use Rattle.service_outline.specs.{Sweeping.{sweep, Sweeping}, WindowHistory.{is_windowed}}
 pub use Rattle.service_outline.specs.{WindowHistory.{Plain}, declared.body.Looked.{Looked}}
 pub use Rattle.service_outline.specs.{declared.body.Looked.TheVariants.{Goes, Refused}, declared.body.Or.{Or}}
 pub use Rattle.service_outline.specs.{declared.body.Or.TheVariants.{First, Second}, declared.done.BodyTaken.{BodyTaken}}
@@ -60,13 +62,13 @@ pub use Rattle.service_outline.specs.{declared.sweep.Sweep.{Sweep}}
 pub use Rattle.service_outline.specs.laws.{Acts.{never_clean}, Both.{both_right}, Duties.{made_here, made_on, no_units}}
 pub use Rattle.service_outline.specs.laws.{Duties.{none_on, none_unless}, Lawful.{services_lawful}}
 pub use Rattle.service_outline.specs.laws.{Reports.{error_told}, Seen.{free_windows}, StepKinds.{or_true}}
-pub use Rattle.service_outline.specs.laws.{Sweep.{each_but, next_by}, Sweeping.{sweep_right}, There.{move_there}}
+pub use Rattle.service_outline.specs.laws.{Sweep.{each_but, next_by}, Sweeping.{sweep_right}}
 pub use Rattle.service_outline.specs.laws.{Words.{fills_there, stored_same, stores_in, word_apart, word_later}}
 pub use Rattle.port_machine.specs.{Classes.{class_of}}
-pub use Rattle.port_driver.specs.{Bounds.{call_steps, is_alone, is_guests, is_of_init, is_own_word, is_register}}
-pub use Rattle.port_driver.specs.{Bounds.{latch_duty, may, must_by, owns, pin_count, PinsAgree, port_may, port_setting}}
+pub use Rattle.port_machine.specs.Bounds.{call_steps, is_alone, is_guests, is_of_init, is_own_word, is_register}
+pub use Rattle.port_machine.specs.Bounds.{latch_duty, may, must_by, owns, pin_count, PinsAgree, port_may, port_setting}
 pub use Rattle.port_machine.specs.{Checks.{error_by, facts_by, has_mode, reporting}}
-pub use Rattle.port_driver.specs.{Bounds.{puts_latch, writes_latches}}
+pub use Rattle.port_machine.specs.Bounds.{puts_latch, writes_latches}
 pub use Rattle.port_machine.specs.{Checks.{service_of}, Machine.{acts_by, changed, first_state, happens, initial}}
 pub use Rattle.port_machine.specs.{Machine.{is_out, is_pulse, level_at, pin_at, PinState, port_machine, PortState}}
 pub use Rattle.port_machine.specs.{Machine.{refreshed, work}}
@@ -88,4 +90,5 @@ pub use Rattle.port_driver.specs.{declared.service.pin.PinBody.TheVariants.{Dire
 pub use Rattle.port_driver.specs.{declared.service.refresh.RefreshBody.{RefreshBody}}
 pub use Rattle.port_driver.specs.{declared.words.TheConstants.{STATE}, declared.writes.Side.{Side}}
 pub use Rattle.port_driver.specs.{declared.writes.Side.TheVariants.{Directions, Fixed, Levels}}
-unfoldable pub use Rattle.port_driver.specs.{Bounds.{latch_duties}, Writes.{counted, with_rank}}
+unfoldable pub use Rattle.port_machine.specs.Bounds.{latch_duties}
+unfoldable pub use Rattle.port_driver.specs.Writes.{counted, with_rank}

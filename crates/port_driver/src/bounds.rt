@@ -2,7 +2,7 @@
 
 ghost use Rattle.std.specs.Prelude.{◌≡◌, ◌≤◌, sum_by};
 ghost use Rattle.run_model.specs.Frame.{Called, Entered};
-ghost use Rattle.port_driver.specs.Bounds as spec;
+ghost use Rattle.port_machine.specs.Bounds as spec;
 
 use crate::driver::PortDriver;
 use port_machine::{Call, Pin};

@@ -1,6 +1,6 @@
 ghost use Rattle.std.specs.Prelude.{◌≡◌};
 ghost use Rattle.port_machine.specs.Table as spec;
-ghost use Rattle.port_driver.specs.Bounds as bounds;
+ghost use Rattle.port_machine.specs.Bounds as bounds;
 
 use mcal_base::{Config, ModuleName};
 use port_machine::PortTable;

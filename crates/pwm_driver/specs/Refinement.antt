@@ -14,7 +14,7 @@ use Rattle.run_model.specs.Outside.{StandsIn}
 use Rattle.run_model.specs.World.{World}
 use Rattle.service_outline.specs.Services.{ReservedBy, SharedRefinement}
 use Rattle.pwm_machine.specs.Units.{IsBegun, output_in, chosen}
-use Rattle.pwm_driver.specs.Bounds.{is_pulse, is_own_word, pwm_setting}
+use Rattle.pwm_machine.specs.Bounds.{is_pulse, is_own_word, pwm_setting}
 use Rattle.pwm_machine.specs.Machine.{Pulse, PwmState, pulse_at}
 use Rattle.pwm_machine.specs.Output.{Idle, absolute}
 use Rattle.pwm_machine.specs.Table.{channel_of, polarity_of}

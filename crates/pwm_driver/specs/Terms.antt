@@ -23,6 +23,8 @@ pub use Rattle.mcal_base.specs.{declared.register.Reg.TheVariants.{ClockRate, Co
 pub use Rattle.mcal_base.specs.{declared.register.Reg.TheVariants.{PinFlip, PulseCommit, PulseDuty, PulseEdges}}
 pub use Rattle.mcal_base.specs.{declared.register.Reg.TheVariants.{PulseFlags, PulseIdle, PulseOut, PulsePeriod}}
 pub use Rattle.mcal_base.specs.{declared.register.Reg.TheVariants.{PulsePolarity, ResetRequest, SerialData, TimerLow}}
+pub use Rattle.mcal_base.specs.There.{names_there}
+pub use Rattle.mcal_base.specs.laws.There.{move_there}
 pub use Rattle.det_errors.proofs.RowLaws.{none_holds}
 pub use Rattle.det_errors.specs.Rows.{errors_of}
 pub use Rattle.chip_pulses.proofs.FlagLaws.{Begun, changes-output, output-changes}
@@ -56,7 +58,7 @@ pub use Rattle.service_outline.specs.{Services.{over, place_at, PointAssertion, 
 pub use Rattle.service_outline.specs.{Services.{Steady, TurnsMask, TurnsTo, with_holds, Within, WritesOn}}
 pub use Rattle.service_outline.specs.{Short.{short_gave, short_left, short_move}, ShortServices.{above, AsksNone}}
 pub use Rattle.service_outline.specs.{ShortServices.{short}, Sweep.{place_of}, Sweeping.{sweep, Sweeping}}
-pub use Rattle.service_outline.specs.{There.{names_there}, WindowHistory.{Acted, Acting, is_windowed, Plain, Sees}}
+pub use Rattle.service_outline.specs.WindowHistory.{Acted, Acting, is_windowed, Plain, Sees}
 pub use Rattle.service_outline.specs.{WindowHistory.{SeesTo, Starts, WindowHistory}, declared.body.Looked.{Looked}}
 pub use Rattle.service_outline.specs.{declared.body.Looked.TheVariants.{Goes, Refused}, declared.body.Or.{Or}}
 pub use Rattle.service_outline.specs.{declared.body.Or.TheVariants.{First, Second}, declared.done.BodyTaken.{BodyTaken}}
@@ -69,11 +71,11 @@ pub use Rattle.service_outline.specs.laws.{Duties.{none_on, none_unless}, Lawful
 pub use Rattle.service_outline.specs.laws.{Reports.{error_told}, Seen.{begun_after, plain_sees, sees_if}}
 pub use Rattle.service_outline.specs.laws.{ShortServices.{plain_makes, plain_turns, short_right}, StepKinds.{asks_no}}
 pub use Rattle.service_outline.specs.laws.{StepKinds.{or_true}, Sweep.{each_but}, Sweeping.{sweep_right}}
-pub use Rattle.service_outline.specs.laws.{There.{move_there}, Words.{fills_there, stored_other, stored_same}}
+pub use Rattle.service_outline.specs.laws.Words.{fills_there, stored_other, stored_same}
 pub use Rattle.service_outline.specs.laws.{Words.{stores_in, word_apart, word_later}}
 pub use Rattle.pwm_machine.specs.{Classes.{class_of}}
-pub use Rattle.pwm_driver.specs.{Bounds.{commits_at, duty_of, idles_at, is_for_lines, is_own_word, is_pulse}}
-pub use Rattle.pwm_driver.specs.{Bounds.{may_name, may_write, must_by, pwm_may, pwm_setting, steps_of}}
+pub use Rattle.pwm_machine.specs.Bounds.{commits_at, duty_of, idles_at, is_for_lines, is_own_word, is_pulse}
+pub use Rattle.pwm_machine.specs.Bounds.{may_name, may_write, must_by, pwm_may, pwm_setting, steps_of}
 pub use Rattle.pwm_machine.specs.{Checks.{answer_refused, error_by, facts_by, has_notification, level_answer, reporting}}
 pub use Rattle.pwm_machine.specs.{Checks.{service_of}, Machine.{acts_by, channel_work, ended, first_state, forgotten}}
 pub use Rattle.pwm_machine.specs.{Machine.{happens, is_marked_by, is_notified, level_at, notes, Pulse, pulse_at}}
@@ -114,7 +116,7 @@ pub use Rattle.pwm_driver.specs.{declared.service.rest.RestBody.TheVariants.{Ask
 pub use Rattle.pwm_driver.specs.{declared.service.serve.ServeBody.{ServeBody}}
 pub use Rattle.pwm_driver.specs.{declared.service.serve.ServeBody.TheVariants.{Kinds}}
 pub use Rattle.pwm_driver.specs.{declared.words.TheConstants.{KINDS, LINES, STATE}}
-unfoldable pub use Rattle.pwm_driver.specs.Bounds.{duties}
+unfoldable pub use Rattle.pwm_machine.specs.Bounds.{duties}
 pub use Rattle.pwm_machine.specs.laws.Channels.{by_eight, channel_other}
 pub use Rattle.pwm_driver.specs.laws.Parts.{below_test, both_falling, both_other, both_rising}
 pub use Rattle.pwm_machine.specs.laws.Channels.{channel_same, known_within}

@@ -1,5 +1,5 @@
 ghost use Rattle.std.specs.Prelude.{◌≡◌, ◌≤◌};
-ghost use Rattle.pwm_driver.specs.Bounds as bounds;
+ghost use Rattle.pwm_machine.specs.Bounds as bounds;
 
 use crate::driver::PwmDriver;
 use mcal_base::{ModuleName, Request, Service};

@@ -1,11 +1,11 @@
 -- How many words are in transfer, over moves, hardware events and resets. A word in transfer comes from a step that begins one,
 -- and a wait ends one.
-use Rattle.std.proofs.Common.{◌≡◌, ℕ, zero, suc, ◌+◌, ◌-◌, ◌*◌, ◌<◌, ◌≤◌, Bool, true, false, cond, not, List, [], ◌∷◌, Option, Some, None, refl, sym, ◌∙◌, ap, subst, arith, add-one}
+use Rattle.std.proofs.Common.{◌≡◌, ℕ, zero, suc, ◌+◌, ◌-◌, ◌*◌, ◌<◌, ◌≤◌, Bool, true, false, cond, not, List, [], ◌∷◌, Option, Some, None, refl, ◌∙◌, ap, arith}
 use Rattle.std.specs.Prelude.{max, nat_le, if◌then◌else◌, slice_index_or, slice_set, ◌/◌}
 use Rattle.std.proofs.Math.Nat.{div-eq_of_lt, lt-div-mul-add}
 use Rattle.std.proofs.lemmas.Bool.Decides.{nat_tests}
 use Rattle.chip_units.specs.Serials as serials
-use Rattle.chip_units.specs.Serials.{Serials, is_busy, is_done, is_done_at, in_transfer, left_at, failing, faulted, acknowledged, begun, unit_at, with_unit, idle}
+use Rattle.chip_units.specs.Serials.{Serials, is_busy, is_done, in_transfer, left_at, failing, faulted, acknowledged, begun, unit_at, idle}
 use Rattle.chip_units.specs.declared.serial.Serial.{Serial}
 use Rattle.chip_units.specs.declared.serial.Word.{Word}
 use Rattle.chip_model.specs.Chip.{Chip, after_read, after_write, chip_after, happened, ticked, reset_chip, ticks_for, wait_on}

@@ -1,5 +1,5 @@
 -- Directives that move the hardware, show something or reset the chip.
-use Rattle.std.proofs.Common.{◌≡◌, ◌≢◌, ℕ, ◌+◌, ◌*◌, ◌<◌, ◌≤◌, ◌^◌, true, false, List, [], ◌∷◌, ◌++◌, length, Option, Some, None, refl, sym, ◌∙◌, ap, subst, arith, append-nil}
+use Rattle.std.proofs.Common.{◌≡◌, ◌≢◌, ℕ, ◌+◌, ◌*◌, ◌<◌, ◌≤◌, true, false, List, [], ◌∷◌, ◌++◌, length, Option, Some, None, refl, sym, ◌∙◌, ap, subst, arith, append-nil}
 use Rattle.std.specs.Prelude.{nat_le, nat_lt}
 use Rattle.std.proofs.lemmas.Bool.Decides.{nat_tests}
 use Rattle.chip_model.specs.Chip.{Chip, now_of, happened, reset_chip, CanHappen}
@@ -15,10 +15,10 @@ use Rattle.mcal_base.specs.declared.directive.Request.{Request}
 use Rattle.mcal_base.specs.declared.directive.Shown.{Shown}
 use Rattle.run_model.specs.Entry.{Entry, Stays, Happens, Resets, Written, written, words_of_order, is_happening}
 use Rattle.run_model.specs.Frame as frame
-use Rattle.run_model.specs.Follows.{Gives, Ticks, IsOne, HappensOnly, Shows}
+use Rattle.run_model.specs.Follows.{Gives, IsOne, HappensOnly, Shows}
 use Rattle.run_model.specs.Legal.{hardware_held}
 use Rattle.run_model.specs.Moment as moment
-use Rattle.run_model.specs.Moment.{Setting, Moment, Transition}
+use Rattle.run_model.specs.Moment.{Setting, Moment}
 use Rattle.run_model.specs.Script.{deeds_of, moved_by}
 use Rattle.run_model.specs.World.{World}
 use Rattle.step_runner.specs.Driver.{Driver, EndsBefore}

@@ -1,6 +1,6 @@
 -- How many serial units have a word in transfer.
-use Rattle.std.specs.Prelude.{ℕ, ◌+◌, Bool, cond, List, slice_index_or}
-use Rattle.chip_units.specs.Serials.{Serials, is_busy, idle}
+use Rattle.std.specs.Prelude.{ℕ, ◌+◌, cond, List, slice_index_or}
+use Rattle.chip_units.specs.Serials.{is_busy, idle}
 use Rattle.chip_units.specs.declared.serial.Serial.{Serial}
 use Rattle.chip_model.specs.Chip.{Chip}
 

@@ -5,7 +5,7 @@ ghost use Rattle.chip_model.specs.Chip.{now_of, CanHappen};
 ghost use Rattle.mcal_base.specs.declared.directive.Order.{Order};
 ghost use Rattle.mcal_base.specs.declared.directive.Reason.TheVariants.{Software};
 ghost use Rattle.run_model.specs.Legal.{hardware_held};
-ghost use Rattle.script_runner.specs.Scripts.{chip_for};
+ghost use Rattle.script_runner.specs.Course.{along};
 ghost use Rattle.script_runner.specs.Standing.{moment_of, Called, IsStanding, HasRoom, Obeyed, is_built, is_hardware, may_be_held, filled_by, GivenFits};
 
 use crate::caller::Caller;
@@ -22,17 +22,13 @@ fn move_hardware<M: Caller>(course: &RunSetup<M>, directive: &Directive, parts: 
     requires hardware { is_hardware directive.now.order ≡ true }
     requires built { is_built directive.now.order ≡ true }
     requires can { CanHappen parts.old.bus directive.now.order }
-    requires free { let d = M.spec course.now.driver in let calls = M.call_of course.now.driver in
-        let first = chip_for course.now.devices course.now.config course.now.script.now in
-        hardware_held d.setting (moment_of d first calls course.now.script.now parts.old.journal.entries)
-        directive.now.order ≡ None }
+    requires free { along M.spec M.call_of course.now (λ d first calls script.
+        hardware_held d.setting (moment_of d first calls script parts.old.journal.entries)
+        directive.now.order ≡ None) }
     requires room { HasRoom course.now.most parts.old.stack.steps 3 parts.old.bus parts.old.journal }
-    requires stands { let d = M.spec course.now.driver in let calls = M.call_of course.now.driver in
-        let first = chip_for course.now.devices course.now.config course.now.script.now in
-        IsStanding d first calls course.now.script.now parts.old.bus parts.old.stack.frames parts.old.journal.entries }
-    ensures { let d = M.spec course.now.driver in let calls = M.call_of course.now.driver in
-        let first = chip_for course.now.devices course.now.config course.now.script.now in
-        Obeyed d first calls course.now.script.now course.now.most directive.now.line directive.now.order
+    requires stands { along M.spec M.call_of course.now IsStanding parts.old.bus parts.old.stack.frames
+        parts.old.journal.entries }
+    ensures { along M.spec M.call_of course.now Obeyed course.now.most directive.now.line directive.now.order
         parts.old.bus parts.old.stack parts.old.journal parts.new.bus parts.new.stack parts.new.journal }
 {
     let _words = words_by(&directive.order);
@@ -55,12 +51,9 @@ pub(crate) fn obey_hardware<M: Caller>(
     requires free { may_be_held directive.now.order ≡ false }
     requires given { GivenFits directive.now.order parts.old.bus }
     requires room { HasRoom course.now.most parts.old.stack.steps 3 parts.old.bus parts.old.journal }
-    requires stands { let d = M.spec course.now.driver in let calls = M.call_of course.now.driver in
-        let first = chip_for course.now.devices course.now.config course.now.script.now in
-        IsStanding d first calls course.now.script.now parts.old.bus parts.old.stack.frames parts.old.journal.entries }
-    ensures { let d = M.spec course.now.driver in let calls = M.call_of course.now.driver in
-        let first = chip_for course.now.devices course.now.config course.now.script.now in
-        Obeyed d first calls course.now.script.now course.now.most directive.now.line directive.now.order
+    requires stands { along M.spec M.call_of course.now IsStanding parts.old.bus parts.old.stack.frames
+        parts.old.journal.entries }
+    ensures { along M.spec M.call_of course.now Obeyed course.now.most directive.now.line directive.now.order
         parts.old.bus parts.old.stack parts.old.journal parts.new.bus parts.new.stack parts.new.journal }
 {
     move_hardware(course, directive, parts)
@@ -76,12 +69,9 @@ pub(crate) fn obey_fill<M: Caller>(
     requires fits { (M.spec course.now.driver).fits }
     requires fill { filled_by directive.now.order ≡ Some channel }
     requires room { HasRoom course.now.most parts.old.stack.steps 3 parts.old.bus parts.old.journal }
-    requires stands { let d = M.spec course.now.driver in let calls = M.call_of course.now.driver in
-        let first = chip_for course.now.devices course.now.config course.now.script.now in
-        IsStanding d first calls course.now.script.now parts.old.bus parts.old.stack.frames parts.old.journal.entries }
-    ensures { let d = M.spec course.now.driver in let calls = M.call_of course.now.driver in
-        let first = chip_for course.now.devices course.now.config course.now.script.now in
-        Obeyed d first calls course.now.script.now course.now.most directive.now.line directive.now.order
+    requires stands { along M.spec M.call_of course.now IsStanding parts.old.bus parts.old.stack.frames
+        parts.old.journal.entries }
+    ensures { along M.spec M.call_of course.now Obeyed course.now.most directive.now.line directive.now.order
         parts.old.bus parts.old.stack parts.old.journal parts.new.bus parts.new.stack parts.new.journal }
 {
     match fill_held(&parts.stack, &course.driver, &parts.bus, channel) {
@@ -104,18 +94,14 @@ pub(crate) fn obey_detach<M: Caller>(
     requires detach { directive.now.order ≡ Order.Detach }
     requires hung { vec_len rack.old ≡ parts.old.bus.devices }
     requires room { HasRoom course.now.most parts.old.stack.steps 3 parts.old.bus parts.old.journal }
-    requires stands { let d = M.spec course.now.driver in let calls = M.call_of course.now.driver in
-        let first = chip_for course.now.devices course.now.config course.now.script.now in
-        IsStanding d first calls course.now.script.now parts.old.bus parts.old.stack.frames parts.old.journal.entries }
-    ensures obeyed { let d = M.spec course.now.driver in let calls = M.call_of course.now.driver in
-        let first = chip_for course.now.devices course.now.config course.now.script.now in
-        Obeyed d first calls course.now.script.now course.now.most directive.now.line directive.now.order
-        parts.old.bus parts.old.stack parts.old.journal parts.new.bus parts.new.stack parts.new.journal }
+    requires stands { along M.spec M.call_of course.now IsStanding parts.old.bus parts.old.stack.frames
+        parts.old.journal.entries }
+    ensures obeyed { along M.spec M.call_of course.now Obeyed course.now.most directive.now.line
+        directive.now.order parts.old.bus parts.old.stack parts.old.journal parts.new.bus parts.new.stack
+        parts.new.journal }
     ensures hung { vec_len rack.new ≡ parts.new.bus.devices }
-    ensures calls { let d = M.spec course.now.driver in let calls = M.call_of course.now.driver in
-        let first = chip_for course.now.devices course.now.config course.now.script.now in
-        Called d first calls course.now.script.now parts.old.journal.entries parts.new.journal.entries
-        (map (λ d. line d) rack.old.items) (map (λ d. line d) rack.new.items) }
+    ensures calls { along M.spec M.call_of course.now Called parts.old.journal.entries
+        parts.new.journal.entries (map (λ d. line d) rack.old.items) (map (λ d. line d) rack.new.items) }
 {
     if rack.is_empty() {
         let depth = parts.stack.depth();
@@ -136,12 +122,9 @@ pub(crate) fn obey_show<M: Caller>(
     requires fits { (M.spec course.now.driver).fits }
     requires show { directive.now.order ≡ Order.Show shown }
     requires room { HasRoom course.now.most parts.old.stack.steps 3 parts.old.bus parts.old.journal }
-    requires stands { let d = M.spec course.now.driver in let calls = M.call_of course.now.driver in
-        let first = chip_for course.now.devices course.now.config course.now.script.now in
-        IsStanding d first calls course.now.script.now parts.old.bus parts.old.stack.frames parts.old.journal.entries }
-    ensures { let d = M.spec course.now.driver in let calls = M.call_of course.now.driver in
-        let first = chip_for course.now.devices course.now.config course.now.script.now in
-        Obeyed d first calls course.now.script.now course.now.most directive.now.line directive.now.order
+    requires stands { along M.spec M.call_of course.now IsStanding parts.old.bus parts.old.stack.frames
+        parts.old.journal.entries }
+    ensures { along M.spec M.call_of course.now Obeyed course.now.most directive.now.line directive.now.order
         parts.old.bus parts.old.stack parts.old.journal parts.new.bus parts.new.stack parts.new.journal }
 {
     let _shown = shown;
@@ -166,12 +149,9 @@ pub(crate) fn obey_reset<M: Caller>(
     requires reset { directive.now.order ≡ Order.Reset reason }
     requires asked { reason ≢ Software }
     requires room { HasRoom course.now.most parts.old.stack.steps 3 parts.old.bus parts.old.journal }
-    requires stands { let d = M.spec course.now.driver in let calls = M.call_of course.now.driver in
-        let first = chip_for course.now.devices course.now.config course.now.script.now in
-        IsStanding d first calls course.now.script.now parts.old.bus parts.old.stack.frames parts.old.journal.entries }
-    ensures { let d = M.spec course.now.driver in let calls = M.call_of course.now.driver in
-        let first = chip_for course.now.devices course.now.config course.now.script.now in
-        Obeyed d first calls course.now.script.now course.now.most directive.now.line directive.now.order
+    requires stands { along M.spec M.call_of course.now IsStanding parts.old.bus parts.old.stack.frames
+        parts.old.journal.entries }
+    ensures { along M.spec M.call_of course.now Obeyed course.now.most directive.now.line directive.now.order
         parts.old.bus parts.old.stack parts.old.journal parts.new.bus parts.new.stack parts.new.journal }
 {
     let depth = parts.stack.depth();

@@ -5,7 +5,8 @@ ghost use Rattle.mcal_base.specs.declared.directive.Order.{Order};
 ghost use Rattle.run_model.specs.Follows.{Goes};
 ghost use Rattle.run_model.specs.Script.{order_at};
 ghost use Rattle.run_model.specs.Stops.{StopsWithin};
-ghost use Rattle.script_runner.specs.Scripts.{chip_for, is_offered};
+ghost use Rattle.script_runner.specs.Course.{along};
+ghost use Rattle.script_runner.specs.Scripts.{is_offered};
 ghost use Rattle.script_runner.specs.Standing.{Called, IsStanding, HasRoom, HasTime, ObeyedBy, Obeyed, IsStuck, Stuck, is_built, makes_no_step, GivenFits};
 
 use crate::beginnings::{obey_call_alone, obey_call_whole, obey_enter_alone, obey_enter_whole};
@@ -43,25 +44,20 @@ fn obey_steps<M: Caller>(
     requires limit { course.now.most < 4294967295 }
     requires time { HasTime course.now.most parts.old.stack.steps parts.old.bus }
     requires room { HasRoom course.now.most parts.old.stack.steps 3 parts.old.bus parts.old.journal }
-    requires stands { let d = M.spec course.now.driver in let calls = M.call_of course.now.driver in
-        let first = chip_for course.now.devices course.now.config course.now.script.now in
-        IsStanding d first calls course.now.script.now parts.old.bus parts.old.stack.frames parts.old.journal.entries }
-    ensures obeyed { let d = M.spec course.now.driver in let calls = M.call_of course.now.driver in
-        let first = chip_for course.now.devices course.now.config course.now.script.now in
+    requires stands { along M.spec M.call_of course.now IsStanding parts.old.bus parts.old.stack.frames
+        parts.old.journal.entries }
+    ensures obeyed { along M.spec M.call_of course.now (λ d first calls script.
         OnOk result ((order : Order) →
-        ObeyedBy d first calls course.now.script.now course.now.most order
+        ObeyedBy d first calls script course.now.most order
         parts.old.bus parts.old.stack parts.old.journal parts.new.bus parts.new.stack parts.new.journal
-        (λ m items. Goes d.setting script_line reach m m.opens items)) }
-    ensures too_long { let d = M.spec course.now.driver in let calls = M.call_of course.now.driver in
-        let first = chip_for course.now.devices course.now.config course.now.script.now in
-        OnErr result (IsStuck d first calls course.now.script.now course.now.most 0 parts.old.stack parts.old.journal
+        (λ m items. Goes d.setting script_line reach m m.opens items))) }
+    ensures too_long { along M.spec M.call_of course.now (λ d first calls script.
+        OnErr result (IsStuck d first calls script course.now.most 0 parts.old.stack parts.old.journal
         parts.new.bus parts.new.stack parts.new.journal
-        (λ m items. StopsWithin d.setting script_line reach m m.opens items)) }
+        (λ m items. StopsWithin d.setting script_line reach m m.opens items))) }
     ensures hung { vec_len rack.new ≡ parts.new.bus.devices }
-    ensures calls { let d = M.spec course.now.driver in let calls = M.call_of course.now.driver in
-        let first = chip_for course.now.devices course.now.config course.now.script.now in
-        Called d first calls course.now.script.now parts.old.journal.entries parts.new.journal.entries
-        (map (λ d. line d) rack.old.items) (map (λ d. line d) rack.new.items) }
+    ensures calls { along M.spec M.call_of course.now Called parts.old.journal.entries
+        parts.new.journal.entries (map (λ d. line d) rack.old.items) (map (λ d. line d) rack.new.items) }
 {
     if parts.stack.depth() == 0 {
         parts.journal.held(script_line, 0, Held::Empty);
@@ -89,23 +85,17 @@ pub(crate) fn obey_one<M: Caller>(
     requires given { GivenFits directive.now.order parts.old.bus }
     requires time { HasTime course.now.most parts.old.stack.steps parts.old.bus }
     requires room { HasRoom course.now.most parts.old.stack.steps 3 parts.old.bus parts.old.journal }
-    requires stands { let d = M.spec course.now.driver in let calls = M.call_of course.now.driver in
-        let first = chip_for course.now.devices course.now.config course.now.script.now in
-        IsStanding d first calls course.now.script.now parts.old.bus parts.old.stack.frames parts.old.journal.entries }
-    ensures obeyed { let d = M.spec course.now.driver in let calls = M.call_of course.now.driver in
-        let first = chip_for course.now.devices course.now.config course.now.script.now in
-        OnOk result (Obeyed d first calls course.now.script.now course.now.most directive.now.line directive.now.order
-        parts.old.bus
-        parts.old.stack parts.old.journal parts.new.bus parts.new.stack parts.new.journal) }
-    ensures too_long { let d = M.spec course.now.driver in let calls = M.call_of course.now.driver in
-        let first = chip_for course.now.devices course.now.config course.now.script.now in
-        OnErr result (Stuck d first calls course.now.script.now course.now.most directive.now.line directive.now.order
-        parts.old.stack parts.old.journal parts.new.bus parts.new.stack parts.new.journal) }
+    requires stands { along M.spec M.call_of course.now IsStanding parts.old.bus parts.old.stack.frames
+        parts.old.journal.entries }
+    ensures obeyed { OnOk result (along M.spec M.call_of course.now Obeyed course.now.most directive.now.line
+        directive.now.order parts.old.bus parts.old.stack parts.old.journal parts.new.bus parts.new.stack
+        parts.new.journal) }
+    ensures too_long { OnErr result (along M.spec M.call_of course.now Stuck course.now.most
+        directive.now.line directive.now.order parts.old.stack parts.old.journal parts.new.bus parts.new.stack
+        parts.new.journal) }
     ensures hung { vec_len rack.new ≡ parts.new.bus.devices }
-    ensures calls { let d = M.spec course.now.driver in let calls = M.call_of course.now.driver in
-        let first = chip_for course.now.devices course.now.config course.now.script.now in
-        Called d first calls course.now.script.now parts.old.journal.entries parts.new.journal.entries
-        (map (λ d. line d) rack.old.items) (map (λ d. line d) rack.new.items) }
+    ensures calls { along M.spec M.call_of course.now Called parts.old.journal.entries
+        parts.new.journal.entries (map (λ d. line d) rack.old.items) (map (λ d. line d) rack.new.items) }
 {
     let line = directive.line;
     match &directive.order {

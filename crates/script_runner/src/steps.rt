@@ -1,12 +1,12 @@
 ghost use Rattle.std.specs.Prelude.{ℕ, ◌≡◌, ◌<◌, ◌≤◌, ◌+◌, ◌∷◌, length, IfOk, OnOk, OnErr, None, ◌||◌, is_some, map, vec_len};
 ghost use Rattle.std.specs.Bool.{OnFalse, OnTrue};
-ghost use Rattle.script_runner.specs.Scripts.{chip_for};
 ghost use Rattle.mcal_base.specs.declared.directive.Order.{Order};
 ghost use Rattle.run_model.specs.Entry as entry;
 ghost use Rattle.run_model.specs.Follows as follows;
 ghost use Rattle.run_model.specs.Follows.{GoesOn, is_reached};
 ghost use Rattle.run_model.specs.Frame.{resets_chip};
 ghost use Rattle.run_model.specs.Stops.{GoesToStop};
+ghost use Rattle.script_runner.specs.Course.{along};
 ghost use Rattle.script_runner.specs.Standing.{Called, IsStanding, HasRoom, HasTime, TookStep, RanOut, Waited, WentFar, IsStuck};
 
 use crate::caller::Caller;
@@ -84,29 +84,20 @@ pub(crate) fn take_step<M: Caller>(
     requires frame { 0 < length parts.old.stack.frames }
     requires time { HasTime course.now.most parts.old.stack.steps parts.old.bus }
     requires room { HasRoom course.now.most parts.old.stack.steps 2 parts.old.bus parts.old.journal }
-    requires stands { let d = M.spec course.now.driver in let calls = M.call_of course.now.driver in
-        let first = chip_for course.now.devices course.now.config course.now.script.now in
-        IsStanding d first calls course.now.script.now parts.old.bus parts.old.stack.frames parts.old.journal.entries }
+    requires stands { along M.spec M.call_of course.now IsStanding parts.old.bus parts.old.stack.frames
+        parts.old.journal.entries }
     requires free { stepped.old.ended ≡ None }
-    ensures took { let d = M.spec course.now.driver in let calls = M.call_of course.now.driver in
-        let first = chip_for course.now.devices course.now.config course.now.script.now in
-        IfOk result (λ taken. OnTrue taken (TookStep d first calls course.now.script.now course.now.most script_line
-        parts.old.bus parts.old.stack parts.old.journal stepped.new parts.new.bus
+    ensures took { IfOk result (λ taken. OnTrue taken (along M.spec M.call_of course.now TookStep
+        course.now.most script_line parts.old.bus parts.old.stack parts.old.journal stepped.new parts.new.bus
         parts.new.stack parts.new.journal)) }
-    ensures out { let d = M.spec course.now.driver in let calls = M.call_of course.now.driver in
-        let first = chip_for course.now.devices course.now.config course.now.script.now in
-        IfOk result (λ taken. OnFalse taken (RanOut d first calls course.now.script.now script_line
+    ensures out { IfOk result (λ taken. OnFalse taken (along M.spec M.call_of course.now RanOut script_line
         parts.old.bus parts.old.stack parts.old.journal parts.new.bus parts.new.stack parts.new.journal)) }
-    ensures too_long { let d = M.spec course.now.driver in let calls = M.call_of course.now.driver in
-        let first = chip_for course.now.devices course.now.config course.now.script.now in
-        OnErr result ((parts.new.stack ≡ parts.old.stack) × (parts.old.stack.steps ≡ course.now.most) ×
-        Waited d first calls course.now.script.now M.Frame.move_of script_line
-        parts.old.bus parts.old.stack.frames parts.old.journal parts.new.bus parts.new.journal) }
+    ensures too_long { OnErr result ((parts.new.stack ≡ parts.old.stack) × (parts.old.stack.steps ≡
+        course.now.most) × along M.spec M.call_of course.now Waited M.Frame.move_of script_line parts.old.bus
+        parts.old.stack.frames parts.old.journal parts.new.bus parts.new.journal) }
     ensures hung { vec_len rack.new ≡ parts.new.bus.devices }
-    ensures calls { let d = M.spec course.now.driver in let calls = M.call_of course.now.driver in
-        let first = chip_for course.now.devices course.now.config course.now.script.now in
-        Called d first calls course.now.script.now parts.old.journal.entries parts.new.journal.entries
-        (map (λ d. line d) rack.old.items) (map (λ d. line d) rack.new.items) }
+    ensures calls { along M.spec M.call_of course.now Called parts.old.journal.entries
+        parts.new.journal.entries (map (λ d. line d) rack.old.items) (map (λ d. line d) rack.new.items) }
 {
     parts.stack.look(stepped);
     if wait(course, script_line, parts, &stepped.made) {
@@ -140,23 +131,17 @@ pub(crate) fn run_steps<M: Caller>(
     requires frame { 0 < length parts.old.stack.frames }
     requires time { HasTime course.now.most parts.old.stack.steps parts.old.bus }
     requires room { HasRoom course.now.most parts.old.stack.steps 2 parts.old.bus parts.old.journal }
-    requires stands { let d = M.spec course.now.driver in let calls = M.call_of course.now.driver in
-        let first = chip_for course.now.devices course.now.config course.now.script.now in
-        IsStanding d first calls course.now.script.now parts.old.bus parts.old.stack.frames parts.old.journal.entries }
-    ensures went { let d = M.spec course.now.driver in let calls = M.call_of course.now.driver in
-        let first = chip_for course.now.devices course.now.config course.now.script.now in
-        OnOk result (WentFar d first calls course.now.script.now course.now.most script_line reach parts.old.bus
-        parts.old.stack parts.old.journal parts.new.bus parts.new.stack parts.new.journal) }
-    ensures too_long { let d = M.spec course.now.driver in let calls = M.call_of course.now.driver in
-        let first = chip_for course.now.devices course.now.config course.now.script.now in
-        OnErr result (IsStuck d first calls course.now.script.now course.now.most 0 parts.old.stack parts.old.journal
+    requires stands { along M.spec M.call_of course.now IsStanding parts.old.bus parts.old.stack.frames
+        parts.old.journal.entries }
+    ensures went { OnOk result (along M.spec M.call_of course.now WentFar course.now.most script_line reach
+        parts.old.bus parts.old.stack parts.old.journal parts.new.bus parts.new.stack parts.new.journal) }
+    ensures too_long { along M.spec M.call_of course.now (λ d first calls script.
+        OnErr result (IsStuck d first calls script course.now.most 0 parts.old.stack parts.old.journal
         parts.new.bus parts.new.stack parts.new.journal
-        (λ m items. GoesToStop d.setting script_line reach 0 m items)) }
+        (λ m items. GoesToStop d.setting script_line reach 0 m items))) }
     ensures hung { vec_len rack.new ≡ parts.new.bus.devices }
-    ensures calls { let d = M.spec course.now.driver in let calls = M.call_of course.now.driver in
-        let first = chip_for course.now.devices course.now.config course.now.script.now in
-        Called d first calls course.now.script.now parts.old.journal.entries parts.new.journal.entries
-        (map (λ d. line d) rack.old.items) (map (λ d. line d) rack.new.items) }
+    ensures calls { along M.spec M.call_of course.now Called parts.old.journal.entries
+        parts.new.journal.entries (map (λ d. line d) rack.old.items) (map (λ d. line d) rack.new.items) }
 {
     let mut made = 0u32;
     let mut stepped = Stepped::blank();

@@ -4,7 +4,7 @@ ghost use Rattle.std.specs.Prelude.{◌≡◌, ◌<◌, ◌≤◌, ◌+◌, leng
 ghost use Rattle.std.specs.Bool.{OnFalse, OnTrue};
 ghost use Rattle.chip_model.specs.Chip.{Chip, CanHappen, expiry_of, stall_of};
 ghost use Rattle.mcal_base.specs.declared.directive.Order.TheVariants.{Tick};
-ghost use Rattle.script_runner.specs.Scripts.{chip_for};
+ghost use Rattle.script_runner.specs.Course.{along};
 ghost use Rattle.script_runner.specs.Standing.{IsStanding, HasRoom, HasTime, Obeyed, Ticked, RanDown, RanOut, Waited, left_within};
 ghost use Rattle.step_runner.specs.Driver.{EndsBefore};
 ghost use Rattle.step_runner.specs.Kept.{IsLooked};
@@ -32,14 +32,11 @@ fn tick_on<M: Caller>(course: &RunSetup<M>, line: u32, ticks: u32, parts: &mut R
     requires early { EndsBefore (Tick ticks) (expiry_of parts.old.bus) }
     requires room { length parts.old.journal.entries < parts.old.journal.room }
     requires words { length parts.old.journal.words ≤ parts.old.journal.words_room }
-    requires stands { let d = M.spec course.now.driver in let calls = M.call_of course.now.driver in
-        let first = chip_for course.now.devices course.now.config course.now.script.now in
-        IsStanding d first calls course.now.script.now parts.old.bus parts.old.stack.frames parts.old.journal.entries }
+    requires stands { along M.spec M.call_of course.now IsStanding parts.old.bus parts.old.stack.frames
+        parts.old.journal.entries }
     ensures stack { parts.new.stack ≡ parts.old.stack }
-    ensures ticked { let d = M.spec course.now.driver in let calls = M.call_of course.now.driver in
-        let first = chip_for course.now.devices course.now.config course.now.script.now in
-        Ticked d first calls course.now.script.now line ticks
-        parts.old.bus parts.old.stack.frames parts.old.journal parts.new.bus parts.new.journal }
+    ensures ticked { along M.spec M.call_of course.now Ticked line ticks parts.old.bus parts.old.stack.frames
+        parts.old.journal parts.new.bus parts.new.journal }
 {
     let depth = parts.stack.depth();
     let happening = Directive {
@@ -57,13 +54,10 @@ fn run_down<M: Caller>(course: &RunSetup<M>, line: u32, left: u32, parts: &mut R
     requires ends { expiry_of parts.old.bus ≡ Some left }
     requires room { length parts.old.journal.entries + 1 < parts.old.journal.room }
     requires words { length parts.old.journal.words ≤ parts.old.journal.words_room }
-    requires stands { let d = M.spec course.now.driver in let calls = M.call_of course.now.driver in
-        let first = chip_for course.now.devices course.now.config course.now.script.now in
-        IsStanding d first calls course.now.script.now parts.old.bus parts.old.stack.frames parts.old.journal.entries }
-    ensures { let d = M.spec course.now.driver in let calls = M.call_of course.now.driver in
-        let first = chip_for course.now.devices course.now.config course.now.script.now in
-        RanDown d first calls course.now.script.now line left
-        parts.old.bus parts.old.stack parts.old.journal parts.new.bus parts.new.stack parts.new.journal }
+    requires stands { along M.spec M.call_of course.now IsStanding parts.old.bus parts.old.stack.frames
+        parts.old.journal.entries }
+    ensures { along M.spec M.call_of course.now RanDown line left parts.old.bus parts.old.stack
+        parts.old.journal parts.new.bus parts.new.stack parts.new.journal }
 {
     let depth = parts.stack.depth();
     parts.journal.happened(line, depth, &Order::Tick(left));
@@ -91,18 +85,13 @@ pub(crate) fn wait<M: Caller>(
     requires looked { IsLooked M.Frame.move_of parts.old.stack.frames made.now }
     requires time { HasTime course.now.most parts.old.stack.steps parts.old.bus }
     requires room { HasRoom course.now.most parts.old.stack.steps 2 parts.old.bus parts.old.journal }
-    requires stands { let d = M.spec course.now.driver in let calls = M.call_of course.now.driver in
-        let first = chip_for course.now.devices course.now.config course.now.script.now in
-        IsStanding d first calls course.now.script.now parts.old.bus parts.old.stack.frames parts.old.journal.entries }
+    requires stands { along M.spec M.call_of course.now IsStanding parts.old.bus parts.old.stack.frames
+        parts.old.journal.entries }
     ensures stack { OnFalse result (parts.new.stack ≡ parts.old.stack) }
-    ensures on { let d = M.spec course.now.driver in let calls = M.call_of course.now.driver in
-        let first = chip_for course.now.devices course.now.config course.now.script.now in
-        OnFalse result (Waited d first calls course.now.script.now M.Frame.move_of line
-        parts.old.bus parts.old.stack.frames parts.old.journal parts.new.bus parts.new.journal) }
-    ensures out { let d = M.spec course.now.driver in let calls = M.call_of course.now.driver in
-        let first = chip_for course.now.devices course.now.config course.now.script.now in
-        OnTrue result (RanOut d first calls course.now.script.now line
-        parts.old.bus parts.old.stack parts.old.journal parts.new.bus parts.new.stack parts.new.journal) }
+    ensures on { OnFalse result (along M.spec M.call_of course.now Waited M.Frame.move_of line parts.old.bus
+        parts.old.stack.frames parts.old.journal parts.new.bus parts.new.journal) }
+    ensures out { OnTrue result (along M.spec M.call_of course.now RanOut line parts.old.bus parts.old.stack
+        parts.old.journal parts.new.bus parts.new.stack parts.new.journal) }
 {
     may_wait(made) && wait_for_word(course, line, parts, made)
 }
@@ -121,18 +110,13 @@ fn wait_for_word<M: Caller>(
     requires looked { IsLooked M.Frame.move_of parts.old.stack.frames made.now }
     requires time { HasTime course.now.most parts.old.stack.steps parts.old.bus }
     requires room { HasRoom course.now.most parts.old.stack.steps 2 parts.old.bus parts.old.journal }
-    requires stands { let d = M.spec course.now.driver in let calls = M.call_of course.now.driver in
-        let first = chip_for course.now.devices course.now.config course.now.script.now in
-        IsStanding d first calls course.now.script.now parts.old.bus parts.old.stack.frames parts.old.journal.entries }
+    requires stands { along M.spec M.call_of course.now IsStanding parts.old.bus parts.old.stack.frames
+        parts.old.journal.entries }
     ensures stack { OnFalse result (parts.new.stack ≡ parts.old.stack) }
-    ensures on { let d = M.spec course.now.driver in let calls = M.call_of course.now.driver in
-        let first = chip_for course.now.devices course.now.config course.now.script.now in
-        OnFalse result (Waited d first calls course.now.script.now M.Frame.move_of line
-        parts.old.bus parts.old.stack.frames parts.old.journal parts.new.bus parts.new.journal) }
-    ensures out { let d = M.spec course.now.driver in let calls = M.call_of course.now.driver in
-        let first = chip_for course.now.devices course.now.config course.now.script.now in
-        OnTrue result (RanOut d first calls course.now.script.now line
-        parts.old.bus parts.old.stack parts.old.journal parts.new.bus parts.new.stack parts.new.journal) }
+    ensures on { OnFalse result (along M.spec M.call_of course.now Waited M.Frame.move_of line parts.old.bus
+        parts.old.stack.frames parts.old.journal parts.new.bus parts.new.journal) }
+    ensures out { OnTrue result (along M.spec M.call_of course.now RanOut line parts.old.bus parts.old.stack
+        parts.old.journal parts.new.bus parts.new.stack parts.new.journal) }
 {
     let ticks = parts.bus.stall(made) as u32;
     if ticks == 0 {
@@ -162,12 +146,9 @@ pub(crate) fn obey_tick<M: Caller>(
     requires few { ticks ≤ 1000000 }
     requires time { HasTime course.now.most parts.old.stack.steps parts.old.bus }
     requires room { HasRoom course.now.most parts.old.stack.steps 3 parts.old.bus parts.old.journal }
-    requires stands { let d = M.spec course.now.driver in let calls = M.call_of course.now.driver in
-        let first = chip_for course.now.devices course.now.config course.now.script.now in
-        IsStanding d first calls course.now.script.now parts.old.bus parts.old.stack.frames parts.old.journal.entries }
-    ensures { let d = M.spec course.now.driver in let calls = M.call_of course.now.driver in
-        let first = chip_for course.now.devices course.now.config course.now.script.now in
-        Obeyed d first calls course.now.script.now course.now.most directive.now.line directive.now.order
+    requires stands { along M.spec M.call_of course.now IsStanding parts.old.bus parts.old.stack.frames
+        parts.old.journal.entries }
+    ensures { along M.spec M.call_of course.now Obeyed course.now.most directive.now.line directive.now.order
         parts.old.bus parts.old.stack parts.old.journal parts.new.bus parts.new.stack parts.new.journal }
 {
     match left_of(&parts.bus, ticks) {

@@ -13,5 +13,4 @@ pub mod Short
 pub mod ShortServices
 pub mod Sweep
 pub mod Sweeping
-pub mod There
 pub mod laws

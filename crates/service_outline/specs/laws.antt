@@ -15,5 +15,4 @@ pub mod StepKinds
 pub mod Steps
 pub mod Sweep
 pub mod Sweeping
-pub mod There
 pub mod Words

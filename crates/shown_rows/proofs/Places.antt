@@ -1,9 +1,9 @@
 -- Where so many places are there, fewer are.
 use Rattle.std.proofs.Common.{ℕ, ◌≤◌, arith}
 use Rattle.mcal_base.specs.declared.config.whole.Config.{Config}
-use Rattle.mcal_system.specs.Words.{HasPlaces}
-use Rattle.mcal_system.specs.declared.shown.Words.{Words}
-use Rattle.mcal_system.specs.declared.shown.Words.TheVariants.{Ram, User, Sent, Received}
+use Rattle.shown_rows.specs.Places.{HasPlaces}
+use Rattle.shown_rows.specs.declared.shown.Words.{Words}
+use Rattle.shown_rows.specs.declared.shown.Words.TheVariants.{Ram, User, Sent, Received}
 
 pub fewer_places : (c : Config) (of : Words) (fewer size : ℕ) → fewer ≤ size → HasPlaces c of size → HasPlaces c of fewer
 fewer_places c Ram fewer size less there = omega (arith, less, there)

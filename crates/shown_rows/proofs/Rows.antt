@@ -14,16 +14,16 @@ use Rattle.bench_report.specs.Rows.{Row}
 use Rattle.bench_report.specs.Shown.{rows_text}
 use Rattle.bench_report.specs.declared.rows.Value.{Value}
 use Rattle.bench_report.specs.declared.rows.Value.TheVariants.{One, Pair}
-use Rattle.mcal_system.specs.Setting.{SystemState}
-use Rattle.mcal_system.specs.Wires.{pairs}
-use Rattle.mcal_system.specs.Words.{word_at}
-use Rattle.mcal_system.specs.declared.wires.Exchange.{Exchange}
+use Rattle.mcal_drivers.specs.Setting.{SystemState}
+use Rattle.shown_rows.specs.Boards.{pairs}
+use Rattle.shown_rows.specs.Places.{word_at}
+use Rattle.shown_rows.specs.declared.shown.Exchange.{Exchange}
 use Rattle.shown_rows.specs.Objects.{count, object_rows, all_rows}
 use Rattle.shown_rows.specs.Shows.{section_row, section_rows, AreInside}
 use Rattle.shown_rows.specs.Words.{words}
 use Rattle.shown_rows.specs.declared.objects.Objects.{Objects}
 use Rattle.shown_rows.specs.declared.objects.Objects.TheVariants.{Pins, Captures, Groups, Serials}
-use Rattle.mcal_system.specs.declared.shown.Words.{Words}
+use Rattle.shown_rows.specs.declared.shown.Words.{Words}
 
 pub row_alone : (line : ℕ) (row : Row) → rows_text line (row ∷ []) ≡ numbered line (Shows row)
 row_alone line row = append-nil (numbered line (Shows row))

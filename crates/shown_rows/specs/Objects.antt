@@ -3,8 +3,8 @@ use Rattle.std.specs.Prelude.{ℕ, List}
 use Rattle.mcal_base.specs.declared.config.whole.Config.{Config}
 use Rattle.run_model.specs.World.{World}
 use Rattle.bench_report.specs.Rows.{Row}
-use Rattle.mcal_system.specs.Setting.{SystemState}
-use Rattle.mcal_system.specs.Shows.{results_at, serial_channel, size_at}
+use Rattle.mcal_drivers.specs.Setting.{SystemState}
+use Rattle.mcal_drivers.specs.Shows.{results_at, serial_channel, size_at}
 use Rattle.shown_rows.specs.Shows.{pin_row, pin_rows, stamps_row, stamps_rows, results_row, result_rows, channel_rows, serial_rows}
 use Rattle.shown_rows.specs.declared.objects.Objects.{Objects}
 use Rattle.shown_rows.specs.declared.objects.Objects.TheVariants.{Pins, Captures, Groups, Serials}

@@ -5,9 +5,9 @@ use Rattle.bench_report.specs.Rows.{Row}
 use Rattle.bench_report.specs.declared.rows.RowName.{RowName}
 use Rattle.bench_report.specs.declared.rows.Value.{Value}
 use Rattle.bench_report.specs.declared.rows.Value.TheVariants.{One}
-use Rattle.mcal_system.specs.Setting.{SystemState}
-use Rattle.mcal_system.specs.Words.{word_at}
-use Rattle.mcal_system.specs.declared.shown.Words.{Words}
+use Rattle.mcal_drivers.specs.Setting.{SystemState}
+use Rattle.shown_rows.specs.Places.{word_at}
+use Rattle.shown_rows.specs.declared.shown.Words.{Words}
 
 -- so many words, from a first place on
 abbrev pub words : SystemState → Words → (first size : ℕ) → List Value

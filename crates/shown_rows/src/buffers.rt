@@ -2,20 +2,19 @@ ghost use Rattle.std.specs.Prelude.{◌≡◌, ◌<◌, ◌++◌, OnOk, Some, st
 ghost use Rattle.mcal_base.specs.Layout.{length_of};
 ghost use Rattle.mcal_base.specs.declared.layout.Array.TheVariants.{Source};
 ghost use Rattle.bench_report.specs.Shown.{rows_text};
-ghost use Rattle.mcal_system.specs.Runs.{moment_at};
-ghost use Rattle.mcal_system.specs.Shows.{results_at, serial_channel, size_at};
+ghost use Rattle.mcal_drivers.specs.Shows.{results_at, serial_channel, size_at};
 ghost use Rattle.shown_rows.specs.Shows as spec;
 
+use crate::shown::{ShownBoard, Words};
 use crate::words::write_words;
 use bench_report::RowName;
 use mcal_base::Array;
-use mcal_system::{ShownRun, Words};
 use spi_jobs::Channel;
 use std::alloc::{AllocError, Global};
 
 /// Writes the row of a capture channel's stamps, where it was started since the last reset.
 #[tactic(auto, using(crate::proofs::Rows::no_rows))]
-pub(crate) fn write_capture<R: ShownRun>(
+pub(crate) fn write_capture<R: ShownBoard>(
     alloc: Global,
     text: &mut String,
     run: &R,
@@ -23,7 +22,7 @@ pub(crate) fn write_capture<R: ShownRun>(
     channel: u32,
 ) -> Result<(), AllocError>
     requires there { channel < 8 }
-    ensures { let s = (moment_at (R.resting run.now)).state in
+    ensures { let s = (R.board run.now).state in
         OnOk result (string_bytes text.new ≡ string_bytes text.old ++ rows_text line (spec.stamps_row s channel (size_at s channel))) }
 {
     let Some(size) = run.stamps(channel) else {
@@ -36,15 +35,15 @@ pub(crate) fn write_capture<R: ShownRun>(
 
 /// Writes the row of the buffer that was last chosen for a converter group, where there is one.
 #[tactic(auto, using(crate::proofs::Rows::no_rows))]
-pub(crate) fn write_group<R: ShownRun>(
+pub(crate) fn write_group<R: ShownBoard>(
     alloc: Global,
     text: &mut String,
     run: &R,
     line: u32,
     group: u32,
 ) -> Result<(), AllocError>
-    ensures { let s = (moment_at (R.resting run.now)).state in
-        OnOk result (string_bytes text.new ≡ string_bytes text.old ++ rows_text line (spec.results_row s group (results_at (R.resting run.now).config s group))) }
+    ensures { let s = (R.board run.now).state in
+        OnOk result (string_bytes text.new ≡ string_bytes text.old ++ rows_text line (spec.results_row s group (results_at (R.board run.now).config s group))) }
 {
     let Some((buffer, size)) = run.results(group) else {
         return Ok(());
@@ -57,7 +56,7 @@ pub(crate) fn write_group<R: ShownRun>(
 /// Writes the rows of a configured serial channel: the user's source array, and of an internal channel what it sends and
 /// what may be read of it, of an external one the user's destination array.
 #[tactic(auto, using(crate::proofs::Rows::rows_joined))]
-fn write_channel<R: ShownRun>(
+fn write_channel<R: ShownBoard>(
     alloc: Global,
     text: &mut String,
     run: &R,
@@ -65,9 +64,9 @@ fn write_channel<R: ShownRun>(
     number: u32,
     channel: Channel,
 ) -> Result<(), AllocError>
-    requires known { serial_channel (R.resting run.now).config number ≡ Some channel }
-    requires words { channel.length ≡ length_of (R.resting run.now).config (Source number) }
-    ensures { OnOk result (string_bytes text.new ≡ string_bytes text.old ++ rows_text line (spec.channel_rows (moment_at (R.resting run.now)).state number (Some channel))) }
+    requires known { serial_channel (R.board run.now).config number ≡ Some channel }
+    requires words { channel.length ≡ length_of (R.board run.now).config (Source number) }
+    ensures { OnOk result (string_bytes text.new ≡ string_bytes text.old ++ rows_text line (spec.channel_rows (R.board run.now).state number (Some channel))) }
 {
     let size = u32::from(channel.length);
     let name = RowName::Source(number);
@@ -87,15 +86,15 @@ fn write_channel<R: ShownRun>(
 
 /// Writes the rows of a serial channel, where it is configured.
 #[tactic(auto, using(crate::proofs::Rows::no_rows))]
-pub(crate) fn write_serial<R: ShownRun>(
+pub(crate) fn write_serial<R: ShownBoard>(
     alloc: Global,
     text: &mut String,
     run: &R,
     line: u32,
     number: u32,
 ) -> Result<(), AllocError>
-    ensures { let m = moment_at (R.resting run.now) in
-        OnOk result (string_bytes text.new ≡ string_bytes text.old ++ rows_text line (spec.channel_rows m.state number (serial_channel (R.resting run.now).config number))) }
+    ensures { let b = R.board run.now in
+        OnOk result (string_bytes text.new ≡ string_bytes text.old ++ rows_text line (spec.channel_rows b.state number (serial_channel b.config number))) }
 {
     match run.serial_channel(number) {
         Some(channel) => write_channel(alloc, text, run, line, number, channel),

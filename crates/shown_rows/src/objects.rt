@@ -1,11 +1,10 @@
 ghost use Rattle.std.specs.Prelude.{◌≡◌, ◌<◌, ◌++◌, OnOk, string_bytes};
 ghost use Rattle.bench_report.specs.Shown.{rows_text};
-ghost use Rattle.mcal_system.specs.Runs.{moment_at};
 ghost use Rattle.shown_rows.specs.Objects as spec;
 
 use crate::buffers::{write_capture, write_group, write_serial};
 use crate::pins::write_pin;
-use mcal_system::ShownRun;
+use crate::shown::ShownBoard;
 use std::alloc::{AllocError, Global};
 
 /// Objects that are shown in the order of their numbers.
@@ -34,7 +33,7 @@ fn count(objects: Objects) -> u32
 }
 
 /// Writes the rows of the object of a number.
-fn write_object<R: ShownRun>(
+fn write_object<R: ShownBoard>(
     alloc: Global,
     text: &mut String,
     run: &R,
@@ -43,8 +42,8 @@ fn write_object<R: ShownRun>(
     number: u32,
 ) -> Result<(), AllocError>
     requires there { number < spec.count objects }
-    ensures { let m = moment_at (R.resting run.now) in
-        OnOk result (string_bytes text.new ≡ string_bytes text.old ++ rows_text line (spec.object_rows (R.resting run.now).config m.world m.state objects number)) }
+    ensures { let b = R.board run.now in
+        OnOk result (string_bytes text.new ≡ string_bytes text.old ++ rows_text line (spec.object_rows b.config b.world b.state objects number)) }
 {
     match objects {
         Objects::Pins => write_pin(text, run, line, number),
@@ -55,15 +54,15 @@ fn write_object<R: ShownRun>(
 }
 
 /// Writes the rows of all objects.
-pub(crate) fn write_objects<R: ShownRun>(
+pub(crate) fn write_objects<R: ShownBoard>(
     alloc: Global,
     text: &mut String,
     run: &R,
     line: u32,
     objects: Objects,
 ) -> Result<(), AllocError>
-    ensures { let m = moment_at (R.resting run.now) in
-        OnOk result (string_bytes text.new ≡ string_bytes text.old ++ rows_text line (spec.all_rows (R.resting run.now).config m.world m.state objects)) }
+    ensures { let b = R.board run.now in
+        OnOk result (string_bytes text.new ≡ string_bytes text.old ++ rows_text line (spec.all_rows b.config b.world b.state objects)) }
 {
     for number in 0..count(objects) {
         write_object(alloc, text, run, line, objects, number)?;

@@ -2,12 +2,11 @@ ghost use Rattle.std.specs.Prelude.{◌≡◌, ◌<◌, ◌++◌, ◌∷◌, [],
 ghost use Rattle.bench_report.specs.Shown.{rows_text};
 ghost use Rattle.bench_report.specs.declared.rows.RowName.TheVariants as names;
 ghost use Rattle.bench_report.specs.declared.rows.Value.TheVariants as values;
-ghost use Rattle.mcal_system.specs.Runs.{moment_at};
 ghost use Rattle.shown_rows.specs.Shows as spec;
 
+use crate::shown::ShownBoard;
 use bench_report::{RowName, Value, write_row};
 use mcal_base::Config;
-use mcal_system::ShownRun;
 use std::alloc::AllocError;
 
 /// Whether a pin is configured.
@@ -40,15 +39,15 @@ fn write_level(text: &mut String, line: u32, pin: u32, high: bool) -> Result<(),
 
 /// Writes the row of a pin, where it is configured.
 #[tactic(auto, using(crate::proofs::Rows::no_rows))]
-pub(crate) fn write_pin<R: ShownRun>(
+pub(crate) fn write_pin<R: ShownBoard>(
     text: &mut String,
     run: &R,
     line: u32,
     pin: u32,
 ) -> Result<(), AllocError>
     requires there { pin < 64 }
-    ensures { let m = moment_at (R.resting run.now) in
-        OnOk result (string_bytes text.new ≡ string_bytes text.old ++ rows_text line (spec.pin_row (R.resting run.now).config m.world m.state pin)) }
+    ensures { let b = R.board run.now in
+        OnOk result (string_bytes text.new ≡ string_bytes text.old ++ rows_text line (spec.pin_row b.config b.world b.state pin)) }
 {
     if has_pin(run.config(), pin) {
         write_level(text, line, pin, run.pin(pin))

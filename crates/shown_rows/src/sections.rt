@@ -1,17 +1,16 @@
 ghost use Rattle.std.specs.Prelude.{◌≡◌, ◌+◌, ◌<◌, ◌≤◌, ◌++◌, ◌∷◌, [], OnOk, Some, length, slice_get, string_bytes};
 ghost use Rattle.bench_report.specs.Shown.{rows_text};
-ghost use Rattle.mcal_system.specs.Runs.{moment_at};
 ghost use Rattle.shown_rows.specs.Shows as spec;
 
+use crate::shown::{ShownBoard, Words};
 use crate::words::words_of;
 use bench_report::{RowName, write_row};
 use mcal_base::McuRamSection;
-use mcal_system::{ShownRun, Words};
 use std::alloc::{AllocError, Global};
 
 /// Writes the row of a RAM section.
 #[tactic(auto, using(crate::proofs::Rows::row_alone))]
-fn write_section<R: ShownRun>(
+fn write_section<R: ShownBoard>(
     alloc: Global,
     text: &mut String,
     run: &R,
@@ -20,7 +19,7 @@ fn write_section<R: ShownRun>(
     section: &McuRamSection,
 ) -> Result<(), AllocError>
     requires inside { section.now.base_address + section.now.size ≤ 512 }
-    ensures { OnOk result (string_bytes text.new ≡ string_bytes text.old ++ rows_text line (spec.section_row (moment_at (R.resting run.now)).state number section.now ∷ [])) }
+    ensures { OnOk result (string_bytes text.new ≡ string_bytes text.old ++ rows_text line (spec.section_row (R.board run.now).state number section.now ∷ [])) }
 {
     let values = words_of(alloc, run, Words::Ram, section.base_address, section.size)?;
     write_row(text, line, RowName::Ram(number), &values)
@@ -37,7 +36,7 @@ fn section_at(sections: &[McuRamSection], number: u32) -> &McuRamSection
 }
 
 /// Writes the rows of the RAM sections.
-pub(crate) fn write_sections<R: ShownRun>(
+pub(crate) fn write_sections<R: ShownBoard>(
     alloc: Global,
     text: &mut String,
     run: &R,
@@ -46,7 +45,7 @@ pub(crate) fn write_sections<R: ShownRun>(
 ) -> Result<(), AllocError>
     requires inside { spec.AreInside sections.now }
     requires few { length sections.now ≤ 8 }
-    ensures { OnOk result (string_bytes text.new ≡ string_bytes text.old ++ rows_text line (spec.section_rows (moment_at (R.resting run.now)).state 0 sections.now)) }
+    ensures { OnOk result (string_bytes text.new ≡ string_bytes text.old ++ rows_text line (spec.section_rows (R.board run.now).state 0 sections.now)) }
 {
     for number in 0..sections.len() as u32 {
         let section = section_at(sections, number);

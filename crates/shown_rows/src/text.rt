@@ -1,25 +1,24 @@
 ghost use Rattle.std.specs.Prelude.{◌≡◌, ◌++◌, IfOk, OnOk, string_bytes};
 ghost use Rattle.config_facts.specs.Valid.{IsValid};
 ghost use Rattle.bench_report.specs.Shown.{rows_text};
-ghost use Rattle.mcal_system.specs.Runs.{moment_at};
 ghost use Rattle.shown_rows.specs.Shows as spec;
 
 use crate::objects::{Objects, write_objects};
 use crate::sections::write_sections;
+use crate::shown::ShownBoard;
 use crate::wires::write_wires;
 use mcal_base::Shown;
-use mcal_system::ShownRun;
 use std::alloc::{AllocError, Global};
 
 /// Writes the rows of the buffers: the capture channels' stamps, the converter groups, and the serial channels.
 #[tactic(auto, using(crate::proofs::Rows::rows_joined))]
-fn write_buffers<R: ShownRun>(
+fn write_buffers<R: ShownBoard>(
     alloc: Global,
     text: &mut String,
     run: &R,
     line: u32,
 ) -> Result<(), AllocError>
-    ensures { OnOk result (string_bytes text.new ≡ string_bytes text.old ++ rows_text line (spec.buffer_rows (R.resting run.now).config (moment_at (R.resting run.now)).state)) }
+    ensures { OnOk result (string_bytes text.new ≡ string_bytes text.old ++ rows_text line (spec.buffer_rows (R.board run.now).config (R.board run.now).state)) }
 {
     write_objects(alloc, text, run, line, Objects::Captures)?;
     write_objects(alloc, text, run, line, Objects::Groups)?;
@@ -27,16 +26,16 @@ fn write_buffers<R: ShownRun>(
 }
 
 /// Writes the rows of a show.
-fn write_shown<R: ShownRun>(
+fn write_shown<R: ShownBoard>(
     alloc: Global,
     text: &mut String,
     run: &R,
     line: u32,
     shown: Shown,
 ) -> Result<(), AllocError>
-    requires valid { IsValid (R.resting run.now).config }
-    ensures { let m = moment_at (R.resting run.now) in
-        OnOk result (string_bytes text.new ≡ string_bytes text.old ++ rows_text line (spec.show_rows (R.resting run.now).config m.world m.state shown)) }
+    requires valid { IsValid (R.board run.now).config }
+    ensures { let b = R.board run.now in
+        OnOk result (string_bytes text.new ≡ string_bytes text.old ++ rows_text line (spec.show_rows b.config b.world b.state shown)) }
 {
     match shown {
         Shown::Pins => write_objects(alloc, text, run, line, Objects::Pins),
@@ -50,15 +49,15 @@ fn write_shown<R: ShownRun>(
 }
 
 /// The lines that a show prints at a script line.
-pub fn shown_text<R: ShownRun>(
+pub fn shown_text<R: ShownBoard>(
     alloc: Global,
     run: &R,
     line: u32,
     shown: Shown,
 ) -> Result<String, AllocError>
-    requires valid { IsValid (R.resting run.now).config }
-    ensures { let m = moment_at (R.resting run.now) in
-        IfOk result (λ text. string_bytes text ≡ rows_text line (spec.show_rows (R.resting run.now).config m.world m.state shown)) }
+    requires valid { IsValid (R.board run.now).config }
+    ensures { let b = R.board run.now in
+        IfOk result (λ text. string_bytes text ≡ rows_text line (spec.show_rows b.config b.world b.state shown)) }
 {
     let mut text = String::new(alloc);
     write_shown(alloc, &mut text, run, line, shown)?;

@@ -1,16 +1,15 @@
 ghost use Rattle.std.specs.Prelude.{◌≡◌, ◌<◌, ◌++◌, ◌∷◌, [], IfOk, OnOk, string_bytes};
 ghost use Rattle.bench_report.specs.Shown.{rows_text};
-ghost use Rattle.mcal_system.specs.Runs.{moment_at};
 ghost use Rattle.shown_rows.specs.Shows as spec;
 
+use crate::shown::ShownBoard;
 use bench_report::{RowName, Value, write_row};
-use mcal_system::ShownRun;
 use std::alloc::{AllocError, Global};
 
 /// The words on the wire of a serial unit.
-fn wire_words<R: ShownRun>(alloc: Global, run: &R, unit: u32) -> Result<Vec<Value>, AllocError>
+fn wire_words<R: ShownBoard>(alloc: Global, run: &R, unit: u32) -> Result<Vec<Value>, AllocError>
     requires there { unit < 2 }
-    ensures { IfOk result (λ values. values.items ≡ spec.wire_words (moment_at (R.resting run.now)).state unit) }
+    ensures { IfOk result (λ values. values.items ≡ spec.wire_words (R.board run.now).state unit) }
 {
     let words = run.wire(alloc, unit)?;
     let mut values = Vec::new(alloc);
@@ -23,7 +22,7 @@ fn wire_words<R: ShownRun>(alloc: Global, run: &R, unit: u32) -> Result<Vec<Valu
 
 /// Writes the row of the wire of a serial unit.
 #[tactic(auto, using(crate::proofs::Rows::row_alone))]
-fn write_wire<R: ShownRun>(
+fn write_wire<R: ShownBoard>(
     alloc: Global,
     text: &mut String,
     run: &R,
@@ -31,7 +30,7 @@ fn write_wire<R: ShownRun>(
     unit: u32,
 ) -> Result<(), AllocError>
     requires there { unit < 2 }
-    ensures { OnOk result (string_bytes text.new ≡ string_bytes text.old ++ rows_text line (spec.wire_row (moment_at (R.resting run.now)).state unit ∷ [])) }
+    ensures { OnOk result (string_bytes text.new ≡ string_bytes text.old ++ rows_text line (spec.wire_row (R.board run.now).state unit ∷ [])) }
 {
     let values = wire_words(alloc, run, unit)?;
     write_row(text, line, RowName::Wire(unit), &values)
@@ -39,13 +38,13 @@ fn write_wire<R: ShownRun>(
 
 /// Writes the rows of the wires of both serial units.
 #[tactic(auto, using(crate::proofs::Rows::rows_joined))]
-pub(crate) fn write_wires<R: ShownRun>(
+pub(crate) fn write_wires<R: ShownBoard>(
     alloc: Global,
     text: &mut String,
     run: &R,
     line: u32,
 ) -> Result<(), AllocError>
-    ensures { OnOk result (string_bytes text.new ≡ string_bytes text.old ++ rows_text line (spec.wire_rows (moment_at (R.resting run.now)).state)) }
+    ensures { OnOk result (string_bytes text.new ≡ string_bytes text.old ++ rows_text line (spec.wire_rows (R.board run.now).state)) }
 {
     write_wire(alloc, text, run, line, 0)?;
     write_wire(alloc, text, run, line, 1)

@@ -1,24 +1,23 @@
 ghost use Rattle.std.specs.Prelude.{◌≡◌, ◌+◌, ◌≤◌, ◌++◌, ◌∷◌, [], IfOk, OnOk, string_bytes};
 ghost use Rattle.bench_report.specs.Shown.{rows_text};
-ghost use Rattle.mcal_system.specs.Runs.{moment_at};
-ghost use Rattle.mcal_system.specs.Words.{HasPlaces};
+ghost use Rattle.shown_rows.specs.Places.{HasPlaces};
 ghost use Rattle.shown_rows.specs.Words as spec;
 
+use crate::shown::{ShownBoard, Words};
 use bench_report::{RowName, Value, write_row};
-use mcal_system::{ShownRun, Words};
 use std::alloc::{AllocError, Global};
 
 /// So many words from a first place on.
-pub(crate) fn words_of<R: ShownRun>(
+pub(crate) fn words_of<R: ShownBoard>(
     alloc: Global,
     run: &R,
     words: Words,
     first: u32,
     size: u32,
 ) -> Result<Vec<Value>, AllocError>
-    requires inside { HasPlaces (R.resting run.now).config words (first + size) }
+    requires inside { HasPlaces (R.board run.now).config words (first + size) }
     requires few { first + size ≤ 4294967295 }
-    ensures { IfOk result (λ values. values.items ≡ spec.words (moment_at (R.resting run.now)).state words first size) }
+    ensures { IfOk result (λ values. values.items ≡ spec.words (R.board run.now).state words first size) }
 {
     let mut values = Vec::new(alloc);
     for number in 0..size {
@@ -29,7 +28,7 @@ pub(crate) fn words_of<R: ShownRun>(
 
 /// Writes the row of so many words from the first place on.
 #[tactic(auto, using(crate::proofs::Rows::row_alone))]
-pub(crate) fn write_words<R: ShownRun>(
+pub(crate) fn write_words<R: ShownBoard>(
     alloc: Global,
     text: &mut String,
     run: &R,
@@ -38,8 +37,8 @@ pub(crate) fn write_words<R: ShownRun>(
     words: Words,
     size: u32,
 ) -> Result<(), AllocError>
-    requires inside { HasPlaces (R.resting run.now).config words size }
-    ensures { OnOk result (string_bytes text.new ≡ string_bytes text.old ++ rows_text line (spec.words_row (moment_at (R.resting run.now)).state name words size ∷ [])) }
+    requires inside { HasPlaces (R.board run.now).config words size }
+    ensures { OnOk result (string_bytes text.new ≡ string_bytes text.old ++ rows_text line (spec.words_row (R.board run.now).state name words size ∷ [])) }
 {
     let values = words_of(alloc, run, words, 0, size)?;
     write_row(text, line, name, &values)

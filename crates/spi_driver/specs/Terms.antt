@@ -29,6 +29,7 @@ pub use Rattle.mcal_base.specs.{declared.register.Reg.TheVariants.{CaptureTimeHi
 pub use Rattle.mcal_base.specs.{declared.register.Reg.TheVariants.{PulseCommit, PulseIdle, SerialAck, SerialData}}
 pub use Rattle.mcal_base.specs.{declared.register.Reg.TheVariants.{SerialReceived, SerialSelect, SerialState, SerialWait}}
 pub use Rattle.mcal_base.specs.{declared.register.Reg.TheVariants.{SerialWidth, TimerHigh}}
+pub use Rattle.mcal_base.specs.There.{names_there}
 pub use Rattle.chip_model.specs.Chip.{Chip, chip_after, happened, is_masked, value_of, word_of}
 pub use Rattle.run_model.specs.{Causes.{blocks}, Frame.{asks_reset, begins_word, Brought, brought_by, Called}}
 pub use Rattle.run_model.specs.{Frame.{caller_of, Entered, happening_at, happening_of, is_shared, missed_after, Open}}
@@ -59,7 +60,7 @@ pub use Rattle.service_outline.specs.{Services.{holds_at, holds_in, is_closed, K
 pub use Rattle.service_outline.specs.{Services.{MakesTo, mark_of, MayCome, MayStop, Notes, Outside, place_at}}
 pub use Rattle.service_outline.specs.{Services.{PointAssertion, Proceeds, ReservedBy, Right, Services, services_driver}}
 pub use Rattle.service_outline.specs.{Services.{TurnsMask, TurnsTo, with_holds, Within, Works}, Short.{ending_gave}}
-pub use Rattle.service_outline.specs.{Short.{short_left, short_move}, There.{names_there}, WindowHistory.{is_windowed}}
+pub use Rattle.service_outline.specs.{Short.{short_left, short_move}, WindowHistory.{is_windowed}}
 pub use Rattle.service_outline.specs.{WindowHistory.{Plain}, declared.body.Looked.{Looked}, declared.body.Or.{Or}}
 pub use Rattle.service_outline.specs.{declared.body.Or.TheVariants.{First, Second}, declared.done.BodyTaken.{BodyTaken}}
 pub use Rattle.service_outline.specs.{declared.done.Done.{Done}, declared.done.Epilogue.TheVariants.{Error, Nothing}}

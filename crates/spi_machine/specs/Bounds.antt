@@ -1,4 +1,4 @@
--- How the serial driver's frames begin, what bounds them, and what a run of the driver is over.
+-- How the serial driver's frames begin, what bounds them, and what a run of the module is over.
 use Rattle.std.specs.Prelude.{◌≡◌, ◌<◌, Contains, ℕ, ◌+◌, ◌*◌, ◌^◌, ◌%◌, ◌==◌, nat_lt, Bool, true, false, ◌&&◌, ◌||◌, not, if◌then◌else◌, List, [], count_by, sum_by, flat_map, Option, Some, None, is_some, slice_index_or}
 use Rattle.std.specs.List.{enumerate_from, list_any}
 use Rattle.chip_model.specs.Chip.{word_of}
@@ -22,7 +22,7 @@ use Rattle.run_model.specs.declared.class.Kind.TheVariants.{Exclusive, Keyed}
 use Rattle.run_model.specs.declared.class.Kind.TheVariants as kinds
 use Rattle.run_model.specs.Frame.{Origin, Called, Entered, is_wait}
 use Rattle.run_model.specs.Moment.{Setting}
-use Rattle.service_outline.specs.There.{names_there}
+use Rattle.mcal_base.specs.There.{names_there}
 use Rattle.spi_machine.specs.declared.call.Call.{Call}
 use Rattle.spi_machine.specs.declared.call.Call.TheVariants.{Init, DeInit, SetAsyncMode, MainFunctionHandling, Channel, Sequence, Get}
 use Rattle.spi_machine.specs.declared.call.ChannelCall.{ChannelCall}
@@ -215,7 +215,7 @@ fills d c = is_some (channel_of d c)
 
 -- ---- the setting
 
--- what a run of the driver is over
+-- what a run of the module is over
 abbrev pub spi_setting : SpiTable → Setting SpiState Call
 spi_setting d = record {
   machine = spi_machine d;

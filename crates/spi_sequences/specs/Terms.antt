@@ -45,6 +45,8 @@ pub use Rattle.mcal_base.specs.{declared.register.Reg.TheVariants.{CaptureTimeLo
 pub use Rattle.mcal_base.specs.{declared.register.Reg.TheVariants.{EnableClear, EnableSet, PinFlip, ResetRequest}}
 pub use Rattle.mcal_base.specs.{declared.register.Reg.TheVariants.{SerialAck, SerialData, SerialSelect, SerialWidth}}
 pub use Rattle.mcal_base.specs.{declared.register.Reg.TheVariants.{TimerLow}}
+pub use Rattle.mcal_base.specs.There.{names_there}
+pub use Rattle.mcal_base.specs.laws.There.{move_there}
 pub use Rattle.chip_units.specs.{Serials.{fresh, idle, is_done_at, unit_at}, declared.serial.Serial.{Serial}}
 pub use Rattle.chip_model.proofs.{HistoryLaws.{level_leaves, rate-left, wiring-left, word-left}, PinLaws.{line-serial}}
 pub use Rattle.chip_model.proofs.{WordLaws.{slice_index-blank}}
@@ -79,13 +81,13 @@ pub use Rattle.service_outline.specs.{Outline.{notices_in, owes_nothing}, Servic
 pub use Rattle.service_outline.specs.{Services.{AssertedAt, Continues, gap_at, holds_at, is_closed, IsBasis, KeepsMask}}
 pub use Rattle.service_outline.specs.{Services.{LongBodies, MakesTo, MayCome, MayStop, Outside, owners, place_at}}
 pub use Rattle.service_outline.specs.{Services.{PointAssertion, ReservedBy, Right, RightOr, Steady, TurnsMask, TurnsTo}}
-pub use Rattle.service_outline.specs.{Services.{with_holds, Within, Works}, Short.{ended_by}, There.{names_there}}
+pub use Rattle.service_outline.specs.{Services.{with_holds, Within, Works}, Short.{ended_by}}
 pub use Rattle.service_outline.specs.{declared.body.Looked.{Looked}, declared.body.Looked.TheVariants.{Goes, Refused}}
 pub use Rattle.service_outline.specs.{declared.body.Or.{Or}, declared.body.Or.TheVariants.{First, Second}}
 pub use Rattle.service_outline.specs.{declared.done.BodyTaken.{BodyTaken}, declared.done.Done.{Done}}
 pub use Rattle.service_outline.specs.{declared.done.Epilogue.TheVariants.{Nothing, One}}
 pub use Rattle.service_outline.specs.laws.{Acts.{never_clean}, Owing.{owing_basis, windows_right}}
-pub use Rattle.service_outline.specs.laws.{SimpleMoves.{simple_owed}, StepKinds.{asks_no}, There.{move_there}}
+pub use Rattle.service_outline.specs.laws.{SimpleMoves.{simple_owed}, StepKinds.{asks_no}}
 pub use Rattle.service_outline.specs.laws.{Words.{fills_there, stored_other, stored_same, stores_in, word_apart}}
 pub use Rattle.service_outline.specs.laws.{Words.{word_later}}
 pub use Rattle.shapes_on_chip.proofs.{PartLaws.{differs-after, one_owed, settles_part}, Steps.{words-same}}

@@ -9,7 +9,7 @@ use Rattle.mcal_base.specs.declared.error_name.ErrorName.{ErrorName}
 use Rattle.run_model.specs.Frame.{state_by}
 use Rattle.run_model.specs.Machine.{Happening, Acts, Serves, Starts, Aborts, Moves, Restarts}
 use Rattle.run_model.specs.World.{World}
-use Rattle.icu_driver.specs.Bounds.{icu_setting}
+use Rattle.icu_machine.specs.Bounds.{icu_setting}
 use Rattle.icu_machine.specs.Checks.{error_by}
 use Rattle.icu_machine.specs.Edges.{Edge, is_same}
 use Rattle.icu_machine.specs.Machine.{IcuState, Capture, Stamp, untouched, capture_at, by_channel, with_capture, edge_queued, edge_taken, edge_at_pin, is_taken, moved, switched, cleared, cleared_all, channel_work, asked, work, acts_by, is_on, stamped, index, is_full, measured, completes, served_by, served_edge, served, ready, happens, stamp_in}

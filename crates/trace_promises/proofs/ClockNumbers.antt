@@ -7,7 +7,7 @@ use Rattle.mcal_base.specs.declared.error_name.ErrorName.{ErrorName}
 use Rattle.run_model.specs.Frame.{state_by}
 use Rattle.run_model.specs.Machine.{Happening, Acts, Serves, Starts, Aborts, Moves, Restarts}
 use Rattle.run_model.specs.World.{World}
-use Rattle.mcu_driver.specs.Bounds.{mcu_setting}
+use Rattle.mcu_machine.specs.Bounds.{mcu_setting}
 use Rattle.mcu_machine.specs.Checks.{error_by}
 use Rattle.mcu_machine.specs.Machine.{McuState, Pll, is_locked, clocked, distributed, fills_with, word_in, ram_at, work, acts_by, happens}
 use Rattle.mcu_machine.specs.Table.{table_of, multiplier_of, section_in, section_of, is_within}

@@ -5,7 +5,7 @@ use Rattle.chip_units.specs.declared.watchdog.Watch.{Watch}
 use Rattle.run_model.specs.World.{World}
 use Rattle.run_model.specs.Outside.{StandsIn}
 use Rattle.service_outline.specs.Outline.{Refinement}
-use Rattle.wdg_driver.specs.Bounds.{owns, wdg_setting}
+use Rattle.wdg_machine.specs.Bounds.{owns, wdg_setting}
 use Rattle.wdg_machine.specs.Machine.{WdgState}
 use Rattle.wdg_driver.specs.Words.{state_word}
 use Rattle.wdg_machine.specs.declared.call.Call.{Call}

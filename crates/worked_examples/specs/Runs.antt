@@ -9,7 +9,7 @@ use Rattle.run_model.specs.Moment.{line_tag, call_tag}
 use Rattle.run_model.specs.World.{World, world_start, world_after}
 use Rattle.run_model.specs.Machine.{Happening, Acts, Serves, Moves, Told, Outcome, no_answer, tells_nothing, number}
 use Rattle.run_model.specs.Frame.{state_by}
-use Rattle.gpt_driver.specs.Refinement.{gpt_setting}
+use Rattle.gpt_machine.specs.Bounds.{gpt_setting}
 use Rattle.gpt_machine.specs.Machine.{GptState, gpt_machine, first_state}
 use Rattle.gpt_machine.specs.Table.{table_of}
 use Rattle.gpt_machine.specs.declared.call.Call.{Call}

@@ -4,6 +4,7 @@ ghost use Rattle.adc_groups.specs.laws.services.Decisions as spec;
 
 use crate::body::{Decided, Place};
 use crate::making::{Continuation, WindowWrite, WindowWrites, moves_of};
+use crate::owed::error_owed;
 use crate::service::{acts_and_ends, done, makes};
 use crate::words::{Phase, Word, flag};
 use adc_machine::{AdcTable, ResultBuffer};
@@ -28,7 +29,7 @@ pub fn set_up(table: &AdcTable, group: u8, buffer: ResultBuffer, phase: u32) -> 
         let deed = WindowWrite::Set(Word::Chosen(group), 1 + buffer_number(buffer));
         Decided::Goes(change(deed, named(AnswerName::EOk)))
     } else {
-        let owed = table.owed(Service::AdcSetupResultBuffer, ErrorName::AdcBusy);
+        let owed = error_owed(table, Service::AdcSetupResultBuffer, ErrorName::AdcBusy);
         acts_and_ends(named(AnswerName::ENotOk), owed)
     }
 }
@@ -70,7 +71,7 @@ pub fn point(table: &AdcTable, group: u8, phase: u32, count: u32, place: u32) ->
 {
     match Phase::of(phase) {
         Phase::Idle => {
-            let owed = table.owed(Service::AdcGetStreamLastPointer, ErrorName::AdcIdle);
+            let owed = error_owed(table, Service::AdcGetStreamLastPointer, ErrorName::AdcIdle);
             acts_and_ends(zero_null(), owed)
         }
         Phase::Busy => acts_and_ends(zero_null(), Epilogue::Nothing),

@@ -5,6 +5,7 @@ ghost use Rattle.adc_groups.specs.laws.services.Decisions as spec;
 use crate::body::{Decided, Place};
 use crate::making::{Continuation, StructureOp, WindowWrite, WindowWrites, WriteBatch, moves_of};
 use crate::outside::Outside;
+use crate::owed::error_owed;
 use crate::service::acts_and_ends;
 use crate::words::{Phase, STATE, Word, rounds_of};
 use adc_machine::AdcTable;
@@ -19,7 +20,7 @@ pub fn read(table: &AdcTable, group: u8, phase: u32) -> Decided
 {
     match Phase::of(phase) {
         Phase::Idle => {
-            let owed = table.owed(Service::AdcReadGroup, ErrorName::AdcIdle);
+            let owed = error_owed(table, Service::AdcReadGroup, ErrorName::AdcIdle);
             acts_and_ends(named(AnswerName::ENotOk), owed)
         }
         Phase::Busy => acts_and_ends(named(AnswerName::ENotOk), Epilogue::Nothing),

@@ -3,6 +3,7 @@ ghost use Rattle.adc_groups.specs.laws.services.Decisions as spec;
 
 use crate::body::{Decided, Place};
 use crate::making::{Continuation, StructureOp, WindowWrite, WindowWrites, WriteBatch, moves_of};
+use crate::owed::error_owed;
 use crate::service::{acts_and_ends, done, makes, turn};
 use crate::window::Window;
 use crate::words::{Phase, Word, bit, entry, order_of};
@@ -25,7 +26,7 @@ fn service(window: Window) -> Service
 fn refused(table: &AdcTable, window: Window, error: ErrorName) -> Decided
     ensures { result ≡ spec.refused table.now window error }
 {
-    acts_and_ends(nothing(), table.owed(service(window), error))
+    acts_and_ends(nothing(), error_owed(table, service(window), error))
 }
 
 /// `Adc_StartGroupConversion` and `Adc_EnableHardwareTrigger`, by the group's words.

@@ -6,6 +6,7 @@ ghost use Rattle.adc_groups.specs.laws.services.Decisions as spec;
 use crate::body::Decided;
 use crate::making::{Continuation, StructureOp, WindowWrite, WindowWrites, WriteBatch, moves_of};
 use crate::outside::Outside;
+use crate::owed::error_owed;
 use crate::service::request::trigger_bit;
 use crate::service::{acts_and_ends, done, makes};
 use crate::window::Window;
@@ -34,7 +35,7 @@ pub fn stop(table: &AdcTable, unit: u8, group: u8, seen: StopSeen) -> Decided
     if seen.phase == 0 {
         return acts_and_ends(
             nothing(),
-            table.owed(service(table, group), ErrorName::AdcIdle),
+            error_owed(table, service(table, group), ErrorName::AdcIdle),
         );
     }
     let mut deeds = WindowWrites::new();

@@ -40,7 +40,8 @@ pub use Rattle.service_outline.specs.laws.Sweep.{each_but}
 pub use Rattle.service_outline.specs.Fuel.{Shortens}
 pub use Rattle.service_outline.specs.Outline.{Bodies, At, Happens, AreRight, StepsTo, RightAt, TellsAs, error_in, notices_in, Before, Is_before, After, Is_after, Serving, Is_serving, Served, Is_served}
 pub use Rattle.gpt_machine.specs.Checks.{error_by, service_of, allows, takes, answer_refused, has_value}
-pub use Rattle.gpt_driver.specs.Refinement.{Lag, settled, none, only, open_at, behind, IsSet, TimerAgrees, BlockAgrees, Word, TheState, TargetOf, SwitchesOf, number_of, IsWord, state_word, value_in, WordsAgree, LinesAgree, GptRepresents, gpt_ground, gpt_setting, gpt_may, gpt_owns, is_own_word, has_lines, is_for_lines, is_timer, may_name, may_write, owns_written}
+pub use Rattle.gpt_driver.specs.Refinement.{Lag, settled, none, only, open_at, behind, IsSet, TimerAgrees, BlockAgrees, Word, TheState, TargetOf, SwitchesOf, number_of, IsWord, state_word, value_in, WordsAgree, LinesAgree, GptRepresents, gpt_ground}
+pub use Rattle.gpt_machine.specs.Bounds.{gpt_setting, gpt_may, gpt_owns, is_own_word, has_lines, is_for_lines, is_timer, may_name, may_write, owns_written}
 pub use Rattle.gpt_machine.specs.Machine.{GptState, channel_at, table, fresh_state, first_state, Timing, Course, Never, Running, Stopped, Mode, Off, Normal, Sleep, untouched, is_off, is_asleep, elapsed, remaining, target_of, prescaler_of, runs, runs_at, is_busy, is_marked, started, stopped, unmarked, slept, slept_all, changed, with_channel, with_switches, all_channels, answers_number, notes, acts_by, ready, served, served_by, wakes, notifies, reporting, gpt_machine, switches}
 pub use Rattle.gpt_machine.specs.Table.{channel_of, one_shot_of, is_one_shot, FitsGpt}
 pub use Rattle.gpt_driver.specs.Words.{bit, target_word, switches_word, word_of as packed, switches_of}
@@ -61,7 +62,7 @@ pub use Rattle.mcal_base.specs.declared.moves.Move.TheVariants.{Load, Read, Stor
 pub use Rattle.mcal_base.specs.declared.register.Reg.{Reg}
 pub use Rattle.service_outline.specs.WindowHistory.{Plain, WindowHistory, SeesTo, Starts}
 pub use Rattle.service_outline.specs.ShortServices.{driver_of}
-pub use Rattle.service_outline.specs.There.{names_there}
+pub use Rattle.mcal_base.specs.There.{names_there}
 pub use Rattle.service_outline.specs.declared.body.Looked.{Looked}
 pub use Rattle.service_outline.specs.declared.body.Looked.TheVariants.{Goes}
 pub use Rattle.service_outline.specs.declared.body.Or.TheVariants.{First, Second}

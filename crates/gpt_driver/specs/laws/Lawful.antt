@@ -11,7 +11,7 @@ use Rattle.service_outline.specs.WindowHistory.{is_windowed}
 use Rattle.service_outline.specs.laws.Seen.{plain_sees}
 use Rattle.service_outline.specs.laws.Either.{either_right}
 use Rattle.gpt_driver.specs.laws.Base.{nat_tests, Chip, word_of, bits_of-zero, ErrorName, World, tells_nothing, Called, Entered, tells_error, error_told, Bodies, At, AreRight, Is_before, Is_serving, error_by, allows, answer_refused, has_value, settled, TheState, GptRepresents, gpt_ground, GptState, is_off, is_asleep, prescaler_of, is_busy, acts_by, gpt_machine, switches, channel_of, one_shot_of, FitsGpt, Call, Init, DeInit, SetMode, OfChannel, ChannelCall, GetTimeElapsed, GetTimeRemaining, StartTimer, StopTimer, Changes, Channel, GptTable, STATE, Asked, Check, ToNormal, ToSleep, Plain, WindowHistory, SeesTo, Starts, driver_of, Looked, Goes, First, Second, Passed, MayRun}
-use Rattle.gpt_driver.specs.Refinement.{gpt_steps}
+use Rattle.gpt_machine.specs.Bounds.{gpt_steps}
 use Rattle.gpt_driver.specs.declared.service.serve.ServeBody.TheVariants.{Look}
 use Rattle.gpt_driver.specs.laws.Bodies.{GptBody}
 use Rattle.gpt_driver.specs.laws.Count.{count_bodies, count_right, count_seen, count_sees, count_unseen}

@@ -14,9 +14,9 @@ use Rattle.mcal_base.specs.declared.directive.Reason.TheVariants.{PowerOn}
 use Rattle.mcal_base.specs.declared.register.Reg.TheVariants.{SerialData, ClockPll, ClockRate, ResetRequest}
 use Rattle.run_model.specs.Frame.{is_shared, resets_chip, begins_word, is_reset_service}
 use Rattle.service_outline.specs.Outline.{IsGround, Comes}
-use Rattle.service_outline.specs.laws.There.{move_there}
+use Rattle.mcal_base.specs.laws.There.{move_there}
 use Rattle.service_outline.specs.laws.Words.{word_later, fills_there}
-use Rattle.gpt_driver.specs.Refinement.{gpt_setting}
+use Rattle.gpt_machine.specs.Bounds.{gpt_setting}
 use Rattle.gpt_machine.specs.Machine.{work, happens}
 use Rattle.run_model.specs.Machine.{Acts, Outcome, ErrorLeaves}
 use Rattle.gpt_driver.specs.laws.Courses.{marked_used}

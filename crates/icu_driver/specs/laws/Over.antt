@@ -19,7 +19,7 @@ use Rattle.run_model.specs.Outside.{StandsIn}
 use Rattle.run_model.proofs.OutsideLaws.{stands-event}
 use Rattle.service_outline.specs.Outline.{Comes}
 use Rattle.service_outline.specs.laws.Words.{word_later, fills_there}
-use Rattle.icu_driver.specs.Bounds.{icu_setting}
+use Rattle.icu_machine.specs.Bounds.{icu_setting}
 use Rattle.icu_driver.specs.Refinement.{Lag, FitsIcu, IcuRepresents, CaptureAgrees, ChannelWords, ModeWords, Stamped, ValueIs, ActiveIs, StartIs, OppositeIs, HasTurns, Alternate, EndsAt, waiting_value, seen_by}
 use Rattle.icu_machine.specs.Machine.{IcuState, Capture, capture_at, moved}
 use Rattle.icu_machine.specs.Table.{channel_of}

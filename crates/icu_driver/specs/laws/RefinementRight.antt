@@ -27,10 +27,10 @@ use Rattle.run_model.specs.Machine.{Acts, Outcome, ErrorLeaves, tells_nothing, o
 use Rattle.run_model.specs.World.{World}
 use Rattle.run_model.proofs.OutsideLaws.{stands-move}
 use Rattle.service_outline.specs.Outline.{IsGround}
-use Rattle.service_outline.specs.There.{names_there}
-use Rattle.service_outline.specs.laws.There.{move_there}
+use Rattle.mcal_base.specs.There.{names_there}
+use Rattle.mcal_base.specs.laws.There.{move_there}
 use Rattle.service_outline.specs.laws.Words.{stores_in, word_apart}
-use Rattle.icu_driver.specs.Bounds.{is_capture, is_for_lines, may_write, is_own_word, is_stamp, may_name, icu_may, channel_count}
+use Rattle.icu_machine.specs.Bounds.{is_capture, is_for_lines, may_write, is_own_word, is_stamp, may_name, icu_may, channel_count}
 use Rattle.icu_machine.specs.Checks.{error_by, service_of, channel_service}
 use Rattle.icu_machine.specs.Edges.{Edge}
 use Rattle.icu_driver.specs.Refinement.{has_lines, owns_written, icu_owns, FitsIcu, Lag, settled, kept, IcuRepresents, icu_ground}

@@ -11,7 +11,7 @@ use Rattle.chip_units.proofs.PortLaws.{flip-in, flip-named, flip-other, put-in, 
 use Rattle.run_model.specs.Causes.{guarded}
 use Rattle.guest_runner.specs.Guest.{LetsIn}
 use Rattle.guest_runner.specs.OutlineLaws.{KeepsAgreeing, services-let}
-use Rattle.port_driver.specs.Bounds.{PinAgrees}
+use Rattle.port_machine.specs.Bounds.{PinAgrees}
 use Rattle.port_machine.specs.Machine.{Put, Inverted, names_pin, with_change, with_latch}
 use Rattle.port_driver.specs.laws.{Halves.{length-after, put_none}, Lawful.{port, port_right}, RefinementRight.{basis_right}}
 use Rattle.port_driver.specs.laws.{RefinementRight.{pins_agree, put_mode_none}}

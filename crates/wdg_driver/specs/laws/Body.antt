@@ -23,7 +23,7 @@ use Rattle.service_outline.specs.declared.done.BodyTaken.{BodyTaken}
 use Rattle.service_outline.specs.declared.done.Epilogue.TheVariants.{Nothing}
 use Rattle.service_outline.specs.laws.Acts.{never_clean}
 use Rattle.service_outline.specs.laws.Words.{stored_same, stored_other}
-use Rattle.wdg_driver.specs.Bounds.{may}
+use Rattle.wdg_machine.specs.Bounds.{may}
 use Rattle.wdg_machine.specs.Checks.{error_by}
 use Rattle.wdg_driver.specs.Refinement.{Lag, settled, both_behind, timeout_behind, WatchRepresents, WdgRepresents, wdg_ground}
 use Rattle.wdg_machine.specs.Machine.{WdgState, started, set_mode, acts_by, acts}

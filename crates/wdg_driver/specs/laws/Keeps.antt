@@ -11,10 +11,10 @@ use Rattle.mcal_base.specs.declared.moves.Move.TheVariants.{Read, Write, Load, S
 use Rattle.mcal_base.specs.declared.register.Reg.{Reg}
 use Rattle.mcal_base.specs.declared.register.Reg.TheVariants.{EnableSet, EnableClear, WatchdogLoad}
 use Rattle.service_outline.specs.ShortServices.{driver_of}
-use Rattle.service_outline.specs.There.{names_there}
+use Rattle.mcal_base.specs.There.{names_there}
 use Rattle.step_runner.specs.Whose.{only, is_of, module_of_register, module_of_word, WritesWithin, NamesWithin, WritesOthers, NamesOthers, KeepsTo}
 use Rattle.step_runner.proofs.Whose.{not-unless}
-use Rattle.wdg_driver.specs.Bounds.{is_register, is_own_word, owns}
+use Rattle.wdg_machine.specs.Bounds.{is_register, is_own_word, owns}
 use Rattle.wdg_machine.specs.declared.table.WdgTable.{WdgTable}
 use Rattle.wdg_driver.specs.laws.Lawful.{wdg}
 

@@ -27,9 +27,9 @@ use Rattle.run_model.specs.Frame.{Called, is_shared, resets_chip, begins_word, i
 use Rattle.run_model.specs.Outside.{StandsIn}
 use Rattle.run_model.proofs.OutsideLaws.{stands-move, stands-event, stands-reset}
 use Rattle.service_outline.specs.Outline.{IsGround, Comes}
-use Rattle.service_outline.specs.laws.There.{move_there}
+use Rattle.mcal_base.specs.laws.There.{move_there}
 use Rattle.service_outline.specs.laws.Words.{stores_in, word_apart, word_later, fills_there}
-use Rattle.wdg_driver.specs.Bounds.{owns, is_own_word, wdg_setting}
+use Rattle.wdg_machine.specs.Bounds.{owns, is_own_word, wdg_setting}
 use Rattle.wdg_machine.specs.Checks.{service_of, error_by}
 use Rattle.wdg_driver.specs.Refinement.{Lag, settled, WatchRepresents, WdgRepresents, wdg_ground}
 use Rattle.wdg_machine.specs.Machine.{WdgState, first_state, unit_of, deadline_by, set_mode, set_timeout, work, acts_by, happens, expires}

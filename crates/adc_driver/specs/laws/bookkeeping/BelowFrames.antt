@@ -2,26 +2,16 @@
 -- Used by services.BeginSteps, services.HandlerBegins.
 use Rattle.std.proofs.Common.{◌≡◌, [], ◌∷◌}
 use Rattle.adc_driver.specs.Terms
-use Terms.{adc_setting, AdcTable, AllLet, AllLower, arith, blocks, Call, Called, class_of, DisableHardwareTrigger}
-use Terms.{EnableHardwareTrigger, Entered, GetGroupStatus, GetStreamLastPointer, IsAlone, IsLower, level_of, mark_of}
-use Terms.{nat_lt, nat_tests, Notification, Origin, ReadGroup, refl, Reservations, SetupResultBuffer}
-use Terms.{StartGroupConversion, StopGroupConversion, subst, true, ℕ}
+use Terms.{adc_setting, AdcTable, AllLet, AllLower, arith, blocks, Call, Called, class_of}
+use Terms.{GetGroupStatus, IsAlone, IsLower, level_of, mark_of}
+use Terms.{nat_lt, nat_tests, Origin, refl, Reservations}
+use Terms.{subst, true, ℕ}
 use Rattle.adc_machine.specs.declared.call.Call.TheVariants as calls
 
 -- above frames of the module nothing begins that is about the whole module
 whole_blocks : (d : AdcTable) (o : Origin Call) → blocks (class_of calls.Init) (mark_of (adc_setting d) o) ≡ true
-whole_blocks d (Called calls.Init) = refl
-whole_blocks d (Called calls.DeInit) = refl
 whole_blocks d (Called (calls.Group g GetGroupStatus)) = refl
-whole_blocks d (Called (calls.Group g (SetupResultBuffer b))) = refl
-whole_blocks d (Called (calls.Group g StartGroupConversion)) = refl
-whole_blocks d (Called (calls.Group g StopGroupConversion)) = refl
-whole_blocks d (Called (calls.Group g ReadGroup)) = refl
-whole_blocks d (Called (calls.Group g EnableHardwareTrigger)) = refl
-whole_blocks d (Called (calls.Group g DisableHardwareTrigger)) = refl
-whole_blocks d (Called (calls.Group g (Notification on))) = refl
-whole_blocks d (Called (calls.Group g GetStreamLastPointer)) = refl
-whole_blocks d (Entered l) = refl
+whole_blocks d _ = refl
 
 pub whole_begins : (d : AdcTable) (below : Reservations) → AllLet (adc_setting d) (class_of calls.Init) below → below ≡ []
 whole_begins d [] lets = refl

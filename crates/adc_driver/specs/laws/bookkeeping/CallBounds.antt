@@ -22,34 +22,25 @@ module _ (d : AdcTable) (fits : FitsAdc d) where
 
   -- the list registers of a round are 8 at most, so a window begins what waits within 23 steps
   requests_few : requests_after d ≤ 106
-  requests_few = by d.priorities
-    where
-      by : (q : Bool) → (if q then yields_after d else begins_after d) ≤ 106
-      by true = omega (arith, few, lists_few)
-      by false = omega (arith, few, lists_few)
+  requests_few =
+      elim d.priorities as (λ q. (if q then yields_after d else begins_after d) ≤ 106)
+      [ true ↦ omega (arith, few, lists_few) | false ↦ omega (arith, few, lists_few) ]
 
   -- groups are surveyed where neither priorities count nor requests queue up, and then no round is aborted
   starts_few : (g : ℕ) → looks_on true d (windows.Start g) ≤ 115
   starts_few g = by d.priorities d.queuing
     where
       by : (p q : Bool) → (if not p && not q then 16 else 0) + (9 + (if p then yields_after d else begins_after d)) ≤ 115
-      by true q = omega (arith, few, lists_few)
       by false true = omega (arith, few, lists_few)
-      by false false = omega (arith, few, lists_few)
+      by _ _ = omega (arith, few, lists_few)
 
   looks_few : (g : ℕ) → looks_on false d (windows.Start g) ≤ 25
-  looks_few g = by (takes_one d)
-    where
-      by : (q : Bool) → (if q then 16 else 0) + 9 ≤ 25
-      by true = omega arith
-      by false = omega arith
+  looks_few g = elim (takes_one d) as (λ q. (if q then 16 else 0) + 9 ≤ 25) [ true ↦ omega arith | false ↦ omega arith ]
 
   enables_few : (q : Bool) (g : ℕ) → looks_on q d (windows.Enable g) ≤ 20
-  enables_few q g = by (takes_one d)
-    where
-      by : (b : Bool) → (if b then 16 else 0) + 4 ≤ 20
-      by true = omega arith
-      by false = omega arith
+  enables_few q g =
+      elim (takes_one d) as (λ b. (if b then 16 else 0) + 4 ≤ 20)
+      [ true ↦ omega arith | false ↦ omega arith ]
 
   request_least : (k : Option Group) → 128 ≤ request_steps d k
   request_least None = omega arith
@@ -68,12 +59,9 @@ module _ (d : AdcTable) (fits : FitsAdc d) where
   group_costs g (groups.SetupResultBuffer b) = set_up_steps g b
   group_costs g groups.StartGroupConversion = let le = starts_few g in let least = request_least (group_of d g) in omega (arith, le, least)
   group_costs g groups.StopGroupConversion = omega (arith, lists_few)
-  group_costs g groups.ReadGroup = omega arith
   group_costs g groups.EnableHardwareTrigger = let le = enables_few true g in omega (arith, le)
   group_costs g groups.DisableHardwareTrigger = omega (arith, lists_few)
-  group_costs g (groups.Notification on) = omega arith
-  group_costs g groups.GetGroupStatus = omega arith
-  group_costs g groups.GetStreamLastPointer = omega arith
+  group_costs g _ = omega arith
 
   set_up_moves : (g : ℕ) (b : Option ResultBuffer) → 3 + cost false d (set_up_at g b) ≤ 32
   set_up_moves g None = omega arith
@@ -82,13 +70,8 @@ module _ (d : AdcTable) (fits : FitsAdc d) where
   pub group_moves : (g : ℕ) (call : GroupCall) → 3 + cost false d (place_for d g call) ≤ 32
   group_moves g (groups.SetupResultBuffer b) = set_up_moves g b
   group_moves g groups.StartGroupConversion = let le = looks_few g in omega (arith, le)
-  group_moves g groups.StopGroupConversion = omega arith
-  group_moves g groups.ReadGroup = omega arith
   group_moves g groups.EnableHardwareTrigger = let le = enables_few false g in omega (arith, le)
-  group_moves g groups.DisableHardwareTrigger = omega arith
-  group_moves g (groups.Notification on) = omega arith
-  group_moves g groups.GetGroupStatus = omega arith
-  group_moves g groups.GetStreamLastPointer = omega arith
+  group_moves g _ = omega arith
 
   -- ---- handlers
 
@@ -111,6 +94,5 @@ module _ (d : AdcTable) (fits : FitsAdc d) where
   handler_room line = by (is_unit_line line) (is_trigger_line line)
     where
       by : (p q : Bool) → 2 + cost false d (Flag (if p then windows.Take (line - 24) else if q then windows.Trigger (line - 28) (group_on d (line - 28) 0) else windows.Close)) ≤ 32
-      by true q = omega arith
       by false true = omega arith
-      by false false = omega arith
+      by _ _ = omega arith

@@ -55,11 +55,9 @@ entered_soiled w = by (clean_in w) refl
     by false e = e
 
 flagged_soiled : (w : Window) (v : ℕ) → Soils (flagged w v)
-flagged_soiled w v = by (is_ready w v)
-  where
-    by : (q : Bool) → Soils (if q then Goes (entered w) else over)
-    by true = entered_soiled w
-    by false = refl
+flagged_soiled w v =
+    elim (is_ready w v) as (λ q. Soils (if q then Goes (entered w) else over))
+    [ true ↦ entered_soiled w | false ↦ refl ]
 
 -- windows other than the first one of a call
 yields_soiled : (d : AdcTable) (u c : ℕ) (o : Option ℕ) → clean_at (yields_by d u c o) ≡ false
@@ -71,19 +69,15 @@ yields_soiled d u c (Some g) = by (c == 0)
     by false = refl
 
 begins_soiled : (d : AdcTable) (u r c : ℕ) → Soils (begins d u r c)
-begins_soiled d u r c = by (r == 0 && c == 0)
-  where
-    by : (q : Bool) → Soils (if q then Goes (Seeks (windows.Begin u) (front_start (order_of u) (ranks_of d))) else over)
-    by true = refl
-    by false = refl
+begins_soiled d u r c =
+    elim (r == 0 && c == 0) as (λ q. Soils (if q then Goes (Seeks (windows.Begin u) (front_start (order_of u) (ranks_of d))) else over))
+    [ true ↦ refl | false ↦ refl ]
 
 take_soiled : (d : AdcTable) (u : ℕ) (o : Option ℕ) → Soils (take_by d u o)
 take_soiled d u None = refl
-take_soiled d u (Some g) = by (is_on u (group_of d g))
-  where
-    by : (q : Bool) → Soils (if q then Goes (Chooses u g (put_start (trio_of (rounds_of d g)) puts.Choose)) else over)
-    by true = refl
-    by false = refl
+take_soiled d u (Some g) =
+    elim (is_on u (group_of d g)) as (λ q. Soils (if q then Goes (Chooses u g (put_start (trio_of (rounds_of d g)) puts.Choose)) else over))
+    [ true ↦ refl | false ↦ refl ]
 
 serve_soiled : (d : AdcTable) (t : Taken) (x : RoundSeen) → Soils (serve d t x)
 serve_soiled d t x = by (x.running == 0)
@@ -111,16 +105,12 @@ sought_soiled d (windows.Suspend u g) x = by (nat_lt x 16 && nat_lt (rank_of d g
     by : (q : Bool) → clean_at (if q then looking (windows.Suspend u g) else begins_next u) ≡ false
     by true = refl
     by false = refl
-sought_soiled d (windows.Begin u) x = by (nat_lt x 16)
-  where
-    by : (q : Bool) → Soils (if q then Goes (looking (windows.Convert u x false)) else over)
-    by true = refl
-    by false = refl
-sought_soiled d (windows.Leave u) x = by (nat_lt x 16)
-  where
-    by : (q : Bool) → Soils (if q then Goes (looking (windows.Convert u x true)) else Goes (Quits u))
-    by true = refl
-    by false = refl
+sought_soiled d (windows.Begin u) x =
+    elim (nat_lt x 16) as (λ q. Soils (if q then Goes (looking (windows.Convert u x false)) else over))
+    [ true ↦ refl | false ↦ refl ]
+sought_soiled d (windows.Leave u) x =
+    elim (nat_lt x 16) as (λ q. Soils (if q then Goes (looking (windows.Convert u x true)) else Goes (Quits u)))
+    [ true ↦ refl | false ↦ refl ]
 sought_soiled d _ x = refl
 
 -- ---- places
@@ -167,18 +157,12 @@ makes_clean d m x made = by (making_over (making_left m x))
     by false = soiled false false made None refl
 
 outs_soiled : (d : AdcTable) (o : Outside) (x : ℕ) → clean_at (outside_left d o x) ≡ false
-outs_soiled d (outsides.Copies c a) x = refl
-outs_soiled d (outsides.Counts r) x = refl
-outs_soiled d (outsides.Reads g b) x = refl
-outs_soiled d (outsides.Notes g u) x = refl
 outs_soiled d (outsides.Closes w) x = entered_soiled w
+outs_soiled d _ x = refl
 
 opens_soiled : (d : AdcTable) (o : Outside) → clean_at (opened d o) ≡ false
 opens_soiled d (outsides.Copies c a) = refl
-opens_soiled d (outsides.Counts r) = refl
-opens_soiled d (outsides.Reads g b) = refl
-opens_soiled d (outsides.Notes g u) = refl
-opens_soiled d (outsides.Closes w) = refl
+opens_soiled d _ = refl
 
 place_cleans : (d : AdcTable) (k : Place) (x : ℕ) → CleansTo (clean_at k) (place_move d k) (place_takes d k x)
 place_cleans d (Flag w) x = follows_clean false (place_move d (Flag w)) (Flag w) (flagged w x) (flagged_soiled w x)

@@ -11,7 +11,7 @@ use Terms.{left_by, length, length-append, length-drop, limited, List, look_take
 use Terms.{making_left, making_over, nat_le, nat_lt, nat_tests, Newest, None, not, one_made, opened, Opens, Option}
 use Terms.{order_left, Out, Outside, outside_left, Phase, Pins, Place, place_takes, Put, put-lowers, put_gave, put_left}
 use Terms.{put_room, Quits, read_more, Reading, reading, Reads, refl, rooms, rounds_of, seek_takes, Seeks, seen_more}
-use Terms.{Serves, shape_lowers, shape_room, ShortensTo, slice_get, Some, some_room, some_within, sought, Stage}
+use Terms.{shape_lowers, shape_room, ShortensTo, slice_get, Some, some_room, some_within, sought, Stage}
 use Terms.{stage_by, stage_read, step, StructureOp, subst, surveyed, Surveys, Suspended, suspends, sym, Take}
 use Terms.{take-lowers, take_gave, take_left, take_room, taken_by, Tells, true, unit_named, Window, WindowWrite, Word}
 use Terms.{word_at, words_of, WriteBatch, ℕ}
@@ -58,23 +58,7 @@ follows_lower q d k n m (Goes j) le lt = omega (arith, le, lt)
 
 words_few : (w : Window) → length (words_of w) ≤ 6
 words_few windows.Close = omega arith
-words_few (windows.Setup g b) = omega arith
-words_few (windows.Status g) = omega arith
-words_few (windows.Point g) = omega arith
-words_few (windows.Read g) = omega arith
-words_few (windows.Start g) = omega arith
-words_few (windows.Enable g) = omega arith
-words_few (windows.Stop u g) = omega arith
-words_few (windows.Yield u) = omega arith
-words_few (windows.Suspend u g) = omega arith
-words_few (windows.Keep r) = omega arith
-words_few (windows.Begin u) = omega arith
-words_few (windows.Leave u) = omega arith
-words_few (windows.Convert u g c) = omega arith
-words_few (windows.Take u) = omega arith
-words_few (windows.Claim t) = omega arith
-words_few (windows.Serve t) = omega arith
-words_few (windows.Trigger i g) = omega arith
+words_few _ = omega arith
 
 seen_length : (seen : List ℕ) (x n : ℕ) → n ≤ 6 → length (seen_more seen x) < n → length (seen_more seen x) ≡ length seen + 1
 seen_length seen x n few lt = by (nat_lt (length seen) 6) refl lt
@@ -127,11 +111,8 @@ aborts_lower q d r x = by q (x == 1) (suspends (group_of d r.group))
   where
     by : (q a s : Bool) → (let t : Option Event × Place = if a then (Some (events.Abort (unit_named r.unit)), Makes (aborted_by r s)) else (None, begins_next r.unit) in cost q d t.1) < cost q d (Aborts r)
     by true true true = omega arith
-    by true true false = omega arith
-    by true false s = omega arith
     by false true true = omega arith
-    by false true false = omega arith
-    by false false s = omega arith
+    by _ _ _ = omega arith
 
 -- ---- makings
 
@@ -146,10 +127,7 @@ goes_some None None ds n e = let less : n < length ds = grind (arith, nat_tests,
 
 first_made : (a b c e : Bool) → a && (b && (c && e)) ≡ true → (c ≡ true) × (e ≡ true)
 first_made true true true true e = (refl, refl)
-first_made true true true false e = absurd (cc)
-first_made true true false e f = absurd (cc)
-first_made true false c e f = absurd (cc)
-first_made false b c e f = absurd (cc)
+first_made _ _ _ _ e = absurd (cc)
 
 is_there : {A : Type 0} (xs : List A) → is_some (slice_get xs 0) ≡ true → 0 < length xs
 is_there [] e = absurd (cc)
@@ -214,10 +192,8 @@ copied_less d c i None a x = omega arith
 copied_less d c i (Some y) a x = by (nat_lt (i + 1) (count_of c)) refl
   where
     over : (a : Copied) → out_cost d (after_copies a) ≤ copied_cost d a
-    over (Serves t) = omega arith
     over (Tells u g true) = omega arith
-    over (Tells u g false) = omega arith
-    over (Keeps r) = omega arith
+    over _ = omega arith
 
     by : (q : Bool) → nat_lt (i + 1) (count_of c) ≡ q → out_cost d (copies_on a (if q then Some (record { what = c; done = i + 1; value = None }) else None)) < copy_by (Some y) (2 * (count_of c - (i + 1))) + copied_cost d a
     by true e = let more : i + 1 < count_of c = grind (arith, nat_tests, e) in omega (arith, more)
@@ -229,16 +205,12 @@ kept_less d r n few = copies_few d (copied.Ended (rounds_of d r.group) r.unit n 
 outs_lower : (d : AdcTable) (o : Outside) (x : ℕ) → cost true d (outside_left d o x) < out_cost d o
 outs_lower d (outsides.Copies c a) x = copied_less d c.what c.done c.value a x
 outs_lower d (outsides.Counts r) x = let k = inputs_at d r.group in let n = k - limited r.kept k in let few = limited_few x n in let le = kept_less d r (limited x n) (omega (arith, few)) in omega (arith, le)
-outs_lower d (outsides.Reads g b) x = omega arith
-outs_lower d (outsides.Notes g u) x = omega arith
 outs_lower d (outsides.Closes w) x = let le = entered_few true d w in omega (arith, le)
+outs_lower d _ x = omega arith
 
 opens_lower : (d : AdcTable) (o : Outside) → cost true d (opened d o) < open_cost d o
 opens_lower d (outsides.Copies c a) = omega arith
-opens_lower d (outsides.Counts r) = omega arith
-opens_lower d (outsides.Reads g b) = omega arith
-opens_lower d (outsides.Notes g u) = omega arith
-opens_lower d (outsides.Closes w) = omega arith
+opens_lower d _ = omega arith
 
 -- ---- a bank that is read
 
@@ -274,10 +246,7 @@ stages_lower true d r stages.Shuts x e i = omega arith
 stages_lower q d r (stages.Releases t) x e i = releases_lower q d r.reading t x
 stages_lower true d r stages.Leaves x e i = omega arith
 stages_lower true d r stages.Over x e i = omega arith
-stages_lower false d r stages.Reads x e i = absurd (cc)
-stages_lower false d r stages.Shuts x e i = absurd (cc)
-stages_lower false d r stages.Leaves x e i = absurd (cc)
-stages_lower false d r stages.Over x e i = absurd (cc)
+stages_lower _ d r _ x e i = absurd (cc)
 
 -- Each step leaves fewer steps, and one inside a window fewer of its moves.
 pub place_lowers : (q : Bool) (d : AdcTable) (k : Place) (x : ℕ) → is_inner k || q ≡ true → Lowers q d (cost q d k) (place_takes d k x)
@@ -293,5 +262,4 @@ place_lowers q d (Makes m) x i = makes_lower q d m x
 place_lowers q d (Quits u) x i = omega arith
 place_lowers true d (Opens o) x i = opens_lower d o
 place_lowers true d (Out o) x i = outs_lower d o x
-place_lowers false d (Opens o) x i = absurd (cc)
-place_lowers false d (Out o) x i = absurd (cc)
+place_lowers _ d _ x i = absurd (cc)

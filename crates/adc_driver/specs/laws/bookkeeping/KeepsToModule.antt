@@ -3,7 +3,7 @@
 -- Used by bookkeeping.Joined.
 use Rattle.std.proofs.Common.{◌≡◌, ◌+◌, ◌*◌, ◌<◌, ◌≤◌, ◌^◌, ◌==◌, ◌&&◌, ◌||◌, [], ◌∷◌, ◌∙◌}
 use Rattle.adc_driver.specs.Terms
-use Terms.{Adc, Adc0, Adc1, adc_machine, adc_owns, AdcBody, AdcGround, AdcState, AdcTable, all_groups, all_small}
+use Terms.{Adc, adc_machine, adc_owns, AdcBody, AdcGround, AdcState, AdcTable, all_groups, all_small}
 use Terms.{AllSmall, and_first, and_second, ap, arith, Asked, bare_right, Bool, buffer_number, by_line, Call, Called}
 use Terms.{ConverterAbort, ConverterAck, ConverterDone, ConverterGo, ConverterList, ConverterResult, ConverterState}
 use Terms.{EnableClear, EnableSet, EnablesOthers, EnablesWithin, entering, false, FitsAdc, Group, group_of, handled_by}
@@ -189,16 +189,14 @@ module _ (d : AdcTable) (fits : FitsAdc d) where
       by false e i = absurd (cc)
 
   starts : (w : World) (s : AdcState) (u : units.Unit) (made_by : Option Call) (r : ℕ) → IsSome ((adc_machine d).happens w s (Starts u made_by r)) → only Adc (module_of_unit u) ≡ true
-  starts w s Adc0 by r some = refl
-  starts w s Adc1 by r some = refl
   starts w s Spi0 by r some = cc
   starts w s Spi1 by r some = cc
+  starts w s _ by r some = refl
 
   aborts : (w : World) (s : AdcState) (u : units.Unit) → IsSome ((adc_machine d).happens w s (Aborts u)) → only Adc (module_of_unit u) ≡ true
-  aborts w s Adc0 some = refl
-  aborts w s Adc1 some = refl
   aborts w s Spi0 some = cc
   aborts w s Spi1 some = cc
+  aborts w s _ some = refl
 
   -- it is the converters' alone
   pub keeps_by : (fuel room : AdcBody → ℕ) (inits : LongBodies (AdcGround d) InitSweep) → KeepsTo (only Adc) (services_driver (adc d fuel room inits))

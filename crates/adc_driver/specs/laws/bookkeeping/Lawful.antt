@@ -6,12 +6,12 @@ use Rattle.adc_driver.specs.Terms
 use Terms.{adc_bodies, adc_looked, adc_setting, adc_windows, AdcBody, AdcGround, AdcRepresents, AdcState, AdcTable}
 use Terms.{and_first, any_ends, AnyBody, ap, AreEnding, AreEndingServices, AreFree, AreLong, AreWindows, arith, Asked}
 use Terms.{Beside, body_ends, Bool, both, both_ending, Call, Called, CanBegin, CaptureCountHigh, CaptureTimeHigh, Chip}
-use Terms.{Decides, DisableHardwareTrigger, EnableHardwareTrigger, ending_gave, Entered, false, first_words, FitsAdc}
-use Terms.{free_windows, GetGroupStatus, GetStreamLastPointer, Group, group_of, GroupCall, handled_by, InitBody}
+use Terms.{Decides, ending_gave, Entered, false, first_words, FitsAdc}
+use Terms.{free_windows, Group, group_of, GroupCall, handled_by, InitBody}
 use Terms.{is_some, is_used, is_windowed, IsLawful, Load, LongBodies, MakesStarts, may_name, Move, names_there}
-use Terms.{no_duties, None, Notification, Option, owes_at, Plain, PulseCommit, PulseIdle, Read, ReadGroup, refl}
-use Terms.{Reservations, Services, services_driver, services_lawful, Setup, SetupResultBuffer, short_left, short_move}
-use Terms.{Some, StartGroupConversion, STATE, steps_of, StopGroupConversion, Sweep, TimerHigh, true, word_of, World}
+use Terms.{no_duties, None, Option, owes_at, Plain, PulseCommit, PulseIdle, Read, refl}
+use Terms.{Reservations, Services, services_driver, services_lawful, Setup, short_left, short_move}
+use Terms.{Some, StartGroupConversion, STATE, steps_of, Sweep, TimerHigh, true, word_of, World}
 use Terms.{Write, ℕ}
 use Rattle.mcal_base.specs.declared.register.Reg.TheVariants.{SerialWait}
 use Rattle.adc_driver.specs.laws.bookkeeping.RefinementRight.{bodies_right, ground_right}
@@ -72,21 +72,12 @@ module _ (d : AdcTable) (fuel room : AdcBody → ℕ) (inits : LongBodies (AdcGr
     handled line false = refl
 
     group_steps : (c : GroupCall) (k : Option Group) → 7 ≤ bounds.group_steps d c k
-    group_steps (SetupResultBuffer b) k = omega arith
     group_steps StartGroupConversion None = omega arith
-    group_steps StartGroupConversion (Some k) = omega arith
-    group_steps StopGroupConversion k = omega arith
-    group_steps ReadGroup k = omega arith
-    group_steps EnableHardwareTrigger k = omega arith
-    group_steps DisableHardwareTrigger k = omega arith
-    group_steps (Notification on) k = omega arith
-    group_steps GetGroupStatus k = omega arith
-    group_steps GetStreamLastPointer k = omega arith
+    group_steps _ _ = omega arith
 
     call_steps : (call : Call) → 7 + (steps_of d (Called call) - 7) ≤ steps_of d (Called call)
-    call_steps calls.Init = omega arith
-    call_steps calls.DeInit = omega arith
     call_steps (calls.Group g c) = let most = group_steps c (group_of d g) in omega (arith, most)
+    call_steps _ = omega arith
 
     pub adc_right : AreEndingServices adc any_ends
     adc_right = record {

@@ -27,25 +27,18 @@ use Rattle.adc_groups.specs.declared.window.Window.TheVariants as windows
 
 search_plain : (s : Search) → is_shared (search_move s) ≡ false
 search_plain (searches.Tally at) = refl
-search_plain (searches.Low at t) = refl
-search_plain (searches.High at t l) = refl
+search_plain _ = refl
 
 take_plain : (t : Take) → is_shared (take_move t) ≡ false
 take_plain (takes.Pin c) = refl
-take_plain (takes.Hold c v b) = refl
-take_plain (takes.Word w) = refl
-take_plain (takes.Release c) = refl
-take_plain (takes.Free c v) = refl
+take_plain _ = refl
 
 copy_plain : (c : streams.Copied) (j : ℕ) (q : Option ℕ) → is_shared (move_by c j q) ≡ false
 copy_plain c j (Some x) = refl
-copy_plain (copied.Round r u e b) j None = by (nat_lt j e)
-  where
-    by : (q : Bool) → is_shared (if q then Load (kept_word r j) else Read (ConverterResult u (j - e))) ≡ false
-    by true = refl
-    by false = refl
-copy_plain (copied.Bank r b c) j None = refl
-copy_plain (copied.Ended r u n e) j None = refl
+copy_plain (copied.Round r u e b) j None =
+    elim (nat_lt j e) as (λ q. is_shared (if q then Load (kept_word r j) else Read (ConverterResult u (j - e))) ≡ false)
+    [ true ↦ refl | false ↦ refl ]
+copy_plain _ j _ = refl
 
 -- a window that looks at a word loads it
 word_plain : (d : AdcTable) (xs : List Word) (n : ℕ) → n < length xs → is_shared (look_move d (slice_get xs n)) ≡ false
@@ -79,10 +72,7 @@ module _ (d : AdcTable) (fits : FitsAdc d) where
 
   opens_turns : (o : Outside) (x : ℕ) → TurnsAt (Opens o) x
   opens_turns (outsides.Reads g b) x = (refl, refl, refl, refl)
-  opens_turns (outsides.Copies c a) x = (refl, refl, refl, refl)
-  opens_turns (outsides.Counts r) x = (refl, refl, refl, refl)
-  opens_turns (outsides.Notes g u) x = (refl, refl, refl, refl)
-  opens_turns (outsides.Closes w) x = (refl, refl, refl, refl)
+  opens_turns _ x = (refl, refl, refl, refl)
 
   closes_turns : (w : Window) (below : Reservations) (o : Origin Call) (p : FrameHistory) (x : ℕ) → MayClose d w below o p → TurnsAt (Out (outsides.Closes w)) x
   closes_turns (windows.Yield u) below o p x h = (refl, refl, omega arith, refl, refl)
@@ -94,10 +84,9 @@ module _ (d : AdcTable) (fits : FitsAdc d) where
   module _ (below : Reservations) (f : Footprint) (w : World) (s : AdcState) (o : Origin Call) (past : FrameHistory) where
     out_turns : (q : Outside) (x : ℕ) → place_at (spot_at d (Out q)) below f w s o past → TurnsAt (Out q) x
     out_turns (outsides.Copies c a) x h = plain_turns 32 false false 0 0 (copy_move c) None None (copy_plain c.what c.done c.value) refl
-    out_turns (outsides.Counts r) x h = refl
-    out_turns (outsides.Reads g b) x h = refl
     out_turns (outsides.Notes g u) x h = (refl, refl, refl, refl)
     out_turns (outsides.Closes w) x h = closes_turns w below o past x h
+    out_turns _ x h = refl
 
     reads_turns : (n : Newest) (z : Stage) (x : ℕ) → place_at (read_spot d n z) below f w s o past → TurnsAt (Reads (record n { stage = z })) x
     reads_turns n stages.Reads x h = by (has_read (read_more n.reading x))

@@ -4,13 +4,13 @@
 use Rattle.std.proofs.Common.{◌≡◌, ◌+◌, ◌==◌, ◌&&◌, if◌then◌else◌}
 use Rattle.adc_driver.specs.Terms
 use Terms.{aborted, aborted_by, Aborts, AdcBody, AdcTable, after_making, Answer, banks_spot, begin, begins_next}
-use Terms.{BodyTaken, Bool, choose_takes, Chooses, clean_in, Continuation, Decided, decided, Done, entered, Event}
+use Terms.{BodyTaken, Bool, choose_takes, Chooses, clean_in, Decided, decided, Done, entered, Event}
 use Terms.{false, Flag, flagged, follows, Front, front_gave, front_left, given, group_in, group_of, is_closed, is_on}
 use Terms.{is_ready, is_under_way, length, List, look_takes, looked, looking, Looks, Makes, making_event, making_left}
 use Terms.{making_over, making_takes, nat_lt, Newest, next_of, None, number_of, of_driver, Opens, Option, Out}
 use Terms.{owes_making, PendingWrites, Phase, phase_in, Pins, Place, place_takes, point_by, Put, put_gave, put_left}
 use Terms.{Quits, rank_of, read_by, Reads, refl, round_seen, RoundSeen, seek_takes, Seeks, seen_more, serve, Some}
-use Terms.{sought, spot_making, spot_or, spot_start, Stage, stage_by, step, stop, stop_seen, StopSeen, StructureOp}
+use Terms.{sought, spot_making, spot_or, spot_start, Stage, stage_by, step, stop, stop_seen, StopSeen}
 use Terms.{survey, survey_by, surveyed, Surveys, Suspended, suspends, Take, take_by, take_gave, take_left, Taken}
 use Terms.{takes_one, true, unit_in, unit_named, Window, Word, word_at, word_seen, WriteBatch, yields_by, ℕ}
 use Rattle.adc_driver.specs.laws.{bookkeeping.Decreases.{is_inner, is_inner_stage}, bookkeeping.Rank.{V, bodies}}
@@ -41,49 +41,27 @@ making_shut : (d : AdcTable) (P : Type 0) (m : WriteBatch) (q : Option PendingWr
 making_shut d P m (Some x) = refl
 making_shut d P m None = by m.event
   where
-    banks : (b : Option StructureOp) → is_closed (of_driver P (banks_spot d m b)) ≡ true
-    banks None = refl
-    banks (Some (shapes.Put q)) = refl
-    banks (Some (shapes.Add q)) = refl
-    banks (Some (shapes.Again q)) = refl
-    banks (Some (shapes.Drop q)) = refl
-    banks (Some (shapes.Next q)) = refl
-    banks (Some (shapes.Take q)) = refl
-
     starts : (u : Option ℕ) (c : Bool) → is_closed (of_driver P (spot_start d m u c)) ≡ true
     starts None c = refl
     starts (Some u) c = refl
 
     by : (e : Option Event) → is_closed (of_driver P (spot_making d m e)) ≡ true
     by (Some (events.Start u)) = starts (number_of u) _
-    by None = banks m.banks
-    by (Some events.Act) = banks m.banks
-    by (Some (events.Serve l)) = banks m.banks
-    by (Some (events.Abort u)) = banks m.banks
+    by _ =
+        elim m.banks as (λ b. is_closed (of_driver P (banks_spot d m b)) ≡ true)
+        [ Some (shapes.Put q) ↦ refl | _ ↦ refl ]
 
 pub shut_at : (d : AdcTable) (k : AdcBody) → is_closed ((bodies d).assertion k) ≡ is_shut k.place
 shut_at d k = by k.place
   where
     stage : (n : Newest) (z : Stage) → is_closed ((bodies d).assertion (record { table = k.table; place = Reads (record n { stage = z }) })) ≡ is_shut_stage z
     stage n stages.Reads = refl
-    stage n stages.Shuts = refl
-    stage n (stages.Releases t) = refl
-    stage n stages.Leaves = refl
-    stage n stages.Over = refl
+    stage n _ = refl
 
     by : (p : Place) → is_closed ((bodies d).assertion (record { table = k.table; place = p })) ≡ is_shut p
     by (Makes m) = making_shut d (k.table ≡ d) m (owes_making k.table m)
     by (Reads n) = stage n n.stage
-    by (Flag w) = refl
-    by (Looks w seen) = refl
-    by (Surveys w g) = refl
-    by (Seeks w r) = refl
-    by (Chooses u g r) = refl
-    by (Pins g x) = refl
-    by (Aborts r) = refl
-    by (Quits u) = refl
-    by (Opens o) = refl
-    by (Out o) = refl
+    by _ = refl
 
 -- ---- what a window goes on with is in the window
 
@@ -99,11 +77,7 @@ GoesShut (decisions.Ends t) = Unit {0}
 GoesShut (decisions.Goes k) = is_shut k ≡ true
 
 follows_shut : (k : Place) (x : Decided) → is_shut k ≡ true → GoesShut x → StaysShut (follows k x)
-follows_shut k (decisions.Ends t) h g = by t.done
-  where
-    by : (q : Option Done) → IsShutBy k q
-    by None = h
-    by (Some n) = tt
+follows_shut k (decisions.Ends t) h g = elim t.done as (λ q. IsShutBy k q) [ None ↦ h | Some n ↦ tt ]
 follows_shut k (decisions.Goes p) h g = g
 
 either : (q : Bool) (x y : Decided) → GoesShut x → GoesShut y → GoesShut (if q then x else y)
@@ -116,7 +90,6 @@ either_place false x y h g = g
 
 begin_shut : (d : AdcTable) (w : Window) → is_shut (begin d w) ≡ true
 begin_shut d (windows.Start g) = refl
-begin_shut d (windows.Enable g) = refl
 begin_shut d _ = refl
 
 survey_shut : (d : AdcTable) (w : Window) (q : Option ℕ) → is_shut (survey_by d w q) ≡ true
@@ -132,16 +105,12 @@ looked_shut d w c p = either (c == 0) _ _ tt (either (is_under_way (phase_in p))
 point_shut : (d : AdcTable) (g c p : ℕ) (x : Phase) → GoesShut (point_by d g c p x)
 point_shut d g c p phases.Idle = tt
 point_shut d g c p phases.Busy = tt
-point_shut d g c p phases.Completed = refl
-point_shut d g c p phases.Streaming = refl
-point_shut d g c p phases.Ended = refl
+point_shut d g c p _ = refl
 
 read_shut : (d : AdcTable) (g : ℕ) (x : Phase) → GoesShut (read_by d g x)
 read_shut d g phases.Idle = tt
 read_shut d g phases.Busy = tt
-read_shut d g phases.Completed = refl
-read_shut d g phases.Streaming = refl
-read_shut d g phases.Ended = refl
+read_shut d g _ = refl
 
 yields_shut : (d : AdcTable) (u c : ℕ) (g : Option ℕ) → is_shut (yields_by d u c g) ≡ true
 yields_shut d u c None = refl
@@ -167,15 +136,11 @@ decided_shut d (windows.Start g) seen = looked_shut d (windows.Start g) (word_se
 decided_shut d (windows.Enable g) seen = looked_shut d (windows.Enable g) (word_seen seen 0) (word_seen seen 1)
 decided_shut d (windows.Stop u g) seen = stop_shut d u g (stop_seen seen)
 decided_shut d (windows.Yield u) seen = yields_shut d u (word_seen seen 1) (group_in (word_seen seen 0))
-decided_shut d (windows.Suspend u g) seen = refl
-decided_shut d (windows.Keep r) seen = refl
 decided_shut d (windows.Begin u) seen = either (word_seen seen 0 == 0 && word_seen seen 1 == 0) _ _ refl tt
 decided_shut d (windows.Leave u) seen = tt
-decided_shut d (windows.Convert u g c) seen = refl
 decided_shut d (windows.Take u) seen = take_shut d u (group_in (word_seen seen 0))
-decided_shut d (windows.Claim t) seen = refl
 decided_shut d (windows.Serve t) seen = serve_shut d t (round_seen seen)
-decided_shut d (windows.Trigger i g) seen = refl
+decided_shut d _ seen = refl
 
 sought_shut : (d : AdcTable) (w : Window) (x : ℕ) → GoesShut (sought d w x)
 sought_shut d (windows.Suspend u g) x = either_place (nat_lt x 16 && nat_lt (rank_of d g) (rank_of d x)) _ _ refl refl
@@ -205,15 +170,9 @@ aborted_shut d r x = by (x == 1)
     by false = refl
 
 making_stays : (e : Option Event) (m : WriteBatch) → StaysShut (making_takes e m)
-making_stays e m = by (making_over m)
-  where
-    last : (t : Continuation) → StaysShut (after_making e m t)
-    last (thens.Ends n) = tt
-    last (thens.Goes o) = refl
-
-    by : (q : Bool) → StaysShut (if q then after_making e m m.after else (Makes m, step e))
-    by true = last m.after
-    by false = refl
+making_stays e m =
+    elim (making_over m) as (λ q. StaysShut (if q then after_making e m m.after else (Makes m, step e)))
+    [ true ↦ (elim m.after as (λ t. StaysShut (after_making e m t)) [ thens.Ends n ↦ tt | thens.Goes o ↦ refl ]) | false ↦ refl ]
 
 stage_stays : (t : Take) (q : Option Answer) → is_shut_stage (stage_by t q) ≡ true
 stage_stays t None = refl
@@ -245,5 +204,4 @@ takes_shut d (Reads n) x h = by n.stage h
 takes_shut d (Aborts r) x h = aborted_shut d r x
 takes_shut d (Makes m) x h = making_stays (making_event m) (making_left m x)
 takes_shut d (Quits u) x h = tt
-takes_shut d (Opens o) x h = absurd (cc)
-takes_shut d (Out o) x h = absurd (cc)
+takes_shut d _ x h = absurd (cc)

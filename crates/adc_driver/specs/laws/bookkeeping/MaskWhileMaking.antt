@@ -3,15 +3,14 @@
 -- Used by bookkeeping.MaskDiscipline.
 use Rattle.std.proofs.Common.{◌≡◌, ◌<◌, ◌&&◌, [], ◌∷◌, ◌∙◌, if◌then◌else◌}
 use Rattle.adc_driver.specs.Terms
-use Terms.{AdcGround, AdcState, AdcTable, ap, arith, banks_spot, Begins_stream, Bool, Call, Closes_module, deed_move}
-use Terms.{deed_or_open, either_shape, Enables_trigger, Event, false, Footprint, FrameHistory, group_of, is_first}
-use Terms.{is_shared, is_simple, is_some, IsDealing, IsStarting, len_start, length, List, Load, Looking, making_by}
-use Terms.{making_move, making_over, Mask, Move, nat_le, nat_tests, None, not, Note, Notifies, number_of, of_driver}
-use Terms.{off_where, Option, Orders, Origin, place_at, PointAssertion, Points, Prepares, pulse_by, Pulses, Read, refl}
-use Terms.{Report, Reservations, Sets_up, shape_move, shape_simple, slice_get, Some, spot_making, spot_start}
-use Terms.{start_deeds, Stops, Stops_turn, Store, StructureOp, suc, sym, trigger_bit, trigger_input, true, Unmask}
+use Terms.{AdcGround, AdcState, AdcTable, ap, arith, banks_spot, Bool, Call, deed_move}
+use Terms.{deed_or_open, either_shape, Event, false, Footprint, FrameHistory, group_of, is_first}
+use Terms.{is_shared, is_simple, is_some, IsDealing, IsStarting, len_start, length, List, Load, making_by}
+use Terms.{making_move, making_over, Move, nat_le, nat_tests, None, not, number_of, of_driver}
+use Terms.{off_where, Option, Orders, Origin, place_at, PointAssertion, Prepares, pulse_by, Pulses, refl}
+use Terms.{Reservations, shape_move, shape_simple, slice_get, Some, spot_making, spot_start}
+use Terms.{start_deeds, Stops, Store, StructureOp, suc, sym, trigger_bit, trigger_input, true}
 use Terms.{WindowWrite, Within, World, Write, WriteBatch, zero, ℕ}
-use Rattle.service_outline.specs.Services.{Outside}
 use Rattle.mcal_base.specs.declared.moves.Event.TheVariants as events
 use Rattle.adc_groups.specs.declared.making.WindowWrite.TheVariants as deeds
 use Rattle.adc_groups.specs.declared.making.StructureOp.TheVariants as shapes
@@ -23,20 +22,14 @@ simple_plain : (made : Move) → is_simple made ≡ true → is_shared made ≡ 
 simple_plain (Load k) e = refl
 simple_plain (Store k v) e = refl
 simple_plain (Write r v) e = refl
-simple_plain (Read r) e = absurd (cc)
-simple_plain Mask e = absurd (cc)
-simple_plain Unmask e = absurd (cc)
-simple_plain (Note n) e = absurd (cc)
-simple_plain (Report r) e = absurd (cc)
+simple_plain _ e = absurd (cc)
 
 pub shape_plain : (s : StructureOp) → is_shared (shape_move s) ≡ false
 shape_plain s = simple_plain (shape_move s) (shape_simple s)
 
 deed_plain : (d : AdcTable) (x : WindowWrite) → is_shared (deed_move d x) ≡ false
 deed_plain d (deeds.Set w v) = refl
-deed_plain d (deeds.Write r v) = refl
-deed_plain d (deeds.Abort u) = refl
-deed_plain d deeds.Disable = refl
+deed_plain d _ = refl
 
 some_plain : (d : AdcTable) (q : Option WindowWrite) → is_some q ≡ true → is_shared (deed_or_open d q) ≡ false
 some_plain d None e = absurd (cc)
@@ -69,19 +62,11 @@ some_left : (x : WindowWrite) (xs : List WindowWrite) → nat_le (length (x ∷ 
 some_left x xs = let lt : 0 < length (x ∷ xs) = omega arith in grind (arith, nat_tests)
 
 dealing_goes : (d : AdcTable) (below : Reservations) (f : Footprint) (w : World) (s : AdcState) (o : Origin Call) (p : FrameHistory) (m : WriteBatch) → IsDealing d below f w s o p m → making_over m ≡ false
-dealing_goes d below f w s o p _ (Sets_up g b calls idle) = refl
-dealing_goes d below f w s o p _ (Notifies g on calls) = refl
-dealing_goes d below f w s o p _ (Points g status calls is busy idle) = refl
-dealing_goes d below f w s o p _ (Begins_stream g calls may) = refl
-dealing_goes d below f w s o p _ (Enables_trigger g calls may) = refl
 dealing_goes d below f w s o p _ (Stops g call is calls idle turn) = some_left (deeds.Set (words.Phase g) 0) (deeds.Set (words.Notified g) 0 ∷ off_where (is_some (trigger_input (group_of d g))) (trigger_bit d g))
-dealing_goes d below f w s o p _ (Stops_turn g call run lost is calls idle turn runs loses) = refl
-dealing_goes d below f w s o p _ (Closes_module being on busy none) = refl
-dealing_goes d below f w s o p _ (Pulses i g turned serves may turn) = by turned
-  where
-    by : (q : Bool) → making_over (pulse_by d i g q) ≡ false
-    by true = refl
-    by false = refl
+dealing_goes d below f w s o p _ (Pulses i g turned serves may turn) =
+    elim turned as (λ q. making_over (pulse_by d i g q) ≡ false)
+    [ true ↦ refl | false ↦ refl ]
+dealing_goes d below f w s o p _ _ = refl
 
 starting_goes : (d : AdcTable) (below : Reservations) (f : Footprint) (w : World) (s : AdcState) (o : Origin Call) (p : FrameHistory) (u : ℕ) (m : WriteBatch) → IsStarting d below f w s o p u m → making_over m ≡ false
 starting_goes d below f w s o p u _ (Orders g e left claimed n r xs start order first ends has) = refl
@@ -93,8 +78,7 @@ starting_goes d below f w s o p u _ (Prepares g e left claimed made xs start few
 -- the place of a body that is the driver's
 pub driver_place : {d : AdcTable} (P : Type 0) (x : PointAssertion (AdcGround d)) (below : Reservations) (f : Footprint) (w : World) (s : AdcState) (o : Origin Call) (p : FrameHistory) → place_at (of_driver P x) below f w s o p → P × place_at x below f w s o p
 driver_place P (Within gap hs place) below f w s o p h = h
-driver_place P (Outside hs place) below f w s o p h = h
-driver_place P (Looking gap hs place) below f w s o p h = h
+driver_place _ _ below f w s o p h = h
 
 module _ (d : AdcTable) (m : WriteBatch) (below : Reservations) (f : Footprint) (w : World) (s : AdcState) (o : Origin Call) (p : FrameHistory) where
   banks_goes : (q : Option StructureOp) → place_at (banks_spot d m q) below f w s o p → making_over m ≡ false
@@ -113,7 +97,4 @@ module _ (d : AdcTable) (m : WriteBatch) (below : Reservations) (f : Footprint) 
   -- where it stands it has moves left
   pub event_goes : (e : Option Event) → place_at (spot_making d m e) below f w s o p → making_over m ≡ false
   event_goes (Some (events.Start x)) h = start_goes (number_of x) _ h
-  event_goes None h = banks_goes m.banks h
-  event_goes (Some events.Act) h = banks_goes m.banks h
-  event_goes (Some (events.Serve l)) h = banks_goes m.banks h
-  event_goes (Some (events.Abort u)) h = banks_goes m.banks h
+  event_goes _ h = banks_goes m.banks h

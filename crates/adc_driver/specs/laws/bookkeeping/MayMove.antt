@@ -7,23 +7,22 @@ use Rattle.adc_driver.specs.Terms
 use Terms.{Aborts, adc_bodies, adc_windows, AdcBody, AdcGround, AdcState, AdcTable, Agrees, and_from, ap, arith}
 use Terms.{AssertedAt, Bank, bank_word, bank_words, banks_spot, Begins_stream, body_work, Bool, buffer_in, Call, Chip}
 use Terms.{Chooses, claim_at, claim_words, Closes_module, Column, column_is, column_word, ConverterGo, ConverterResult}
-use Terms.{Copied, count_of, deed_move, deed_work, Enables_trigger, ends_claim, Event, false, few_inputs, first_words}
+use Terms.{Copied, count_of, deed_move, deed_work, ends_claim, Event, false, few_inputs, first_words}
 use Terms.{FitsAdc, Flag, foot_of, FrameHistory, Front, gap_at, go_at, Group, group_of, group_word, has_input, hold_in}
 use Terms.{holds_at, InFlag, inl, inputs_of, inr, InWindow, is_of, is_shared, is_some, is_word, IsCopy, IsDealing}
 use Terms.{IsReleasing, IsSeeking, IsStarting, KeepsThem, kept_word, kept_words, length, List, list_any, list_at}
-use Terms.{list_deed, lists_for, Load, look_move, Looking, Looks, low_words, lt_from, Makes, making_move, Mask, may}
-use Terms.{MayCopy, MayPin, MaySeek, MayServe, Move, move_by, moves_ahead, NamesOwn, nat_lt, Newest, None, Note}
+use Terms.{list_deed, lists_for, Load, look_move, Looks, low_words, lt_from, Makes, making_move, may}
+use Terms.{MayCopy, MayPin, MaySeek, MayServe, Move, move_by, moves_ahead, NamesOwn, nat_lt, Newest, None}
 use Terms.{nothing_more, Notifies, number_of, of_driver, on_there, Opens, Option, order_of, order_words, order_work}
 use Terms.{Orders, Origin, Out, OutPlace, outside_move, owes_at, Pins, Place, place_at, place_move, place_out}
 use Terms.{place_sum, place_within, place_words, PointAssertion, Points, Prepares, Pulses, put_move, Quits, Read}
-use Terms.{read_spot, ReadsPlace, refl, Report, Reservations, Round, round_at, Rounds, rounds_of, running_at}
+use Terms.{read_spot, ReadsPlace, refl, Reservations, Round, round_at, Rounds, rounds_of, running_at}
 use Terms.{running_words, samples_of, Seeks, Serves, Sets_up, shape_move, slice_get, Some, sought_unit, spot_at}
 use Terms.{spot_making, spot_or, spot_start, Stage, stage_move, start_deeds, start_of, STATE, Stops, Stops_turn, Store}
 use Terms.{StructureOp, subst, suc, Surveys, sym, Take, take_move, Tells, trio_of, true, unit_in, unit_named}
-use Terms.{unit_within, Unmask, Window, WindowWrite, with_holds, Within, Word, word_number, word_there, WORDS, words_of}
+use Terms.{unit_within, Window, WindowWrite, with_holds, Within, Word, word_number, word_there, WORDS, words_of}
 use Terms.{World, Write, WriteBatch, Zero, zero, ℕ}
 use Rattle.word_shapes.specs.PriorityQueue.{own_of}
-use Rattle.service_outline.specs.Services.{Outside}
 use Rattle.mcal_base.specs.declared.moves.Event.TheVariants as events
 use Rattle.word_shapes.specs.declared.take.Take.TheVariants as takes
 use Rattle.adc_stream.specs.declared.copying.Copied as streams
@@ -54,12 +53,7 @@ module _ (d : AdcTable) (fits : FitsAdc d) where
   named_mine : (own : ℕ → Bool) → ((k : ℕ) → own k ≡ true → is_word d k ≡ true) → (made : Move) → NamesOwn own made → Mine made
   named_mine own is (Load k) at = load_mine k (is k at)
   named_mine own is (Store k v) at = store_mine k v (is k at)
-  named_mine own is (Read r) at = absurd at
-  named_mine own is (Write r v) at = absurd at
-  named_mine own is Mask at = absurd at
-  named_mine own is Unmask at = absurd at
-  named_mine own is (Note n) at = absurd at
-  named_mine own is (Report e) at = absurd at
+  named_mine own is _ at = absurd at
 
   result_mine : (u i : ℕ) → u < 2 → i < 32 → Mine (Read (ConverterResult u i))
   result_mine u i few lt = and_from (nat_lt u 2) (nat_lt i 32) (lt_from u 2 few) (lt_from i 32 lt)
@@ -154,10 +148,9 @@ module _ (d : AdcTable) (fits : FitsAdc d) where
         let bank = n.reading.bank in
         let j = length n.reading.values in
         subst (λ (x : Rounds). j < x.inputs → Mine (Load (bank_word x bank j))) (sym h.1.0) (λ lt. load_mine (bank_word (rounds_of d n.group) bank j) (bank_words d fits n.group bank j there lt)) h.1.1
-    read_own n stages.Shuts h = refl
     read_own n (stages.Releases t) h = release_own n.group t h.0.right.0.2 h.1.3
-    read_own n stages.Leaves h = refl
     read_own n stages.Over h = absurd h.1
+    read_own n _ h = refl
 
     -- ---- moves before which an event stands
 
@@ -166,12 +159,11 @@ module _ (d : AdcTable) (fits : FitsAdc d) where
     dealing_own _ (Notifies g on is) = store_mine (group_word d g 2) 0 (low g 2 is.1.there (omega arith))
     dealing_own _ (Points g z is at busy idle) = store_mine (group_word d g 0) 0 (low g 0 is.1.there (omega arith))
     dealing_own _ (Begins_stream g is may) = store_mine (group_word d g 0) 1 (low g 0 is.1.there (omega arith))
-    dealing_own _ (Enables_trigger g is may) = refl
     dealing_own _ (Stops g call stop is idle none) = store_mine (group_word d g 0) 0 (low g 0 is.1.there (omega arith))
     dealing_own _ (Stops_turn g call run lost stop is idle turn round claim) = store_mine (group_word d g 0) 0 (low g 0 is.1.there (omega arith))
     dealing_own _ (Closes_module is on calm none) = store_mine STATE 0 (first_words d 0 (omega arith))
     dealing_own _ (Pulses i g true is may turn) = refl
-    dealing_own _ (Pulses i g false is may turn) = refl
+    dealing_own _ _ = refl
 
     pin_own : (m : WriteBatch) → MayPin d below (foot_of chip) s o p m → Mine (making_move d m)
     pin_own m (g, y, is, alone, pins, e) = subst (λ z. Mine (making_move d z)) (sym e) (store_mine (group_word d g 0) 0 (low g 0 is.1.there (omega arith)))
@@ -280,8 +272,7 @@ module _ (d : AdcTable) (fits : FitsAdc d) where
     out_own (outsides.Copies c a) h = copies_own c.what a c.done c.value h.0 h.1 h.2
     out_own (outsides.Counts r) h = lt_from r.unit 2 h.1
     out_own (outsides.Reads g b) h = load_mine STATE (first_words d 0 (omega arith))
-    out_own (outsides.Notes g u) h = refl
-    out_own (outsides.Closes win) h = refl
+    out_own _ h = refl
 
     -- ---- all of them
 
@@ -307,8 +298,7 @@ module _ (d : AdcTable) (fits : FitsAdc d) where
 
     of_table : (P : Type 0) (z : PointAssertion (AdcGround d)) → StandsAs (of_driver P z) → P × StandsAs z
     of_table P (Within gap hs place) h = (h.1.0, (h.0, h.1.1))
-    of_table P (Outside hs place) h = (h.1.0, (h.0, h.1.1))
-    of_table P (Looking gap hs place) h = (h.1.0, (h.0, h.1.1))
+    of_table _ _ h = (h.1.0, (h.0, h.1.1))
 
     known_own : (x : AdcTable) (k : Place) → StandsAs (of_driver (x ≡ d) (spot_at d k)) → Mine (place_move x k)
     known_own x k h = let is = of_table (x ≡ d) (spot_at d k) h in subst (λ z. Mine (place_move z k)) (sym is.0) (own_at k is.1)

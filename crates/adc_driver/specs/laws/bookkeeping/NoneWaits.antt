@@ -3,15 +3,14 @@
 -- Used by bookkeeping.NoneWaitsPlaces, bookkeeping.NoneWaitsMaking, bookkeeping.NoneWaitsLooking.
 use Rattle.std.proofs.Common.{◌≡◌, ◌+◌, ◌-◌, ◌≤◌, ◌&&◌, ◌||◌, [], ◌∙◌}
 use Rattle.adc_driver.specs.Terms
-use Terms.{Abort, aborts, aborts_by, Act, acted, adc_machine, AdcState, AdcTable, and_false, Answer, ap, arith}
-use Terms.{BodyTaken, Bool, Brought, Call, Called, claims_on, cond, Done, ended_by, ends, Entered, Epilogue, Error}
+use Terms.{aborts, aborts_by, Act, acted, adc_machine, AdcState, AdcTable, and_false, Answer, ap, arith}
+use Terms.{BodyTaken, Bool, Brought, Call, Called, claims_on, cond, Done, ended_by, ends, Entered, Epilogue}
 use Terms.{Event, false, finish_of, FrameHistory, fresh_history, group_of, happening_at, Has_acted, has_line}
 use Terms.{Has_served, has_served, HasDone, is_finished, is_outranked, is_serving, is_some, Is_this_frame, is_unit_line}
 use Terms.{IsServing, IsThisFrame, Leaves, LeavesNone, line_waits, List, MayTurn, moved, None, not, Nothing, Option}
 use Terms.{Order, Origin, outcome_of, Place, place_ends, polled_by, refl, Reservations, Round, round_at, Serve}
-use Terms.{served_by, Some, some_hold, Start, startable_on, starts, state_by, subst, sym, true, Two, World, world_after}
+use Terms.{served_by, Some, some_hold, startable_on, starts, state_by, subst, sym, true, World, world_after}
 use Terms.{ℕ}
-use Rattle.service_outline.specs.declared.done.Epilogue.TheVariants.{One}
 use Rattle.adc_driver.specs.laws.hardware.StableUnderHardware.{later_number, marks_later, time_later}
 
 -- ---- the hardware lets no unit wait
@@ -20,10 +19,9 @@ aborts_later : (d : AdcTable) (w x : World) (s : AdcState) (u : ℕ) → w.now �
 aborts_later d w x s u le e = by (round_at s u) e
   where
     still : (a b out : Bool) (r : Round) → (a ≡ true → b ≡ true) → is_some (cond (not a && out) (Some r) None) ≡ false → is_some (cond (not b && out) (Some r) None) ≡ false
-    still true true out r more e = refl
     still true false out r more e = absurd (let on = more refl in cc)
-    still false true out r more e = refl
     still false false out r more e = e
+    still _ _ out r more e = refl
 
     by : (q : Option Round) → is_some (aborts_by d w s u q) ≡ false → is_some (aborts_by d x s u q) ≡ false
     by None e = e
@@ -58,19 +56,14 @@ module _ (d : AdcTable) (w : World) (s : AdcState) (o : Origin Call) (p : FrameH
 module _ (d : AdcTable) (w : World) (s : AdcState) (c : Call) (p : FrameHistory) (b : Brought) (none : p.polled ≡ []) where
   still_none : (e : Option Event) → polled_by (adc_machine d) w s (Called c) p.polled e ≡ []
   still_none (Some Act) = refl
-  still_none (Some (Serve l)) = none
-  still_none (Some (Abort u)) = none
-  still_none (Some (Start u)) = none
-  still_none None = none
+  still_none _ = none
 
   left : (x : AdcState) (polled served : List ℕ) → polled ≡ [] → (v : World) → LeavesNone (adc_machine d) v x (Called c) polled served
   left x polled served e v = subst (λ ls. LeavesNone (adc_machine d) v x (Called c) ls served) (sym e) refl
 
   leaves : (x : AdcState) (polled served : List ℕ) (owed : Epilogue) → polled ≡ [] → Leaves (adc_machine d) w x (Called c) polled served owed
   leaves x polled served Nothing e = left x polled served e w
-  leaves x polled served (Error r) e = λ v t. left t polled served e v
-  leaves x polled served (One k) e = λ v t. left t polled served e v
-  leaves x polled served (Two k j) e = λ v t. left t polled served e v
+  leaves x polled served _ e = λ v t. left t polled served e v
 
   pub called_by : (t : BodyTaken) → LeavesBy d w s (Called c) p b t
   called_by t n e = leaves (state_by s (outcome_of (adc_machine d) w s (happening_at (Called c) b t.event))) (polled_by (adc_machine d) w s (Called c) p.polled t.event) (served_by p.served t.event) n.owed (still_none t.event)
@@ -81,17 +74,12 @@ module _ (d : AdcTable) (w : World) (s : AdcState) (c : Call) (p : FrameHistory)
 -- a handler that has served nothing
 none_served : (e : Option Event) → is_serving e ≡ false → served_by [] e ≡ []
 none_served (Some (Serve l)) i = absurd (cc)
-none_served (Some Act) i = refl
-none_served (Some (Abort u)) i = refl
-none_served (Some (Start u)) i = refl
-none_served None i = refl
+none_served _ i = refl
 
 module _ (d : AdcTable) (w : World) (s : AdcState) (l : ℕ) (b : Brought) where
   unserved : (x : AdcState) (polled served : List ℕ) (owed : Epilogue) → served ≡ [] → Leaves (adc_machine d) w x (Entered l) polled served owed
   unserved x polled served Nothing e = ap (λ ls. has_line ls l && line_waits d w x l) e
-  unserved x polled served (Error r) e = λ v t. ap (λ ls. has_line ls l && line_waits d v t l) e
-  unserved x polled served (One k) e = λ v t. ap (λ ls. has_line ls l && line_waits d v t l) e
-  unserved x polled served (Two k j) e = λ v t. ap (λ ls. has_line ls l && line_waits d v t l) e
+  unserved x polled served _ e = λ v t. ap (λ ls. has_line ls l && line_waits d v t l) e
 
   pub unserved_so : (z : Place × BodyTaken) → is_serving z.1.event ≡ false → LeavesSo d w s (Entered l) fresh_history b z
   unserved_so z i = (λ a e. refl, λ n e. unserved (state_by s (outcome_of (adc_machine d) w s (happening_at (Entered l) b z.1.event))) (polled_by (adc_machine d) w s (Entered l) [] z.1.event) (served_by [] z.1.event) n.owed (none_served z.1.event i))

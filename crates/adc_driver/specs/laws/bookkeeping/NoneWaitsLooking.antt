@@ -27,9 +27,8 @@ use Rattle.adc_groups.specs.declared.words.Word.TheVariants as words
 
 -- a handler that holds the starts of the unit of its line keeps none that yields below
 own_line : (u : ℕ) → u < 2 → is_handler u (Entered (24 + u)) ≡ true
-own_line zero few = refl
-own_line (suc zero) few = refl
 own_line (suc (suc u)) few = absurd (omega (arith, few))
+own_line _ few = refl
 
 yields_end : (d : AdcTable) (u c : ℕ) (q : Option ℕ) → place_ends (yields_by d u c q) ≡ None
 yields_end d u c None = refl

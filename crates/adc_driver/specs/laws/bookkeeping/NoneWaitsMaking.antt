@@ -33,23 +33,19 @@ Stands d below chip w s o p x = (AdcGround d).represents (with_holds o p.acted (
 
 -- a step leaves what comes after
 after_left : (m : WriteBatch) (v : ℕ) → (making_left m v).after ≡ m.after
-after_left m v = first (is_first m)
+after_left m v =
+    elim (is_first m) as (λ q. (let n : WriteBatch = if q then one_made m else order_left m m.order v in n.after) ≡ m.after)
+    [ true ↦ made (nat_lt m.made (length m.deeds)) | false ↦ order m.order ]
   where
     made : (q : Bool) → (let n : WriteBatch = if q then record m { made = m.made + 1 } else m in n.after) ≡ m.after
     made true = refl
     made false = refl
 
-    banks : (q : Option StructureOp) → (banks_left m q v).after ≡ m.after
-    banks None = made (nat_lt m.made (length m.deeds))
-    banks (Some z) = refl
-
     order : (q : Option StructureOp) → (order_left m q v).after ≡ m.after
-    order None = banks m.banks
+    order None =
+        elim m.banks as (λ q. (banks_left m q v).after ≡ m.after)
+        [ None ↦ made (nat_lt m.made (length m.deeds)) | Some z ↦ refl ]
     order (Some z) = refl
-
-    first : (q : Bool) → (let n : WriteBatch = if q then one_made m else order_left m m.order v in n.after) ≡ m.after
-    first true = made (nat_lt m.made (length m.deeds))
-    first false = order m.order
 
 module _ (d : AdcTable) (w : World) (s : AdcState) (b : Brought) (o : Origin Call) (p : FrameHistory) where
   abbrev So : Place × BodyTaken → Type 0
@@ -179,7 +175,4 @@ module _ (d : AdcTable) (w : World) (s : AdcState) (b : Brought) where
 
     pub makes_so : (e : Option Event) → Stands d below chip w s o p (spot_making d m e) → LeavesSo d w s o p b (place_takes d (Makes m) v)
     makes_so (Some (events.Start x)) at = begin_so (number_of x) (list_any ends_claim m.deeds) at
-    makes_so (Some events.Act) at = banks_so m.banks at.1
-    makes_so (Some (events.Serve l)) at = banks_so m.banks at.1
-    makes_so (Some (events.Abort u)) at = banks_so m.banks at.1
-    makes_so None at = banks_so m.banks at.1
+    makes_so _ at = banks_so m.banks at.1

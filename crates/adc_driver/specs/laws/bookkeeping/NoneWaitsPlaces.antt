@@ -149,10 +149,8 @@ module _ (d : AdcTable) (below : Reservations) (chip : Chip) (w : World) (s : Ad
       by _ _ Is_this_frame = called_by d w s calls.Init fresh_history b refl (init_takes inits.Store v).1
 
   sweep_so : (a : Setup) (k : sweeping.Place InitBody) (v : ℕ) → place_at (sweep_spot (setting_up d) (last_bodies d) a k) below (foot_of chip) w s o p → LeavesBy d w s o p b (takes_at setup_count setup_after init_takes a k v).1
-  sweep_so a sweeps.Opens v at = λ n e. absurd (cc)
-  sweep_so a (sweeps.At i) v at = λ n e. absurd (cc)
-  sweep_so a sweeps.Closes v at = λ n e. absurd (cc)
   sweep_so a (sweeps.Follows k) v at = init_so k v at
+  sweep_so a _ v at = λ n e. absurd (cc)
 
   abbrev all : LongBodies (AdcGround d) AnyBody
   all = any_bodies d body_fuel body_room (init_bodies d)

@@ -23,15 +23,13 @@ other_deeds (x ∷ xs) = xs
 
 next_deed : (n : ℕ) (ds : List WindowWrite) → slice_get ds n ≡ first_deed (drop n ds)
 next_deed zero [] = refl
-next_deed zero (x ∷ xs) = refl
-next_deed (suc n) [] = refl
 next_deed (suc n) (x ∷ xs) = next_deed n xs
+next_deed _ _ = refl
 
 more_deeds : (n : ℕ) (ds : List WindowWrite) → drop (suc n) ds ≡ other_deeds (drop n ds)
 more_deeds zero [] = refl
-more_deeds zero (x ∷ xs) = refl
-more_deeds (suc n) [] = refl
 more_deeds (suc n) (x ∷ xs) = more_deeds n xs
+more_deeds _ _ = refl
 
 -- there are some where not so many were made
 abbrev has_deeds : List WindowWrite → Bool
@@ -68,26 +66,22 @@ deeds_over (suc n) (x ∷ xs) = le_suc (length xs) n ∙ deeds_over n xs
 
 -- what is owed is over where nothing is
 owed_over : (d : AdcTable) (o b : Option StructureOp) (ds : List WindowWrite) (t : Continuation) → (q : Bool) → q ≡ not (has_deeds ds) → not (is_some o) && (not (is_some b) && q) ≡ not (is_some (owed_of d o b ds t))
-owed_over d (Some s) b ds t q e = refl
-owed_over d None (Some s) ds t q e = refl
 owed_over d None None (x ∷ xs) t q e = e
 owed_over d None None [] t q e = e
+owed_over d _ _ ds t q e = refl
 
 not_first : (e : Option Event) (made ahead : ℕ) (q : Bool) → is_some e && nat_le made ahead ≡ false → is_some e && (ahead == 0 && (made == 0 && q)) ≡ false
 not_first None made ahead q h = refl
 not_first (Some e) made ahead q h = by (ahead == 0) (made == 0) refl refl
   where
     by : (a b : Bool) → (ahead == 0) ≡ a → (made == 0) ≡ b → a && (b && q) ≡ false
-    by false b i j = refl
-    by true false i j = refl
     by true true i j = absurd (let le : nat_le made ahead ≡ true = grind (arith, nat_tests) in let no : true ≡ false = sym le ∙ h in cc)
+    by _ _ i j = refl
 
 no_event : (e : Option Event) (made ahead : ℕ) → is_some e && nat_le made ahead ≡ false → (if made == ahead then e else None) ≡ None
-no_event None made ahead h = by (made == ahead)
-  where
-    by : (q : Bool) → (let z : Option Event = if q then None else None in z) ≡ None
-    by true = refl
-    by false = refl
+no_event None made ahead h =
+    elim (made == ahead) as (λ q. (let z : Option Event = if q then None else None in z) ≡ None)
+    [ true ↦ refl | false ↦ refl ]
 no_event (Some e) made ahead h = by (made == ahead) refl
   where
     by : (q : Bool) → (made == ahead) ≡ q → (if q then Some e else None) ≡ None

@@ -1,23 +1,22 @@
 -- The steps and moves that bodies have left are those of their places, also while they owe moves; and each step leaves fewer.
 -- From bookkeeping.Rank, bookkeeping.Decreases.
 -- Used by bookkeeping.MaskDiscipline, bookkeeping.BodiesRight.
-use Rattle.std.proofs.Common.{◌≡◌, ◌+◌, ◌-◌, ◌&&◌, ◌||◌, [], ◌∷◌, if◌then◌else◌}
+use Rattle.std.proofs.Common.{◌≡◌, ◌+◌, ◌-◌, ◌&&◌, ◌||◌, ◌∷◌, if◌then◌else◌}
 use Rattle.adc_driver.specs.Terms
 use Terms.{AdcBody, AdcTable, all_rooms, ap, body_takes, Bool, Continuation, drop, false, is_some, List, Makes, nat_le}
-use Terms.{None, Option, or_owed, owed_of, owes_at, PendingWrites, Place, refl, Shortens, ShortensTo, Some, steps_then}
+use Terms.{None, Option, or_owed, owed_of, owes_at, PendingWrites, Place, refl, Shortens, ShortensTo, steps_then}
 use Terms.{StructureOp, subst, sym, true, WindowWrite, WriteBatch, ℕ}
 use Rattle.adc_driver.specs.laws.bookkeeping.Decreases.{is_inner, place_lowers}
 use Rattle.adc_driver.specs.laws.bookkeeping.Rank.{bodies, body_fuel, cost, then_cost}
 use Rattle.adc_groups.specs.declared.making.Continuation.TheVariants as thens
+use Rattle.plain_facts.specs.Truths.{or_true}
 
 -- ---- moves that are owed
 
 -- they are as many as those of the making, and what comes after them
 owed_cost : (f : AdcTable → Continuation → ℕ) (x : AdcTable) (o b : Option StructureOp) (ds : List WindowWrite) (t : Continuation) → or_owed (λ (y : PendingWrites). 1 + (all_rooms y.order y.banks y.deeds - 1 + f y.table y.after)) (owed_of x o b ds t) (1 + (all_rooms o b ds - 1 + f x t)) ≡ 1 + (all_rooms o b ds - 1 + f x t)
-owed_cost f x (Some s) b ds t = refl
-owed_cost f x None (Some s) ds t = refl
 owed_cost f x None None (y ∷ ys) t = refl
-owed_cost f x None None [] t = refl
+owed_cost f x _ _ _ t = refl
 
 making_same : (f g : AdcTable → Continuation → ℕ) (x : AdcTable) (m : WriteBatch) → f x m.after ≡ g x m.after → or_owed (λ (y : PendingWrites). 1 + (all_rooms y.order y.banks y.deeds - 1 + f y.table y.after)) (owes_at x (Makes m)) (1 + (all_rooms m.order m.banks (drop m.made m.deeds) - 1 + g x m.after)) ≡ 1 + (all_rooms m.order m.banks (drop m.made m.deeds) - 1 + g x m.after)
 making_same f g x m e = subst (λ n. or_owed (λ (y : PendingWrites). 1 + (all_rooms y.order y.banks y.deeds - 1 + f y.table y.after)) (owes_at x (Makes m)) (1 + (all_rooms m.order m.banks (drop m.made m.deeds) - 1 + n)) ≡ 1 + (all_rooms m.order m.banks (drop m.made m.deeds) - 1 + n)) e (by (is_some m.event && nat_le m.made m.ahead))
@@ -55,11 +54,7 @@ pub shortens : (d : AdcTable) (k : AdcBody) (v : ℕ) → owes_at k.table k.plac
 shortens d k v e =
     let t = body_takes k v in
     subst (λ n. ShortensTo n ((bodies d).fuel t.0) t.1.done) (sym (fuel_is d k))
-    (subst (λ n. ShortensTo (cost true k.table k.place) n t.1.done) (sym (fuel_is d t.0)) (place_lowers true k.table k.place v (either (is_inner k.place))))
-  where
-    either : (q : Bool) → q || true ≡ true
-    either true = refl
-    either false = refl
+    (subst (λ n. ShortensTo (cost true k.table k.place) n t.1.done) (sym (fuel_is d t.0)) (place_lowers true k.table k.place v (or_true (is_inner k.place))))
 
 -- and one inside a window fewer of its moves
 pub narrows : (d : AdcTable) (k : AdcBody) (v : ℕ) → is_inner k.place ≡ true → Shortens (bodies d).room k (body_takes k v)

@@ -58,8 +58,7 @@ request_opens q d u = by q d.priorities
   where
     by : (q p : Bool) → and_then q (open_cost d (Closes (if p then windows.Yield u else windows.Begin u))) ≤ and_then q (if p then yields_after d else begins_after d)
     by true true = omega arith
-    by true false = omega arith
-    by false p = omega arith
+    by _ _ = omega arith
 
 store_opens : (q : Bool) (d : AdcTable) (t : Taken) (x : RoundSeen) → and_then q (open_cost d (stores d t x)) ≤ and_then q (stores_after d (inputs_at d t.group))
 store_opens q d t x = and_then_more q _ _ (by (copies_few d (copied.Bank (rounds_of d t.group) t.bank (column_of d t.group x)) (Tells t.unit t.group (x.notified == 1)) (Closes (windows.Begin t.unit)) (inputs_at d t.group) (begins_after d) (omega arith) (omega arith) (omega arith)))
@@ -150,7 +149,6 @@ found_from d u (suc n) g k e = by (is_of d u g) e (found_from d u n (g + 1) k)
 
 begun_few : (q : Bool) (d : AdcTable) (w : Window) → cost q d (begin d w) ≤ begin_cost q d w
 begun_few q d (windows.Start g) = let le = request_opens q d (unit_of (group_of d g)) in omega (arith, le)
-begun_few q d (windows.Enable g) = omega arith
 begun_few q d _ = omega arith
 
 -- a survey from this group on looks at those of 16 groups that are left
@@ -167,10 +165,9 @@ looked_covers : (q : Bool) (d : AdcTable) (w : Window) (c p : ℕ) → Covers q 
 looked_covers q d w c p = by (c == 0) (is_under_way (phase_in p)) (takes_one d)
   where
     by : (a b o : Bool) → Covers q d ((if o then 16 else 0) + begin_cost q d w) (if a then refused d w errors.AdcBufferUninit else (if b then refused d w errors.AdcBusy else Goes (if o then survey d w 0 else begin d w)))
-    by true b o = refl
-    by false true o = refl
     by false false true = survey_few q d w 0
     by false false false = let le = begun_few q d w in omega (arith, le)
+    by _ _ o = refl
 
 pub surveyed_covers : (q : Bool) (d : AdcTable) (w : Window) (g p : ℕ) → Covers q d (15 - g + begin_cost q d w) (surveyed d w g p)
 surveyed_covers q d w g p = by (is_under_way (phase_in p))
@@ -189,16 +186,12 @@ set_covers q d g b p = by (p == 0)
 point_covers : (q : Bool) (d : AdcTable) (g c p : ℕ) (x : Phase) → Covers q d 1 (point_by d g c p x)
 point_covers q d g c p phases.Idle = refl
 point_covers q d g c p phases.Busy = refl
-point_covers q d g c p phases.Completed = omega arith
-point_covers q d g c p phases.Streaming = omega arith
-point_covers q d g c p phases.Ended = omega arith
+point_covers q d g c p _ = omega arith
 
 read_covers : (q : Bool) (d : AdcTable) (g : ℕ) (x : Phase) → Covers q d (decided_cost q d (windows.Read g)) (read_by d g x)
 read_covers q d g phases.Idle = refl
 read_covers q d g phases.Busy = refl
-read_covers q d g phases.Completed = omega arith
-read_covers q d g phases.Streaming = omega arith
-read_covers q d g phases.Ended = omega arith
+read_covers q d g _ = omega arith
 
 stop_covers : (q : Bool) (d : AdcTable) (u g : ℕ) (x : StopSeen) → Covers q d (decided_cost q d (windows.Stop u g)) (stop d u g x)
 stop_covers q d u g x = by (x.phase == 0)
@@ -256,9 +249,7 @@ pulse_covers q d i g false = let le = request_opens q d (unit_of (group_of d g))
 
 -- by the words that a window has seen
 pub decided_covers : (q : Bool) (d : AdcTable) (w : Window) (seen : List ℕ) → Covers q d (decided_cost q d w) (decided d w seen)
-decided_covers q d windows.Close seen = refl
 decided_covers q d (windows.Setup g b) seen = set_covers q d g b (word_seen seen 0)
-decided_covers q d (windows.Status g) seen = refl
 decided_covers q d (windows.Point g) seen = point_covers q d g (word_seen seen 1) (word_seen seen 2) (phase_in (word_seen seen 0))
 decided_covers q d (windows.Read g) seen = read_covers q d g (phase_in (word_seen seen 0))
 decided_covers q d (windows.Start g) seen = looked_covers q d (windows.Start g) (word_seen seen 0) (word_seen seen 1)
@@ -268,29 +259,25 @@ decided_covers q d (windows.Yield u) seen = yield_covers q d u (word_seen seen 1
 decided_covers q d (windows.Suspend u g) seen = omega arith
 decided_covers q d (windows.Keep r) seen = keep_covers q d r (word_seen seen 0)
 decided_covers q d (windows.Begin u) seen = begin_covers q d u (word_seen seen 0) (word_seen seen 1)
-decided_covers q d (windows.Leave u) seen = refl
 decided_covers q d (windows.Convert u g c) seen = convert_covers q d u g (word_seen seen 0) c
 decided_covers q d (windows.Take u) seen = take_covers q d u (group_in (word_seen seen 0))
 decided_covers q d (windows.Claim t) seen = claim_covers q d t (word_seen seen 0)
 decided_covers q d (windows.Serve t) seen = serve_covers q d t (round_seen seen)
 decided_covers q d (windows.Trigger i g) seen = pulse_covers q d i g (word_seen seen 0 == 1)
+decided_covers q d _ seen = refl
 
 -- ---- what else places decide
 
 -- a window is entered at its first word
 pub entered_few : (q : Bool) (d : AdcTable) (w : Window) → cost q d (entered w) ≤ look_cost q d w 0
-entered_few q d w = by (clean_in w)
-  where
-    by : (b : Bool) → cost q d (if b then Quits 0 else looking w) ≤ look_cost q d w 0
-    by true = omega arith
-    by false = omega arith
+entered_few q d w =
+    elim (clean_in w) as (λ b. cost q d (if b then Quits 0 else looking w) ≤ look_cost q d w 0)
+    [ true ↦ omega arith | false ↦ omega arith ]
 
 pub flagged_covers : (q : Bool) (d : AdcTable) (w : Window) (v : ℕ) → Covers q d (look_cost q d w 0) (flagged w v)
-flagged_covers q d w v = by (is_ready w v)
-  where
-    by : (b : Bool) → Covers q d (look_cost q d w 0) (if b then Goes (entered w) else over)
-    by true = entered_few q d w
-    by false = refl
+flagged_covers q d w v =
+    elim (is_ready w v) as (λ b. Covers q d (look_cost q d w 0) (if b then Goes (entered w) else over))
+    [ true ↦ entered_few q d w | false ↦ refl ]
 
 converts_few : (q : Bool) (d : AdcTable) (u x : ℕ) (c : Bool) → cost q d (looking (windows.Convert u x c)) ≤ converting (largest d)
 converts_few q d u x c = let le = lists_more (inputs_at d x) (largest d) (in_largest d x) in omega (arith, le)
@@ -301,11 +288,9 @@ sought_covers q d (windows.Suspend u g) x = by (nat_lt x 16 && nat_lt (rank_of d
     by : (b : Bool) → cost q d (if b then looking (windows.Suspend u g) else begins_next u) ≤ seek_cost q d (windows.Suspend u g)
     by true = omega arith
     by false = let le = begin_opens q d u in let more = begins_counts q d (inputs_at d g) in omega (arith, le, more)
-sought_covers q d (windows.Begin u) x = by (nat_lt x 16)
-  where
-    by : (b : Bool) → Covers q d (converting (largest d)) (if b then Goes (looking (windows.Convert u x false)) else over)
-    by true = converts_few q d u x false
-    by false = refl
+sought_covers q d (windows.Begin u) x =
+    elim (nat_lt x 16) as (λ b. Covers q d (converting (largest d)) (if b then Goes (looking (windows.Convert u x false)) else over))
+    [ true ↦ converts_few q d u x false | false ↦ refl ]
 sought_covers q d (windows.Leave u) x = by (nat_lt x 16)
   where
     by : (b : Bool) → Covers q d (converting (largest d)) (if b then Goes (looking (windows.Convert u x true)) else Goes (Quits u))

@@ -74,7 +74,6 @@ lists_later b rate _ = refl
 -- the words, the list registers and the enabled lines, unless an array is filled
 enabled_later : (chip : Chip) (order : Order) → is_fill order ≡ false → (happened chip order).control.enabled ≡ chip.control.enabled
 enabled_later chip (orders.Level p v) none = level_leaves (λ c. c.control.enabled) chip p v refl
-enabled_later chip (orders.Trigger i) none = refl
 enabled_later chip (orders.Fill c ws) none = absurd (cc)
 enabled_later chip _ none = refl
 
@@ -132,8 +131,6 @@ module _ (d : AdcTable) (w x : World) (le : w.now ≤ x.now) (s : AdcState) (ms 
 
   pub looked_later : (win : Window) → HasLooked d win s → HasLooked d win t
   looked_later windows.Close h = h
-  looked_later (windows.Start g) h = h
-  looked_later (windows.Enable g) h = h
   looked_later _ h = h
 
   seek_later : (win : Window) (below : Reservations) (o : Origin Call) (p : FrameHistory) → MaySeek d win below w s o p → MaySeek d win below x t o p
@@ -180,10 +177,7 @@ module _ (d : AdcTable) (w x : World) (le : w.now ≤ x.now) (s : AdcState) (ms 
 
   read_stays : (n : Newest) (z : Stage) → StaysKnown (read_spot d n z)
   read_stays n stages.Reads below f o p h = h
-  read_stays n stages.Shuts below f o p h = h
-  read_stays n (stages.Releases r) below f o p h = h
-  read_stays n stages.Leaves below f o p h = h
-  read_stays n stages.Over below f o p h = h
+  read_stays n _ below f o p h = h
 
   banks_stays : (m : WriteBatch) (q : Option StructureOp) → StaysKnown (banks_spot d m q)
   banks_stays m None below f o p h = dealing_later below f o p m h
@@ -215,8 +209,7 @@ module _ (d : AdcTable) (w x : World) (le : w.now ≤ x.now) (s : AdcState) (ms 
 
   driver_stays : (P : Type 0) (z : PointAssertion (AdcGround d)) → StaysKnown z → StaysKnown (of_driver P z)
   driver_stays P (Within gap hs place) stays below f o p h = (h.0, stays below f o p h.1)
-  driver_stays P (Outside hs place) stays below f o p h = (h.0, stays below f o p h.1)
-  driver_stays P (Looking gap hs place) stays below f o p h = (h.0, stays below f o p h.1)
+  driver_stays _ _ stays below f o p h = (h.0, stays below f o p h.1)
 
   pub stays_in : (P : Type 0) (k : Place) → StaysKnown (of_driver P (spot_at d k))
   stays_in P k = driver_stays P (spot_at d k) (stays_at k)

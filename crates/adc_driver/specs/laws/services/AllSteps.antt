@@ -4,18 +4,16 @@
 use Rattle.std.proofs.Common.{◌≡◌, ◌<◌}
 use Rattle.adc_driver.specs.Terms
 use Terms.{Aborts, adc_bodies, adc_windows, AdcBody, AdcGround, AdcState, AdcTable, AssertedAt, body_ends, body_work}
-use Terms.{Bool, Call, Chip, Chooses, ended_at, false, FitsAdc, Flag, foot_of, Footprint, FrameHistory, Looking, Looks}
-use Terms.{Makes, most_steps, None, of_driver, Opens, Origin, Out, owes_at, Pins, Place, place_at, PointAssertion}
-use Terms.{Quits, Reads, ReceivedRight, refl, Reservations, RightOr, Seeks, spot_at, spot_or, subst, Surveys, sym, true}
+use Terms.{Bool, Call, Chip, ended_at, false, FitsAdc, foot_of, Footprint, FrameHistory}
+use Terms.{Makes, most_steps, None, of_driver, Opens, Origin, Out, owes_at, Place, place_at, PointAssertion}
+use Terms.{Quits, Reads, ReceivedRight, refl, Reservations, RightOr, spot_at, spot_or, subst, sym, true}
 use Terms.{value_of, Within, World, ℕ}
-use Rattle.service_outline.specs.Services.{Outside}
 use Rattle.adc_driver.specs.laws.{services.LookSteps.{is_look, look_steps}, services.MakeSteps.{make_steps}}
 
 -- a body stands only where it is the driver's
 of_it : {d : AdcTable} {P : Type 0} (x : PointAssertion (AdcGround d)) (below : Reservations) (f : Footprint) (w : World) (s : AdcState) (o : Origin Call) (p : FrameHistory) → place_at (of_driver P x) below f w s o p → P
 of_it (Within gap hs place) below f w s o p h = h.0
-of_it (Outside hs place) below f w s o p h = h.0
-of_it (Looking gap hs place) below f w s o p h = h.0
+of_it _ below f w s o p h = h.0
 
 module _ (d : AdcTable) (fits : FitsAdc d) (f r : AdcBody → ℕ) (below : Reservations) (chip : Chip) (w : World) (s : AdcState) (o : Origin Call) (p : FrameHistory) where
   abbrev Standing : AdcBody → Type 0
@@ -35,12 +33,7 @@ module _ (d : AdcTable) (fits : FitsAdc d) (f r : AdcBody → ℕ) (below : Rese
     makes_by (Opens x) e free stand = make_steps d fits f r below chip w s m y o p (Opens x) tt free stand
     makes_by (Out x) e free stand = make_steps d fits f r below chip w s m y o p (Out x) tt free stand
     makes_by (Reads x) e free stand = make_steps d fits f r below chip w s m y o p (Reads x) tt free stand
-    makes_by (Flag win) e free stand = absurd (cc)
-    makes_by (Looks win seen) e free stand = absurd (cc)
-    makes_by (Surveys win g) e free stand = absurd (cc)
-    makes_by (Seeks win q) e free stand = absurd (cc)
-    makes_by (Chooses u g q) e free stand = absurd (cc)
-    makes_by (Pins g x) e free stand = absurd (cc)
+    makes_by _ e free stand = absurd (cc)
 
     step_by : (q : Bool) (k : AdcBody) → is_look k.place ≡ q → owes_at k.table k.place ≡ None → Standing k → Stepping k
     step_by true k e free stand = look_steps d fits f r below chip w s m y o p k e stand

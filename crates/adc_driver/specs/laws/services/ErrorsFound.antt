@@ -26,7 +26,6 @@ no_more n e = absurd (cc)
 
 -- an error that the state word and the arguments show is the machine's
 pub refused_so : (d : AdcTable) (s : AdcState) (call : Call) (x : ErrorName) → early d s call ≡ Some x → error_by d call (circumstances d s call) ≡ Some x
-refused_so d s calls.Init x e = e
 refused_so d s calls.DeInit x e = go_on (not s.initialised) errors.AdcUninit x (no_more x) e
 refused_so d s (calls.Group g (SetupResultBuffer b)) x e = go_on (not s.initialised) errors.AdcUninit x (go_on (not (is_some (group_of d g))) errors.AdcParamGroup x (go_on (not (is_some b)) errors.AdcParamPointer x (no_more x))) e
 refused_so d s (calls.Group g StartGroupConversion) x e = go_on (not s.initialised) errors.AdcUninit x (go_on (not (is_some (group_of d g))) errors.AdcParamGroup x (go_on (is_triggered (group_of d g)) errors.AdcWrongTriggSrc x (no_more x))) e
@@ -35,21 +34,17 @@ refused_so d s (calls.Group g ReadGroup) x e = go_on (not s.initialised) errors.
 refused_so d s (calls.Group g EnableHardwareTrigger) x e = go_on (not s.initialised) errors.AdcUninit x (go_on (not (is_some (group_of d g))) errors.AdcParamGroup x (go_on (not (is_triggered (group_of d g))) errors.AdcWrongTriggSrc x (no_more x))) e
 refused_so d s (calls.Group g DisableHardwareTrigger) x e = go_on (not s.initialised) errors.AdcUninit x (go_on (not (is_some (group_of d g))) errors.AdcParamGroup x (go_on (not (is_triggered (group_of d g))) errors.AdcWrongTriggSrc x (no_more x))) e
 refused_so d s (calls.Group g (Notification true)) x e = e
-refused_so d s (calls.Group g (Notification false)) x e = e
-refused_so d s (calls.Group g GetGroupStatus) x e = e
 refused_so d s (calls.Group g GetStreamLastPointer) x e = go_on (not s.initialised) errors.AdcUninit x (go_on (not (is_some (group_of d g))) errors.AdcParamGroup x (no_more x)) e
+refused_so d s _ x e = e
 
 -- what stands of calls that find none
 clear_two : (u t : Bool) (x y : ErrorName) → (if u then Some x else if t then Some y else None) ≡ None → (u ≡ false) × (t ≡ false)
-clear_two true t x y e = absurd (cc)
-clear_two false true x y e = absurd (cc)
 clear_two false false x y e = (refl, refl)
+clear_two _ _ x y e = absurd (cc)
 
 clear_three : (u t w : Bool) (x y z : ErrorName) → (if u then Some x else if t then Some y else if w then Some z else None) ≡ None → (u ≡ false) × (t ≡ false) × (w ≡ false)
-clear_three true t w x y z e = absurd (cc)
-clear_three false true w x y z e = absurd (cc)
-clear_three false false true x y z e = absurd (cc)
 clear_three false false false x y z e = (refl, refl, refl)
+clear_three _ _ _ x y z e = absurd (cc)
 
 module _ (d : AdcTable) (s : AdcState) (g : ℕ) where
   abbrev there : Bool

@@ -53,9 +53,8 @@ module _ (d : AdcTable) (fits : FitsAdc d) where
   used_line l = by (is_unit_line l) (is_trigger_line l)
     where
       by : (u t : Bool) → cond u (is_some (unit_level d (l - 24))) (t && is_some (group_of_input d (l - 28))) ≡ true → u || t ≡ true
-      by true t e = refl
-      by false true e = refl
       by false false e = absurd (cc)
+      by _ _ e = refl
 
   module _ (f r : AdcBody → ℕ) (below : Reservations) (chip : Chip) (w : World) (s : AdcState) (h : Agrees d below chip w s) where
     abbrev Enters : ℕ → Type 0

@@ -1,7 +1,7 @@
 -- The move at which Adc_Init acts: the words that it has cleared stand for the machine's fresh state.
 -- From services.InitWords.
 -- Used by services.InitRight.
-use Rattle.std.proofs.Common.{◌≡◌, ◌≢◌, ◌+◌, ◌-◌, ◌*◌, ◌/◌, ◌%◌, ◌<◌, ◌≤◌, ◌&&◌, ◌||◌, ◌==◌, [], ◌∷◌, ◌∙◌}
+use Rattle.std.proofs.Common.{◌≡◌, ◌≢◌, ◌+◌, ◌-◌, ◌*◌, ◌/◌, ◌%◌, ◌<◌, ◌≤◌, ◌||◌, ◌==◌, [], ◌∷◌, ◌∙◌}
 use Rattle.std.proofs.Common.{if◌then◌else◌}
 use Rattle.adc_driver.specs.Terms
 use Terms.{AdcState, AdcTable, Agrees, all_groups, ap, arith, Bool, Chip, chip_after, clear_at, clear_count}
@@ -13,6 +13,7 @@ use Terms.{stored_same, subst, suc, trio_past, true, unit_word, UnitAgrees, wait
 use Terms.{World, zero, ℕ}
 use Rattle.adc_driver.specs.laws.services.InitWords.{clearing, off_quiet}
 use Rattle.adc_groups.specs.declared.words.Word.TheVariants as words
+use Rattle.plain_facts.specs.Truths.{and_false}
 
 -- all lines of the module are enabled
 abbrev pub AreOn : (enabled : ℕ) → Type 0
@@ -48,11 +49,7 @@ module _ (d : AdcTable) (w : World) (s : AdcState) where
   }
 
   none_waits : (u g : ℕ) → waits_for d (fresh s) u g ≡ false
-  none_waits u g = off (is_on u (group_of d g))
-    where
-      off : (q : Bool) → q && false ≡ false
-      off true = refl
-      off false = refl
+  none_waits u g = and_false (is_on u (group_of d g))
 
   none_next : (u : ℕ) (gs : List ℕ) → next_among d (fresh s) u gs ≡ None
   none_next u [] = refl
@@ -66,11 +63,9 @@ module _ (d : AdcTable) (w : World) (s : AdcState) where
 module _ (d : AdcTable) (chip : Chip) (all : (i : ℕ) → i < clear_count d → IsCleared d chip i) where
   -- the words of the units come first
   few_first : 6 ≤ clear_count d
-  few_first = by (is_some (next_of d None 0))
-    where
-      by : (q : Bool) → 6 ≤ (if q then 70 else 6)
-      by true = omega arith
-      by false = omega arith
+  few_first =
+      elim (is_some (next_of d None 0)) as (λ q. 6 ≤ (if q then 70 else 6))
+      [ true ↦ omega arith | false ↦ omega arith ]
 
   unit_zero : (i : ℕ) → i < 6 → IsZero chip (clear_at d i)
   unit_zero i lt = let le = few_first in all i (omega (arith, lt, le))
@@ -138,11 +133,8 @@ module _ (d : AdcTable) (fits : FitsAdc d) (chip : Chip) (w : World) (s : AdcSta
   group_word_zero g at there lt = word (word_number d (cleared_word g at)) (λ e. far at lt e) ∙ group_zero d chip zeros g there at lt
     where
       far : (at : ℕ) → at < 4 → word_number d (cleared_word g at) ≡ STATE → ⊥
-      far zero lt e = let start = start_from d fits g there in let low = start.0 in omega (arith, low, e)
-      far (suc zero) lt e = let start = start_from d fits g there in let low = start.0 in omega (arith, low, e)
-      far (suc (suc zero)) lt e = let start = start_from d fits g there in let low = start.0 in omega (arith, low, e)
-      far (suc (suc (suc zero))) lt e = let start = start_from d fits g there in let low = start.0 in omega (arith, low, e)
       far (suc (suc (suc (suc at)))) lt e = absurd (omega (arith, lt))
+      far _ lt e = let start = start_from d fits g there in let low = start.0 in omega (arith, low, e)
 
   group : (g : ℕ) → is_some (group_of d g) ≡ true → GroupAgrees d (word_of acted) (fresh s) g
   group g there = record {

@@ -19,6 +19,7 @@ use Rattle.adc_driver.specs.laws.{services.InitWords.{off_quiet}, services.InitA
 use Rattle.mcal_base.specs.declared.service.Service.TheVariants as services
 use Rattle.adc_machine.specs.declared.call.Call.TheVariants as calls
 use Rattle.adc_groups.specs.declared.service.module.InitBody.TheVariants as inits
+use Rattle.std.proofs.lemmas.Bool.{or_right}
 
 -- ---- the frame
 
@@ -57,11 +58,7 @@ init_bodies d = sweep (setting_up d) (last_bodies d)
 
 -- all lines are set
 lines_set : (v : ℕ) → AreOn (bit_or v LINES)
-lines_set v l at = has_bit-or v LINES l ∙ or_true (has_bit v l) (has_bit LINES l) (by_line (λ n. has_bit LINES n ≡ true) refl refl refl refl refl refl l at)
-  where
-    or_true : (a b : Bool) → b ≡ true → a || b ≡ true
-    or_true true b e = refl
-    or_true false b e = e
+lines_set v l at = has_bit-or v LINES l ∙ or_right (has_bit v l) (has_bit LINES l) (by_line (λ n. has_bit LINES n ≡ true) refl refl refl refl refl refl l at)
 
 -- the hardware enables no line, and disables none
 control_later : (chip : Chip) (order : Order) → (happened chip order).control ≡ chip.control

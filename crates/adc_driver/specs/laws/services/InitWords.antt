@@ -1,6 +1,6 @@
 -- What Adc_Init clears with the mask open, a word after the other, of a module that is uninitialised.
 -- Used by services.InitRight, services.InitActRight, services.BeginSteps.
-use Rattle.std.proofs.Common.{◌≡◌, ◌≢◌, ◌+◌, ◌-◌, ◌/◌, ◌%◌, ◌<◌, ◌&&◌, ◌==◌, [], ◌∷◌, ◌∙◌, ◌⊎◌, if◌then◌else◌}
+use Rattle.std.proofs.Common.{◌≡◌, ◌≢◌, ◌+◌, ◌-◌, ◌/◌, ◌%◌, ◌<◌, ◌==◌, [], ◌∷◌, ◌∙◌, ◌⊎◌, if◌then◌else◌}
 use Rattle.adc_driver.specs.Terms
 use Terms.{AdcState, AdcTable, Agrees, ap, arith, begins_word, Bool, Called, Chip, chip_after, Chosen, clear_at}
 use Terms.{clear_words, cleared_word, Clears, false, first_words, FitsAdc, fresh_history, group_clear, group_of}
@@ -8,23 +8,22 @@ use Terms.{group_word, inl, inr, is_some, is_word, IsCleared, IsOwnStore, IsQuie
 use Terms.{nat_lt, nat_tests, None, Notified, own_of, past_wrote, place_apart, refl, Reservations, resets_chip}
 use Terms.{rests_agree, result_past, result_word, ResultBuffer, rounds_of, same_or_other, stands-move, start_from}
 use Terms.{STATE, Store, stored_other, stored_same, subst, sym, trio_apart, trio_of, trio_past, true, Turn, unit_word}
-use Terms.{word_number, word_of, WORDS, words_below, World, ℕ}
+use Terms.{and_from, word_number, word_of, WORDS, words_below, World, ℕ}
 use Rattle.adc_groups.specs.declared.words.Word.TheVariants.{Phase}
 use Rattle.adc_machine.specs.declared.call.Call.TheVariants as calls
+use Rattle.plain_facts.specs.Numbers.{lt_from}
 
 -- ---- the moves
 
 -- what is so of a store and of the load that clears nothing is so of each move
 pub each_clear : (d : AdcTable) (P : Move → Type 0) → ((k : ℕ) → P (Store k 0)) → P (Load STATE) → (i : ℕ) → P (clear_at d i)
-each_clear d P stores loads i = by (nat_lt i 6)
+each_clear d P stores loads i =
+    elim (nat_lt i 6) as (λ q. P (if q then Store (unit_word d (i / 3) (i % 3)) 0 else group_clear d ((i - 6) / 4) ((i - 6) % 4)))
+    [ true ↦ stores (unit_word d (i / 3) (i % 3)) | false ↦ of_group (is_some (group_of d ((i - 6) / 4))) ]
   where
     of_group : (q : Bool) → P (if q then Store (word_number d (cleared_word ((i - 6) / 4) ((i - 6) % 4))) 0 else Load STATE)
     of_group true = stores (word_number d (cleared_word ((i - 6) / 4) ((i - 6) % 4)))
     of_group false = loads
-
-    by : (q : Bool) → P (if q then Store (unit_word d (i / 3) (i % 3)) 0 else group_clear d ((i - 6) / 4) ((i - 6) % 4))
-    by true = stores (unit_word d (i / 3) (i % 3))
-    by false = of_group (is_some (group_of d ((i - 6) / 4)))
 
 -- it resets nothing, begins no serial word, and is no commit
 pub clears_calm : (d : AdcTable) (i : ℕ) → (resets_chip (clear_at d i) ≡ false) × (begins_word (clear_at d i) ≡ false)
@@ -105,20 +104,12 @@ module _ (d : AdcTable) (fits : FitsAdc d) where
   pub clears_may : (i : ℕ) → may d (clear_at d i) ≡ true
   clears_may i = by (clear_at d i) (clear_words d fits i) (is_stored d i)
     where
-      both : (a b : Bool) → a ≡ true → b ≡ true → a && b ≡ true
-      both true true e f = refl
-      both true false e f = absurd (cc)
-      both false b e f = absurd (cc)
-
-      few : (k n : ℕ) → k < n → nat_lt k n ≡ true
-      few k n lt = grind (arith, nat_tests)
-
       state : is_word d STATE ≡ true
       state = first_words d 0 (omega arith)
 
       by : (made : Move) → IsOwnStore d made → IsStored made → may d made ≡ true
-      by (Store k v) own is = both (is_word d k) (nat_lt k WORDS) own (few k WORDS (word_there k own))
-      by (Load k) own is = subst (λ n. may d (Load n) ≡ true) (sym is) (both (is_word d STATE) (nat_lt STATE WORDS) state (few STATE WORDS (word_there STATE state)))
+      by (Store k v) own is = and_from (is_word d k) (nat_lt k WORDS) own (lt_from k WORDS (word_there k own))
+      by (Load k) own is = subst (λ n. may d (Load n) ≡ true) (sym is) (and_from (is_word d STATE) (nat_lt STATE WORDS) state (lt_from STATE WORDS (word_there STATE state)))
       by _ own is = absurd is
 
 -- ---- what is held
@@ -146,11 +137,9 @@ module _ (d : AdcTable) (fits : FitsAdc d) (chip : Chip) (w : World) (s : AdcSta
 
     -- what was cleared stays so
     zero_stays : (made : Move) → IsSpared d made → IsZero chip made → IsZero stored made
-    zero_stays (Store j v) at e = by (same_or_other j k)
-      where
-        by : (j ≡ k) ⊎ (j ≢ k) → word_of stored j ≡ v
-        by (inl same) = ap (λ n. word_of stored n) same ∙ (here ∙ sym at.1)
-        by (inr ne) = word j ne ∙ e
+    zero_stays (Store j v) at e =
+        elim (same_or_other j k)
+        [ inl same ↦ ap (λ n. word_of stored n) same ∙ (here ∙ sym at.1) | inr ne ↦ word j ne ∙ e ]
     zero_stays _ at e = tt
 
     zeros : (j : ℕ) → j < i + 1 → IsCleared d stored j

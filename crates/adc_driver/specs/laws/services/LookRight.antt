@@ -33,8 +33,6 @@ convert_unit d below w s o p u g false is = is.1
 
 pub looks_at : (d : AdcTable) (fits : FitsAdc d) (f r : AdcBody → ℕ) (below : Reservations) (chip : Chip) (w : World) (s : AdcState) (m : ℕ → Bool) (y : ℕ) (o : Origin Call) (p : FrameHistory) (win : Window) (seen : List ℕ)
     → InWindow d win below w s o p → HasSeen d (foot_of chip) win seen → StandsAt d f r below chip w s o p (Looks win seen) → StepsAt d f r below chip w s m y o p (Looks win seen)
-looks_at d fits f r below chip w s m y o p windows.Close seen is has stand = absurd (let less = has.1 in omega (arith, less))
-looks_at d fits f r below chip w s m y o p (windows.Leave u) seen is has stand = absurd (let less = has.1 in omega (arith, less))
 looks_at d fits f r below chip w s m y o p (windows.Setup g b) seen is has stand = setup_looks d fits f r below chip w s m y g b o p seen is stand
 looks_at d fits f r below chip w s m y o p (windows.Status g) seen is has stand = status_looks d fits f r below chip w s m y g o p seen is stand
 looks_at d fits f r below chip w s m y o p (windows.Point g) seen is has stand = point_looks d fits f r below chip w s m y g o p seen is stand
@@ -51,3 +49,4 @@ looks_at d fits f r below chip w s m y o p (windows.Take u) seen is has stand = 
 looks_at d fits f r below chip w s m y o p (windows.Claim t) seen is has stand = claim_looks d fits f r below chip w s m y t o p seen is has.2 stand
 looks_at d fits f r below chip w s m y o p (windows.Serve t) seen is has stand = serve_looks d fits f r below chip w s m y t o p seen is stand
 looks_at d fits f r below chip w s m y o p (windows.Trigger i g) seen is has stand = trigger_looks d fits f r below chip w s m y i g o p seen is stand
+looks_at d fits f r below chip w s m y o p _ seen is has stand = absurd (let less = has.1 in omega (arith, less))

@@ -50,11 +50,8 @@ module _ (d : AdcTable) (fits : FitsAdc d) (f r : AdcBody → ℕ) (below : Rese
   start_makes k (Some u) o p (h, (same, at)) = starting_right d fits f r below chip w s m y o p u (few_units u k o p at) k at h
 
   making_right : (k : WriteBatch) (e : Option Event) (o : Origin Call) (p : FrameHistory) → Here (spot_making d k e) o p → StepRight k o p
-  making_right k None o p h = banks_right k k.banks o p h
-  making_right k (Some events.Act) o p h = banks_right k k.banks o p h
-  making_right k (Some (events.Serve l)) o p h = banks_right k k.banks o p h
-  making_right k (Some (events.Abort x)) o p h = banks_right k k.banks o p h
   making_right k (Some (events.Start x)) o p h = start_makes k (number_of x) o p h
+  making_right k _ o p h = banks_right k k.banks o p h
 
   -- a window that owes nothing yet
   pub makes_step : (k : WriteBatch) (o : Origin Call) (p : FrameHistory) → owes_making d k ≡ None → AssertedAt (AdcGround d) (adc_bodies d f r) below chip w s (body k) o p → StepRight k o p

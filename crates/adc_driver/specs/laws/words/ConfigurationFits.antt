@@ -9,6 +9,7 @@ use Terms.{length, level_in, List, nat_lt, nat_tests, None, object_count, Option
 use Terms.{slice_get_within, slice_index_or, Software, Some, start_in, subst, suc, sum_by, sum_by-cons, sum_by-le, sym}
 use Terms.{table_of, taken, trigger_input, true, unit_level, words_for, zero, ℕ}
 use Rattle.adc_machine.specs.Table.{group_in}
+use Rattle.plain_facts.specs.Options.{some_is}
 
 -- ---- a sound configuration
 
@@ -32,31 +33,13 @@ found_is : (P : AdcGroup → Type 0) (xs : List AdcGroup) → All P xs → (g : 
 found_is P [] all g x e = absurd (cc)
 found_is P (y ∷ ys) all g x e = by (found_is P ys (λ i z lt. all (suc i) z (omega (arith, lt))) g x) (y.id == g) e
   where
-    some_is : (a b : AdcGroup) → Some a ≡ Some b → a ≡ b
-    some_is a b f = cc
-
     by : (found_in ys g ≡ Some x → P x) → (q : Bool) → (if q then Some y else found_in ys g) ≡ Some x → P x
     by rest true f = subst P (some_is y x f) (all 0 y (omega arith))
     by rest false f = rest f
 
 pub group_is : (xs : List AdcGroup) (g : ℕ) → g < 16 → slice_index_or (groups_of xs) g None ≡ group_in xs g
-group_is xs zero lt = refl
-group_is xs (suc zero) lt = refl
-group_is xs (suc (suc zero)) lt = refl
-group_is xs (suc (suc (suc zero))) lt = refl
-group_is xs (suc (suc (suc (suc zero)))) lt = refl
-group_is xs (suc (suc (suc (suc (suc zero))))) lt = refl
-group_is xs (suc (suc (suc (suc (suc (suc zero)))))) lt = refl
-group_is xs (suc (suc (suc (suc (suc (suc (suc zero))))))) lt = refl
-group_is xs (suc (suc (suc (suc (suc (suc (suc (suc zero)))))))) lt = refl
-group_is xs (suc (suc (suc (suc (suc (suc (suc (suc (suc zero))))))))) lt = refl
-group_is xs (suc (suc (suc (suc (suc (suc (suc (suc (suc (suc zero)))))))))) lt = refl
-group_is xs (suc (suc (suc (suc (suc (suc (suc (suc (suc (suc (suc zero))))))))))) lt = refl
-group_is xs (suc (suc (suc (suc (suc (suc (suc (suc (suc (suc (suc (suc zero)))))))))))) lt = refl
-group_is xs (suc (suc (suc (suc (suc (suc (suc (suc (suc (suc (suc (suc (suc zero))))))))))))) lt = refl
-group_is xs (suc (suc (suc (suc (suc (suc (suc (suc (suc (suc (suc (suc (suc (suc zero)))))))))))))) lt = refl
-group_is xs (suc (suc (suc (suc (suc (suc (suc (suc (suc (suc (suc (suc (suc (suc (suc zero))))))))))))))) lt = refl
 group_is xs (suc (suc (suc (suc (suc (suc (suc (suc (suc (suc (suc (suc (suc (suc (suc (suc i)))))))))))))))) lt = absurd (omega (arith, lt))
+group_is xs _ lt = refl
 
 -- ---- the words of groups
 
@@ -66,11 +49,9 @@ cost None = 0
 cost (Some k) = 32 + 6 * length k.inputs
 
 cost_is : (xs : List AdcGroup) (g : ℕ) → words_for (found_in xs g) ≡ cost (group_in xs g)
-cost_is xs g = by (found_in xs g)
-  where
-    by : (o : Option AdcGroup) → words_for o ≡ cost (option_map (taken (start_in xs g)) o)
-    by None = refl
-    by (Some x) = refl
+cost_is xs g =
+    elim (found_in xs g) as (λ o. words_for o ≡ cost (option_map (taken (start_in xs g)) o))
+    [ None ↦ refl | Some x ↦ refl ]
 
 -- 32 for each group and six for each of its inputs
 costs_are : (ks : List (Option Group)) → sum_by cost ks ≡ 32 * count_by is_some ks + 6 * sum_by (λ (k : Option Group). length (inputs_of k)) ks
@@ -150,9 +131,6 @@ module _ (x : AdcConfig) (sound : IsSound x) where
   taken_at : (g : ℕ) (k : Group) → group_of d g ≡ Some k → IsTaken g k
   taken_at g k e = by (found_in x.groups g) refl (sym (group_at g (low g k e)) ∙ e)
     where
-      some_is : (a b : Group) → Some a ≡ Some b → a ≡ b
-      some_is a b f = cc
-
       by : (o : Option AdcGroup) → found_in x.groups g ≡ o → option_map (taken (start_in x.groups g)) o ≡ Some k → IsTaken g k
       by None f h = absurd (cc)
       by (Some y) f h = (y, f, found_is (IsSoundGroup x.units) x.groups sound.groups g y f, some_is (taken (start_in x.groups g) y) k h)
@@ -172,9 +150,8 @@ module _ (x : AdcConfig) (sound : IsSound x) where
       omega (arith, up, last, costs)
 
   level_there : (u : ℕ) → u < 2 → unit_level d u ≡ level_in x.units u
-  level_there zero lt = refl
-  level_there (suc zero) lt = refl
   level_there (suc (suc u)) lt = absurd (omega (arith, lt))
+  level_there _ lt = refl
 
   fits_group : (g : ℕ) (k : Group) → group_of d g ≡ Some k → FitsGroup d k
   fits_group g k e = by (taken_at g k e)
@@ -203,12 +180,11 @@ module _ (x : AdcConfig) (sound : IsSound x) where
       inputs k n (y, f, s, is) at = (y, f, ap (λ (k : Group). k.trigger) is ∙ at)
 
       by : (k : Option Group) → group_of d g ≡ k → trigger_input k ≡ Some i → (j : Option Group) → group_of d h ≡ j → trigger_input j ≡ Some i → g ≡ h
-      by None p a j q b = absurd (cc)
-      by (Some k) p a None q b = absurd (cc)
       by (Some k) p a (Some j) q b =
           let one = inputs k g (taken_at g k p) a in
           let other = inputs j h (taken_at h j q) b in
           sound.alone g h i one.0 other.0 one.1 other.1 one.2 other.2
+      by _ p a _ q b = absurd (cc)
 
   apart : (g h : ℕ) (k j : Group) → group_of d g ≡ Some k → group_of d h ≡ Some j → g < h → end_of k ≤ j.start
   apart g h k j e f lt =

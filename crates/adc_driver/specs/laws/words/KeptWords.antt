@@ -4,7 +4,7 @@ use Rattle.std.proofs.Common.{◌≡◌, ◌≢◌, ◌+◌, ◌*◌, ◌/◌, �
 use Rattle.std.proofs.Common.{if◌then◌else◌}
 use Rattle.adc_driver.specs.Terms
 use Terms.{AdcState, AdcTable, Agrees, AllRight, and_second, Answer, ap, arith, Bank, bank_below, bank_number}
-use Terms.{bank_word, Bool, Call, Chip, chip_after, claim_right, Claims, claims_on, Clears, Copies, eq_self, false}
+use Terms.{bank_word, Call, Chip, chip_after, claim_right, claims_on, Clears, Copies, eq_self, false}
 use Terms.{Fills, FitsAdc, Full, group_of, group_word, GroupAgrees, has_turn, HasWords, HeldRight, holds-agree, inl}
 use Terms.{inputs_of, inr, is_on, is_some, KeepsRight, kept_in, kept_within, kept_word, kept_words, length, length-set}
 use Terms.{listed_agree, nat_tests, None, not, on_there, Option, or_parts, order_of, order_own, Origin, own-control}
@@ -12,10 +12,11 @@ use Terms.{own-word, own_of, ranges_apart, refl, Reservation, Reservations, Rese
 use Terms.{Round, round_at, rounds_of, same_or_other, slice_get, Some, some_hold, stands-agree, stands_words}
 use Terms.{start_from, start_of, STATE, Store, stored_other, stored_same, subst, sym, trio_of, trio_place, true}
 use Terms.{unit_is, unit_of, unit_small, unit_within, UnitAgrees, value_within, values_of, Whole, word_number, word_of}
-use Terms.{word_there, World, Yields, ℕ}
+use Terms.{word_there, World, ℕ}
 use Rattle.adc_groups.specs.Refinement.{Starts, Keeps, Reads}
 use Rattle.adc_machine.specs.declared.call.ResultBuffer.TheVariants as buffers
 use Rattle.adc_groups.specs.declared.words.Word.TheVariants as words
+use Rattle.std.proofs.lemmas.Bool.{not-true}
 
 -- what a frame holds that keeps values of an aborted round
 abbrev pub keeper : Origin Call → Option Answer → (unit : ℕ) → Reservation → Reservations → Reservations
@@ -128,9 +129,6 @@ module _ (d : AdcTable) (fits : FitsAdc d) (u g m x : ℕ) (here : is_on u (grou
 
   held_same : (y : ReservedBy Call Reservation) (z : Reservation) → claims_on u z ≡ false → HeldRight d chip w s y z → HeldRight d b w s y z
   held_same y (Clears n) free r = absurd (let f = r.1 in let e = on in cc)
-  held_same y (Starts v) free r = r
-  held_same y (Yields v) free r = r
-  held_same y (Claims v) free r = r
   held_same y (Fills v k e n j p) free r = (r.0, r.1, r.2, (let q = r.3 in record { same = q.same; filled = λ z c i o less is. bank k n c (on_there v (group_of d k) r.2) (few_values v z k o (q.same z o).0 c i is) ∙ q.filled z c i o less is; next = q.next }))
   held_same y (Full v k n) free r = (r.0, r.1, r.2, (let q = r.3 in record { same = q.same; filled = λ z c i o is. bank k n c (on_there v (group_of d k) r.2) (few_values v z k o (q.same z o).0 c i is) ∙ q.filled z c i o is }))
   held_same y (Whole v k n) free r = (
@@ -183,6 +181,7 @@ module _ (d : AdcTable) (fits : FitsAdc d) (u g m x : ℕ) (here : is_on u (grou
     where
       word : (i : ℕ) → i < length (inputs_of (group_of d k)) → word_of b (bank_word (rounds_of d k) n 0 + i) ≡ word_of chip (bank_word (rounds_of d k) n 0 + i)
       word i less = let same : bank_word (rounds_of d k) n i ≡ bank_word (rounds_of d k) n 0 + i = omega arith in subst (λ z. word_of b z ≡ word_of chip z) same (bank k n i r.2 less)
+  held_same y _ free r = r
 
   pub all_same : (hs : Reservations) → some_hold (claims_on u) hs ≡ false → AllRight d chip w s hs → AllRight d (chip_after chip (Store (kept_word (rounds_of d g) m) x) 0) w s hs
   all_same [] free r = tt
@@ -219,14 +218,10 @@ module _ (d : AdcTable) (fits : FitsAdc d) (below : Reservations) (chip : Chip) 
   claim_same = claim_kept d fits g (e + i) x some lt chip
 
   none_below : some_hold (claims_on u) below ≡ false
-  none_below = off (some_hold (claims_on u) below) (and_second ((claimed == 2 + g) || (claimed == 1)) (not (some_hold (claims_on u) below)) top)
+  none_below = not-true (some_hold (claims_on u) below) (and_second ((claimed == 2 + g) || (claimed == 1)) (not (some_hold (claims_on u) below)) top)
     where
       top : ((claimed == 2 + g) || (claimed == 1)) && not (some_hold (claims_on u) below) ≡ true
       top = sym (ap (λ q. if q then ((claimed == 2 + g) || (claimed == 1)) && not (some_hold (claims_on u) below) else claim_right below u claimed) (eq_self u)) ∙ (h.settled on).claims u few
-
-      off : (q : Bool) → not q ≡ true → q ≡ false
-      off true f = absurd (cc)
-      off false f = refl
 
   kept_by_now : KeepsRight d chip s u g e n i (Some x) → (j v : ℕ) → j < e + (i + 1) → slice_get (kept_in d s g) j ≡ Some v → word_of c (kept_word (rounds_of d g) j) ≡ v
   kept_by_now q j v less is = by (same_or_other j (e + i))

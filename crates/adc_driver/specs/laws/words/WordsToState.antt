@@ -24,9 +24,8 @@ chosen_told d m g = if nat_lt g 16 && is_some (group_of d g) then buffer_in (wor
 -- ---- it is the machine's
 
 named_by : (o : Option ResultBuffer) → buffer_in (chosen_of o) ≡ o
-named_by None = refl
 named_by (Some Zero) = refl
-named_by (Some One) = refl
+named_by _ = refl
 
 module _ (d : AdcTable) (fits : FitsAdc d) (chip : Chip) (w : World) (s : AdcState) (h : AdcRepresents d [] None chip w s) (g : ℕ) where
   -- a group that isn't configured has none

@@ -15,8 +15,8 @@ use Terms.{mark_at, min, nat_lt, nat_tests, newest, None, none_some, not, number
 use Terms.{own_of, phase_of, place_value, PlacesAgree, Promised, put_of, Reads, refl, Request, Reservation}
 use Terms.{Reservations, ReservedBy, result_word, ResultBuffer, Round, round_at, RoundAgrees, rounds_of, running_of}
 use Terms.{same_or_other, samples_of, Settled, slice_get, Some, some_hold, SoundGroup, stands-agree, StandsIn, start_of}
-use Terms.{Starts, STATE, subst, sym, take_of, trigger_input, TriggersAgree, trio_of, true, unit_of, UnitAgrees}
-use Terms.{values_of, Whole, WholeRight, word_number, word_of, World, Yields, ℕ}
+use Terms.{STATE, subst, sym, take_of, trigger_input, TriggersAgree, trio_of, true, unit_of, UnitAgrees}
+use Terms.{values_of, Whole, WholeRight, word_number, word_of, World, ℕ}
 use Rattle.adc_groups.specs.laws.words.DisjointWords.{groups_apart, place_apart, start_from}
 use Rattle.adc_groups.specs.laws.words.OtherGroups.{SameRound, look_same, turn_look, kept_look, listed_there, and_off}
 use Rattle.adc_groups.specs.laws.words.OtherGroups.{past_unit, past_state, past_eight, units_apart, unit_low, small_low}
@@ -30,6 +30,7 @@ use Rattle.chip_converter.specs.Converters as chips
 use Rattle.chip_converter.specs.Rounds as rounds
 use Rattle.word_shapes.specs.PriorityQueue as ranked
 use Rattle.adc_groups.specs.declared.words.Word.TheVariants as words
+use Rattle.plain_facts.specs.Truths.{and_first}
 
 -- ---- what changes, and what stays
 
@@ -86,10 +87,6 @@ no_keeper d chip w s g u none hs right claim same = by hs right (subst (λ v. cl
     not_one : (g : ℕ) → (2 + g == 1) ≡ true → ⊥
     not_one g e = grind (arith, nat_tests)
 
-    first : (a b : Bool) → a && b ≡ true → a ≡ true
-    first true b e = refl
-    first false b e = absurd (cc)
-
     one_of : (k g : ℕ) → (2 + g == 2 + k) || (2 + g == 1) ≡ true → k ≡ g
     one_of k g e = grind (arith, nat_tests)
 
@@ -100,36 +97,32 @@ no_keeper d chip w s g u none hs right claim same = by hs right (subst (λ v. cl
     wait x k v e f h = let on : is_some (group_at s k).waiting ≡ true = h (ap (λ n. word_of chip (word_number d (words.Claim n))) (sym e) ∙ (same ∙ ap (λ n. 2 + n) (sym f))) in let off : is_some (group_at s k).waiting ≡ false = ap (λ n. is_some (group_at s n).waiting) f ∙ none in cc
 
     one : (x : ReservedBy Call Reservation) (z : Reservation) (hs : Reservations) → HeldRight d chip w s x z → (claim_right hs u (2 + g) ≡ true → ⊥) → (if claims_on u z then claim_fits z (2 + g) && not (some_hold (claims_on u) hs) else claim_right hs u (2 + g)) ≡ true → ⊥
-    one x (Clears n) hs r rest e = rest e
-    one x (Starts v) hs r rest e = rest e
-    one x (Yields v) hs r rest e = rest e
-    one x (Copies n c i y) hs r rest e = rest e
-    one x (Reads k n vs) hs r rest e = rest e
     one x (Fills v k n j i y) hs r rest e = on (u == v) e
       where
         on : (q : Bool) → (if q then (2 + g == 1) && not (some_hold (claims_on u) hs) else claim_right hs u (2 + g)) ≡ true → ⊥
-        on true f = not_one g (first (2 + g == 1) (not (some_hold (claims_on u) hs)) f)
+        on true f = not_one g (and_first (2 + g == 1) (not (some_hold (claims_on u) hs)) f)
         on false f = rest f
     one x (Full v k n) hs r rest e = on (u == v) e
       where
         on : (q : Bool) → (if q then (2 + g == 1) && not (some_hold (claims_on u) hs) else claim_right hs u (2 + g)) ≡ true → ⊥
-        on true f = not_one g (first (2 + g == 1) (not (some_hold (claims_on u) hs)) f)
+        on true f = not_one g (and_first (2 + g == 1) (not (some_hold (claims_on u) hs)) f)
         on false f = rest f
     one x (Claims v) hs r rest e = on (u == v) e
       where
         on : (q : Bool) → (if q then (2 + g == 1) && not (some_hold (claims_on u) hs) else claim_right hs u (2 + g)) ≡ true → ⊥
-        on true f = not_one g (first (2 + g == 1) (not (some_hold (claims_on u) hs)) f)
+        on true f = not_one g (and_first (2 + g == 1) (not (some_hold (claims_on u) hs)) f)
         on false f = rest f
     one x (Keeps v k n j i y) hs r rest e = on (u == v) refl e
       where
         on : (q : Bool) → (u == v) ≡ q → (if q then ((2 + g == 2 + k) || (2 + g == 1)) && not (some_hold (claims_on u) hs) else claim_right hs u (2 + g)) ≡ true → ⊥
-        on true i f = wait x k v (unit v i) (one_of k g (first ((2 + g == 2 + k) || (2 + g == 1)) (not (some_hold (claims_on u) hs)) f)) (λ c. (r.3 c).waits)
+        on true i f = wait x k v (unit v i) (one_of k g (and_first ((2 + g == 2 + k) || (2 + g == 1)) (not (some_hold (claims_on u) hs)) f)) (λ c. (r.3 c).waits)
         on false i f = rest f
     one x (Whole v k n) hs r rest e = on (u == v) refl e
       where
         on : (q : Bool) → (u == v) ≡ q → (if q then ((2 + g == 2 + k) || (2 + g == 1)) && not (some_hold (claims_on u) hs) else claim_right hs u (2 + g)) ≡ true → ⊥
-        on true i f = wait x k v (unit v i) (one_of k g (first ((2 + g == 2 + k) || (2 + g == 1)) (not (some_hold (claims_on u) hs)) f)) (λ c. (r.3 c).waits)
+        on true i f = wait x k v (unit v i) (one_of k g (and_first ((2 + g == 2 + k) || (2 + g == 1)) (not (some_hold (claims_on u) hs)) f)) (λ c. (r.3 c).waits)
         on false i f = rest f
+    one x _ hs r rest e = rest e
 
     by : (hs : Reservations) → AllRight d chip w s hs → claim_right hs u (2 + g) ≡ true → ⊥
     by [] r e = not_zero g e
@@ -335,8 +328,6 @@ module _ (d : AdcTable) (fits : FitsAdc d) (before after : Reservations) (a b : 
 
   held_changed : (x : ReservedBy Call Reservation) (z : Reservation) → Spares d a b s t g u z → HeldRight d a w s x z → HeldRight d b w t x z
   held_changed x (Clears n) free r = absurd (let f = r.1 in let e = c.on in cc)
-  held_changed x (Starts v) free r = c.still
-  held_changed x (Yields v) free r = c.still
   held_changed x (Claims v) free r = (r.0, c.still, no_round v (Claims v) free (eq_self v) r.2)
   held_changed x (Fills v k e n j p) free r = (
     r.0,
@@ -394,6 +385,7 @@ module _ (d : AdcTable) (fits : FitsAdc d) (before after : Reservations) (a b : 
 
       word : (m : ℕ) → m < length (inputs_of (group_of d k)) → word_of b (bank_word (rounds_of d k) n 0 + m) ≡ word_of a (bank_word (rounds_of d k) n 0 + m)
       word m less = subst (λ z. word_of b z ≡ word_of a z) (banks_front d k n m) (bank_stays k n m r.2 less)
+  held_changed x _ free r = c.still
 
   -- what frames below hold stays right
   pub all_changed : (hs : Reservations) → AllSpare d a b s t g u hs → AllRight d a w s hs → AllRight d b w t hs
@@ -525,11 +517,9 @@ module _ (d : AdcTable) (fits : FitsAdc d) (before after : Reservations) (a b : 
         waits_by k q e (inr ne) = let x = h.sound.waits k q (sym (waiting_same k ne) ∙ e) in (x.0, more q.number x.1, x.2, x.3)
 
         on_unit : (v : ℕ) (r : Round) → round_at t v ≡ Some r → r.group ≡ g → v ≡ u
-        on_unit v r e i = by (same_or_other v u)
-          where
-            by : (v ≡ u) ⊎ (v ≢ u) → v ≡ u
-            by (inl q) = q
-            by (inr ne) = let x = h.sound.runs v r (sym (c.rounds v ne) ∙ e) in absurd (other_group v r.group ne x.1 i)
+        on_unit v r e i =
+            elim (same_or_other v u)
+            [ inl q ↦ q | inr ne ↦ (let x = h.sound.runs v r (sym (c.rounds v ne) ∙ e) in absurd (other_group v r.group ne x.1 i)) ]
 
         runs_by : (v : ℕ) (r : Round) → round_at t v ≡ Some r → (r.group ≡ g) ⊎ (r.group ≢ g) → (v < 2) × (is_on v (group_of d r.group) ≡ true) × ((group_at t r.group).waiting ≡ None) × (r.start ≤ w.now) × IsSoundRequest d t r.group r.request
         runs_by v r e (inl i) =

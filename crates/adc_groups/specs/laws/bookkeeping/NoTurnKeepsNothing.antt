@@ -1,7 +1,7 @@
 -- A group without a turn keeps nothing.
 -- From words.WordsOfModule.
 -- Used by services.StopRight, services.EnableTriggerRight.
-use Rattle.std.proofs.Common.{◌≡◌, ◌+◌, ◌<◌, ◌||◌, ◌==◌, [], ◌∙◌, if◌then◌else◌}
+use Rattle.std.proofs.Common.{◌≡◌, ◌<◌, ◌||◌, [], ◌∙◌, if◌then◌else◌}
 use Rattle.adc_groups.specs.Terms
 use Terms.{AdcState, AdcTable, ap, arith, Bool, false, FitsAdc, group_at, group_of, has_turn, is_round_of, is_some}
 use Terms.{kept_by, kept_in, kept_of_round, None, Option, refl, Request, Round, round_at, Some, suc, true, unit_of}
@@ -10,9 +10,8 @@ use Rattle.adc_groups.specs.laws.words.WordsOfModule.{unit_small}
 
 -- none of three is
 none_of : (a b c : Bool) → a || b || c ≡ false → (a ≡ false) × (b ≡ false) × (c ≡ false)
-none_of true b c e = absurd (cc)
-none_of false true c e = absurd (cc)
 none_of false false c e = (refl, refl, e)
+none_of _ _ c e = absurd (cc)
 
 of_waiting : (q : Option Request) (r : Option Round) (g : ℕ) → is_some q ≡ false → kept_by q (kept_of_round g r) ≡ kept_of_round g r
 of_waiting None r g e = refl

@@ -40,7 +40,6 @@ record BlockLeft (a b : Converters) : Type 0 where
   round : (u : ℕ) → u < length a.units → (chips.unit_at b u).round ≡ (chips.unit_at a u).round
 
 block_left : (o : Order) (r : ℕ) (c : Converters) → BlockLeft c (block_after o r c)
-block_left (orders.Tick n) r c = record { time = omega arith; all = refl; gates = refl; few = λ e. e; round = λ u lt. refl }
 block_left (orders.Analog i v) r c = record { time = omega arith; all = length-map c.units (chips.settled c.levels c.time); gates = refl; few = λ e. e; round = λ u lt. ap (λ x. x.round) (get_or-map (chips.settled c.levels c.time) c.units u unused unused lt) }
 block_left (orders.Trigger i) r c = by (nat_lt i 4 && has_bit c.gates i) refl
   where
@@ -105,10 +104,8 @@ module _ (f d : AdcTable) (chip : Chip) (order : Order) (none : is_fill order �
   deed_stays x ds there h = tt
 
   stays_by : (o b : Option StructureOp) (ds : List WindowWrite) → own_by f d o b ds ≡ true → fits_by d o b ds chip → fits_by d o b ds (happened chip order)
-  stays_by (Some s) b ds e h = tt
-  stays_by None (Some s) ds e h = tt
   stays_by None None (x ∷ xs) e h = deed_stays x xs (deed_there f d x e) h
-  stays_by None None [] e h = tt
+  stays_by _ _ _ e h = tt
 
   -- ---- and the hardware may move before
 
@@ -315,10 +312,9 @@ module _ (f d : AdcTable) (a b : Chip) where
 
   goes_by : (o q : Option StructureOp) (ds : List WindowWrite) (t : Continuation) → own_by f d o q ds ≡ true → fits_by d o q ds a → o ≡ None → q ≡ None → Differs d ds a b
       → fits_by d o q ds b × (left_by d o q ds t (value_of b (move_by d o q ds)) ≡ left_by d o q ds t (value_of a (move_by d o q ds))) × Alike d (left_by d o q ds t (value_of a (move_by d o q ds))) (chip_after a (move_by d o q ds) 0) (chip_after b (move_by d o q ds) 0)
-  goes_by (Some s) q ds t own fit p r h = absurd (cc)
-  goes_by None (Some s) ds t own fit p r h = absurd (cc)
   goes_by None None (x ∷ xs) t own fit p r h = let there = deed_there f d x own in (fits_other x xs there h fit, refl, alike_left d xs t (chip_after a (deed_move d x) 0) (chip_after b (deed_move d x) 0) (goes_deed x xs there own fit h))
   goes_by None None [] t own fit p r h = (tt, refl, Alike_but h)
+  goes_by _ _ ds t own fit p r h = absurd (cc)
 
 -- which driver tells what is left doesn't matter after the last one
 unit_as : (d e : AdcTable) (a : Chip) (u now : ℕ) (x y : Converter) → UnitsAlike d [] a u now x y → UnitsAlike e [] a u now x y

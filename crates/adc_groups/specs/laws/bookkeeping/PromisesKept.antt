@@ -4,9 +4,11 @@ use Rattle.std.proofs.Common.{◌≡◌, ◌≢◌, ◌+◌, ◌==◌, ◌&&◌,
 use Rattle.adc_groups.specs.Terms
 use Terms.{aborts, aborts_by, AdcState, AdcTable, all_groups, and_from, and_parts, ap, arith, Bool, Call, cond, false}
 use Terms.{group_at, group_of, inl, inr, is_finished, is_handler, is_on, is_outranked, is_some, is_unit_line, List}
-use Terms.{list_any, nat_lt, nat_tests, next_group, next_is, None, none_is, not, Option, Origin, priority_of, Promised}
+use Terms.{list_any, nat_lt, next_group, next_is, None, none_is, not, Option, Origin, priority_of, Promised}
 use Terms.{rank_of, refl, Reservations, Round, round_at, Some, some_hold, starts, starts_by, starts_on, sym, true}
-use Terms.{waits_for, will_yield, World, ℕ}
+use Terms.{or_right, waits_for, will_yield, World, ℕ}
+use Rattle.plain_facts.specs.Numbers.{eq_other, same_or_other}
+use Rattle.plain_facts.specs.Truths.{and_false}
 
 any_same : (p q : ℕ → Bool) → ((h : ℕ) → p h ≡ q h) → (gs : List ℕ) → list_any p gs ≡ list_any q gs
 any_same p q same [] = refl
@@ -25,9 +27,8 @@ module _ (d : AdcTable) (w : World) (s t : AdcState) (v : ℕ) (round : round_at
           none (Some j) i = refl
 
       by : (q : Option Round) → round_at s v ≡ q → (o : Option ℕ) → next_group d t v ≡ o → is_some (starts_by q o) ≡ true → is_some (starts d s v) ≡ true
-      by (Some r) i o f g = absurd (cc)
-      by None i None f g = absurd (cc)
       by None i (Some k) f g = ap (λ q. is_some (starts_by q (next_group d s v))) i ∙ found k f
+      by _ i _ f g = absurd (cc)
 
   outranked_same : (g : ℕ) → is_outranked d t v g ≡ is_outranked d s v g
   outranked_same g = any_same (λ h. waits_for d t v h && nat_lt (rank_of d g) (rank_of d h)) (λ h. waits_for d s v h && nat_lt (rank_of d g) (rank_of d h)) (λ h. ap (λ q. q && nat_lt (rank_of d g) (rank_of d h)) (waits h)) all_groups
@@ -44,11 +45,8 @@ module _ (d : AdcTable) (w : World) (s t : AdcState) (v : ℕ) (round : round_at
 
 -- a change of one group leaves how groups wait for another unit
 pub waits_other : (d : AdcTable) (s t : AdcState) (g v : ℕ) → is_on v (group_of d g) ≡ false → ((k : ℕ) → k ≢ g → is_some (group_at t k).waiting ≡ is_some (group_at s k).waiting) → (h : ℕ) → waits_for d t v h ≡ waits_for d s v h
-waits_other d s t g v off waits h = by (cases h g)
+waits_other d s t g v off waits h = by (same_or_other h g)
   where
-    cases : (x y : ℕ) → (x ≡ y) ⊎ (x ≢ y)
-    cases x y = grind arith
-
     by : (h ≡ g) ⊎ (h ≢ g) → is_on v (group_of d h) && is_some (group_at t h).waiting ≡ is_on v (group_of d h) && is_some (group_at s h).waiting
     by (inl e) =
         let none : is_on v (group_of d h) ≡ false = ap (λ k. is_on v (group_of d k)) e ∙ off in
@@ -58,11 +56,7 @@ waits_other d s t g v off waits h = by (cases h g)
 -- without priorities nothing yields
 none_ranks : (p q : ℕ → Bool) → ((h : ℕ) → q h ≡ false) → (gs : List ℕ) → list_any (λ h. p h && q h) gs ≡ false
 none_ranks p q off [] = refl
-none_ranks p q off (g ∷ gs) = ap (λ b. (p g && b) || list_any (λ h. p h && q h) gs) (off g) ∙ (ap (λ b. b || list_any (λ h. p h && q h) gs) (and_off (p g)) ∙ none_ranks p q off gs)
-  where
-    and_off : (a : Bool) → a && false ≡ false
-    and_off true = refl
-    and_off false = refl
+none_ranks p q off (g ∷ gs) = ap (λ b. (p g && b) || list_any (λ h. p h && q h) gs) (off g) ∙ (ap (λ b. b || list_any (λ h. p h && q h) gs) (and_false (p g)) ∙ none_ranks p q off gs)
 
 pub none_yields : (d : AdcTable) (w : World) (s : AdcState) (v : ℕ) → d.priorities ≡ false → is_some (aborts d w s v) ≡ false
 none_yields d w s v flat = by (round_at s v)
@@ -89,13 +83,9 @@ any_more : (p q : ℕ → Bool) → ((h : ℕ) → p h ≡ true → q h ≡ true
 any_more p q more [] e = e
 any_more p q more (g ∷ gs) e = by (λ f. any_more p q more gs f) (p g) refl e
   where
-    or_more : (a b : Bool) → b ≡ true → a || b ≡ true
-    or_more true b f = refl
-    or_more false b f = f
-
     by : (list_any p gs ≡ true → list_any q gs ≡ true) → (b : Bool) → p g ≡ b → b || list_any p gs ≡ true → q g || list_any q gs ≡ true
     by rest true i f = ap (λ b. b || list_any q gs) (more g i)
-    by rest false i f = or_more (q g) (list_any q gs) (rest f)
+    by rest false i f = or_right (q g) (list_any q gs) (rest f)
 
 module _ (d : AdcTable) (w : World) (s t : AdcState) (v : ℕ) (waits : (h : ℕ) → waits_for d t v h ≡ true → waits_for d s v h ≡ true) (round : (r : Round) → round_at t v ≡ Some r → round_at s v ≡ Some r) where
   outranked_more : (g : ℕ) → is_outranked d t v g ≡ true → is_outranked d s v g ≡ true
@@ -124,15 +114,8 @@ yields_below true x e = absurd (cc)
 yields_below false x e = e
 
 pub yields_past : (a : Bool) (v : ℕ) (o : Origin Call) (x : Bool) → is_handler v o ≡ false → not (a && is_handler v o) && x ≡ x
-yields_past a v o x e = ap (λ b. not (a && b) && x) e ∙ ap (λ b. not b && x) (and_off a)
-  where
-    and_off : (b : Bool) → b && false ≡ false
-    and_off true = refl
-    and_off false = refl
+yields_past a v o x e = ap (λ b. not (a && b) && x) e ∙ ap (λ b. not b && x) (and_false a)
 
 -- the line of a trigger input is no unit's
 pub no_unit : (i : ℕ) → is_unit_line (28 + i) ≡ false
-no_unit i = ap (λ q. q || 28 + i == 25) (unlike (28 + i) 24 (λ e. omega (arith, e))) ∙ unlike (28 + i) 25 (λ e. omega (arith, e))
-  where
-    unlike : (x y : ℕ) → x ≢ y → (x == y) ≡ false
-    unlike x y ne = grind (arith, nat_tests, ne)
+no_unit i = ap (λ q. q || 28 + i == 25) (eq_other (28 + i) 24 (λ e. omega (arith, e))) ∙ eq_other (28 + i) 25 (λ e. omega (arith, e))

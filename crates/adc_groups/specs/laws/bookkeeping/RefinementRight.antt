@@ -4,18 +4,18 @@
 use Rattle.std.proofs.Common.{◌≡◌, ◌+◌, ◌-◌, ◌*◌, ◌/◌, ◌<◌, ◌≤◌, ◌&&◌, ◌||◌, ◌==◌, [], ◌∷◌, ◌∙◌, if◌then◌else◌}
 use Rattle.adc_groups.specs.Terms
 use Terms.{aborts, aborts_by, Acts, acts_by, Adc0, Adc1, adc_machine, adc_setting, AdcRepresents, AdcState, AdcTable}
-use Terms.{Agrees, Ahead, all_groups, and_first, and_second, ap, arith, bare, Bool, Busy, Call, Called, Chip}
-use Terms.{circumstances, Completed, cond, DeInit, DisableHardwareTrigger, edged, EnableHardwareTrigger, ended-open}
+use Terms.{Agrees, Ahead, all_groups, and_first, and_second, ap, arith, bare, Bool, Call, Called, Chip}
+use Terms.{circumstances, cond, edged, ended-open}
 use Terms.{error_by, ErrorLeaves, ErrorName, false, false_from_ne_true, fills_there, FillsThere, first_on_input}
-use Terms.{first_state, FitsAdc, GetGroupStatus, GetStreamLastPointer, group_at, group_of, group_of_input, group_work}
+use Terms.{first_state, FitsAdc, GetStreamLastPointer, group_at, group_of, group_of_input, group_work}
 use Terms.{GroupCall, happened, happens, Hardware, has_bit, has_input, has_turn, Idle, if_same, Init, inputs_left}
 use Terms.{is_done, is_fill, is_for_lines, is_masked, is_on, is_other, is_pending, is_some, is_trigger_line}
 use Terms.{is_unit_line, is_used, IsBasis, IsFree, IsSome, length, line-converter, line-trigger, List, listener}
 use Terms.{listener_among, listens, mark_at, MayCome, min, move_there, moved, nat_le, nat_lt, nat_tests, next_group}
-use Terms.{next_is, None, not, not_filled, Notification, Option, Order, Origin, Outcome, outcome, outside_at, points}
+use Terms.{next_is, None, not, not_filled, Option, Order, Origin, Outcome, outcome, outside_at, points}
 use Terms.{PowerOn, rate-left, ReadGroup, reads, ready, Reason, refl, Reservations, reset_chip, Round, round_at}
-use Terms.{RoundAgrees, SetupResultBuffer, slice_index, slice_index_or, Some, some_same, Spi0, Spi1}
-use Terms.{StartGroupConversion, starts, starts_by, Status, Steady, StopGroupConversion, StreamCompleted, subst, suc}
+use Terms.{RoundAgrees, slice_index, slice_index_or, Some, some_same}
+use Terms.{starts, starts_by, Status, Steady, subst, suc}
 use Terms.{sym, tells_nothing, true, unit_level, waits_for, with_mark, word_of, words_happened, work, World}
 use Terms.{world_after, zero, ℕ}
 use Rattle.adc_machine.specs.declared.call.Call.TheVariants.{Group}
@@ -28,6 +28,7 @@ use Rattle.chip_converter.specs.Rounds as rounds
 use Rattle.mcal_base.specs.declared.directive.Order.TheVariants as orders
 use Rattle.mcal_base.specs.declared.moves.Unit as units
 use Rattle.adc_machine.specs.declared.table.Group as configured
+use Rattle.plain_facts.specs.Numbers.{eq_self}
 
 -- ---- lines
 
@@ -39,10 +40,7 @@ all_ended start now n le = by (nat_le (start + 4 * n) now) refl
     by true e =
         let past : start + 4 * n ≤ now = grind (arith, nat_tests) in
         let same : min n ((now - start) / 4) ≡ n = omega (arith, past) in
-        ap (λ m. m == n) same ∙ (equal n ∙ sym e)
-      where
-        equal : (n : ℕ) → (n == n) ≡ true
-        equal n = grind (arith, nat_tests)
+        ap (λ m. m == n) same ∙ (eq_self n ∙ sym e)
     by false e =
         let early : now < start + 4 * n = grind (arith, nat_tests) in
         let less : min n ((now - start) / 4) < n = omega (arith, early, le) in
@@ -183,38 +181,26 @@ module _ (d : AdcTable) (fits : FitsAdc d) (chip : Chip) (w : World) (s : AdcSta
   waits : (u : units.Unit) → (adc_machine d).startable w s u ≡ false
   waits Adc0 = none_starts 0
   waits Adc1 = none_starts 1
-  waits Spi0 = refl
-  waits Spi1 = refl
+  waits _ = refl
 
 -- ---- errors
 
 reads_tell : (d : AdcTable) (s : AdcState) (g : ℕ) (x : Status) → (reads d s g x).told.error ≡ None
 reads_tell d s g Idle = refl
-reads_tell d s g Busy = refl
-reads_tell d s g Completed = refl
-reads_tell d s g StreamCompleted = refl
+reads_tell d s g _ = refl
 
 points_tell : (d : AdcTable) (s : AdcState) (g : ℕ) (x : Status) → (points d s g x).told.error ≡ None
 points_tell d s g Idle = refl
-points_tell d s g Busy = refl
-points_tell d s g Completed = refl
-points_tell d s g StreamCompleted = refl
+points_tell d s g _ = refl
 
 group_tells : (d : AdcTable) (s : AdcState) (g : ℕ) (call : GroupCall) → (group_work d s g call).told.error ≡ None
-group_tells d s g (SetupResultBuffer b) = refl
-group_tells d s g StartGroupConversion = refl
-group_tells d s g StopGroupConversion = refl
 group_tells d s g ReadGroup = reads_tell d s g (group_at s g).status
-group_tells d s g EnableHardwareTrigger = refl
-group_tells d s g DisableHardwareTrigger = refl
-group_tells d s g (Notification on) = refl
-group_tells d s g GetGroupStatus = refl
 group_tells d s g GetStreamLastPointer = points_tell d s g (group_at s g).status
+group_tells d s g _ = refl
 
 work_tells : (d : AdcTable) (s : AdcState) (call : Call) → (work d s call).told.error ≡ None
-work_tells d s Init = refl
-work_tells d s DeInit = refl
 work_tells d s (Group g call) = group_tells d s g call
+work_tells d s _ = refl
 
 acts_leave : (d : AdcTable) (s : AdcState) (call : Call) (e : Option ErrorName) → ErrorLeaves s (acts_by d s call e)
 acts_leave d s call None some = absurd (let k = subst (λ x. IsSome x) (work_tells d s call) some in cc)
@@ -242,12 +228,7 @@ due_line d w s l e = by (is_unit_line l) (and_second s.initialised _ e)
     by false e = and_first (is_trigger_line l) (mark_at s (l - 28)) e
 
 words_kept : (chip : Chip) (ws : List ℕ) (order : Order) → is_fill order ≡ false → happened (record chip { words = ws }) order ≡ record (happened chip order) { words = ws }
-words_kept chip ws (orders.Tick n) e = refl
 words_kept chip ws (orders.Level p v) e = if_same {A = Chip} (λ (c : Chip). record c { words = ws }) (is_other (outside_at chip p) v) (edged chip p v) chip
-words_kept chip ws (orders.Analog i v) e = refl
-words_kept chip ws (orders.Trigger i) e = refl
-words_kept chip ws (orders.Miso u xs) e = refl
-words_kept chip ws (orders.SpiFault u) e = refl
 words_kept chip ws (orders.Fill k xs) e = absurd (cc)
 words_kept chip ws _ e = refl
 
@@ -322,11 +303,9 @@ module _ (d : AdcTable) (fits : FitsAdc d) where
   }
     where
       moved_same : (order : Order) (s : AdcState) → (moved d s order).requests ≡ s.requests
-      moved_same (orders.Trigger i) s = either_same (is_some (listener d s i))
-        where
-          either_same : (q : Bool) → (cond q (with_mark s i true) s).requests ≡ s.requests
-          either_same true = refl
-          either_same false = refl
+      moved_same (orders.Trigger i) s =
+          elim (is_some (listener d s i)) as (λ q. (cond q (with_mark s i true) s).requests ≡ s.requests)
+          [ true ↦ refl | false ↦ refl ]
       moved_same _ s = refl
 
       moved_few : (d1 : AdcTable) (s : AdcState) (order : Order) (out : Outcome AdcState) → Some (outcome (moved d s order) tells_nothing) ≡ Some out → out.state.requests ≤ s.requests

@@ -3,13 +3,13 @@
 use Rattle.std.proofs.Common.{◌≡◌, ◌+◌, ◌-◌, ◌≤◌}
 use Rattle.adc_groups.specs.Terms
 use Terms.{aborted, aborting, Aborts, aborts, aborts_on, Acts, acts, acts_by, AdcState, AdcTable, after_round, allowed}
-use Terms.{arith, Bool, Busy, Call, came, circumstances, Completed, DeInit, DisableHardwareTrigger, either}
-use Terms.{EnableHardwareTrigger, error_by, ErrorName, false, first_state, GetGroupStatus, GetStreamLastPointer}
-use Terms.{group_at, group_of, group_work, GroupCall, Happening, happens, has_turn, Idle, Init, is_unit_line, listener}
-use Terms.{moved, Moves, None, Notification, number_of, Option, Order, Outcome, outcome, points, ReadGroup, reads}
+use Terms.{arith, Bool, Call, came, circumstances, DisableHardwareTrigger, either}
+use Terms.{error_by, ErrorName, false, first_state, GetStreamLastPointer}
+use Terms.{group_at, group_of, group_work, GroupCall, Happening, happens, has_turn, Idle, is_unit_line, listener}
+use Terms.{moved, Moves, None, number_of, Option, Order, Outcome, outcome, points, ReadGroup, reads}
 use Terms.{ready, requested, requested_unless_turn, Restarts, Round, round_at, served, served_round, served_trigger}
-use Terms.{Serves, SetupResultBuffer, Some, started, StartGroupConversion, starting, starts, Status}
-use Terms.{StopGroupConversion, StreamCompleted, tells_nothing, trigger_input, true, with_mark, without_mark, World, ℕ}
+use Terms.{Serves, Some, started, starting, starts, Status}
+use Terms.{StopGroupConversion, tells_nothing, trigger_input, true, with_mark, without_mark, World, ℕ}
 use Rattle.run_model.specs.Machine.{Starts}
 use Rattle.adc_machine.specs.{Machine.{starts_on}, declared.call.Call.TheVariants.{Group}}
 use Rattle.mcal_base.specs.declared.directive.Order.TheVariants as orders
@@ -36,32 +36,23 @@ turn_few d m s g n false false h = h
 
 reads_few : (d : AdcTable) (n : ℕ) (s : AdcState) (g : ℕ) (x : Status) → Few n s → Few n (reads d s g x).state
 reads_few d n s g Idle h = h
-reads_few d n s g Busy h = h
-reads_few d n s g Completed h = h
-reads_few d n s g StreamCompleted h = h
+reads_few d n s g _ h = h
 
 points_few : (d : AdcTable) (n : ℕ) (s : AdcState) (g : ℕ) (x : Status) → Few n s → Few n (points d s g x).state
 points_few d n s g Idle h = h
-points_few d n s g Busy h = h
-points_few d n s g Completed h = h
-points_few d n s g StreamCompleted h = h
+points_few d n s g _ h = h
 
 group_few : (d : AdcTable) (s : AdcState) (g : ℕ) (call : GroupCall) → Few s.requests (group_work d s g call).state
-group_few d s g (SetupResultBuffer b) = omega arith
-group_few d s g StartGroupConversion = omega arith
-group_few d s g EnableHardwareTrigger = omega arith
 group_few d s g StopGroupConversion = unmarked_few s.requests _ (trigger_input (group_of d g)) (omega arith)
 group_few d s g DisableHardwareTrigger = unmarked_few s.requests _ (trigger_input (group_of d g)) (omega arith)
 group_few d s g ReadGroup = reads_few d s.requests s g (group_at s g).status (omega arith)
-group_few d s g (Notification on) = omega arith
-group_few d s g GetGroupStatus = omega arith
 group_few d s g GetStreamLastPointer = points_few d s.requests s g (group_at s g).status (omega arith)
+group_few d s g _ = omega arith
 
 act_few : (d : AdcTable) (s : AdcState) (call : Call) (o : Option ErrorName) → Few s.requests (acts_by d s call o).state
-act_few d s Init None = omega arith
-act_few d s DeInit None = omega arith
 act_few d s (Group g call) None = group_few d s g call
 act_few d s call (Some e) = omega arith
+act_few d s _ _ = omega arith
 
 round_few : (d : AdcTable) (w : World) (s : AdcState) (u : ℕ) (q : Option Round) → Few s.requests (served_round d w s u q).state
 round_few d w s u None = omega arith

@@ -6,7 +6,7 @@ use Rattle.adc_groups.specs.Terms
 use Terms.{AdcState, AdcTable, and_false, and_true, ap, arith, bit, bit_of_trigger, Bool, Converters, eq_self, false}
 use Terms.{FitsAdc, group_at, group_of, has_bit, has_bit-pow_other, has_bit-pow_same, has_bit-without, inl, inr}
 use Terms.{is_some, listener, mark_at, None, not, Option, refl, same_or_other, Some, subst, suc, sym, trigger_bit}
-use Terms.{trigger_input, TriggersAgree, true, without, without_mark, zero, ℕ}
+use Terms.{trigger_input, TriggersAgree, true, without, without_mark, ℕ}
 use Rattle.adc_groups.specs.laws.{hardware.HardwareCommutes.{small_without}, bookkeeping.TriggerListener.{input_small}}
 use Rattle.adc_groups.specs.laws.{bookkeeping.TriggerListener.{bit_is, listener_other, listener_off}}
 use Rattle.adc_groups.specs.laws.{services.PulseRight.{marked_before, flags_left}, services.RequestRight.{listener_as}}
@@ -44,11 +44,8 @@ module _ (d : AdcTable) (fits : FitsAdc d) (s t : AdcState) (g : ℕ) (wired : (
   marks_off were = marks_by were (trigger_input (group_of d g)) refl
 
   fits_bit : (j : ℕ) → j < 4 → bit j < 2 ^ 32
-  fits_bit zero less = omega arith
-  fits_bit (suc zero) less = omega arith
-  fits_bit (suc (suc zero)) less = omega arith
-  fits_bit (suc (suc (suc zero))) less = omega arith
   fits_bit (suc (suc (suc (suc j)))) less = absurd (omega (arith, less))
+  fits_bit _ less = omega arith
 
   triggers_by : (c : Converters) → TriggersAgree d c s → (o : Option ℕ) → trigger_input (group_of d g) ≡ o → TriggersAgree d (off_block (is_some o) (bit_of_trigger o) c) t
   triggers_by c h None e = record {

@@ -1,7 +1,7 @@
 -- A turn that is gone, and what a frame holds after it.
 -- From services.RequestRight.
 -- Used by services.StopRight.
-use Rattle.std.proofs.Common.{◌≡◌, ◌≢◌, ◌&&◌, ◌||◌, ◌==◌}
+use Rattle.std.proofs.Common.{◌≡◌, ◌||◌}
 use Rattle.adc_groups.specs.Terms
 use Terms.{AdcState, AdcTable, AllRight, Answer, Backed, Bool, Call, Chip, claim_right, cond, false, first_held}
 use Terms.{is_owed, is_round_of, None, Option, Origin, put_of, refl, Reservations, ResultBuffer, Round, Some, some_hold}
@@ -21,9 +21,7 @@ unless_some q false r e = e
 
 pub none_of_three : (a b c : Bool) → a ≡ false → b ≡ false → c ≡ false → (a || b || c) ≡ false
 none_of_three false false false e f h = refl
-none_of_three true b c e f h = absurd (cc)
-none_of_three false true c e f h = absurd (cc)
-none_of_three false false true e f h = absurd (cc)
+none_of_three _ _ _ e f h = absurd (cc)
 
 -- ---- what a frame holds after it
 

@@ -1,7 +1,7 @@
 -- Turns of groups on a unit: whose round the unit has, by the groups that wait.
 -- From services.Decisions, words.WordsOfModule.
 -- Used by adc_serving: services.ServeActRight.
-use Rattle.std.proofs.Common.{◌≡◌, ◌≢◌, ◌<◌, ◌&&◌, ◌||◌, ◌==◌, [], ◌∷◌, ◌∙◌, if◌then◌else◌}
+use Rattle.std.proofs.Common.{◌≡◌, ◌≢◌, ◌<◌, ◌||◌, [], ◌∙◌, if◌then◌else◌}
 use Rattle.adc_groups.specs.Terms
 use Terms.{AdcState, AdcTable, ap, arith, Bool, cond, eq_is, eq_other, eq_self, false, FitsAdc, group_at, group_of}
 use Terms.{has_turn, is_converter, is_on, is_round_of, is_some, IsSound, kept_by, kept_in, kept_of_round, None}
@@ -13,19 +13,16 @@ use Rattle.mcal_base.specs.declared.moves.Unit as units
 -- ---- the names of units
 
 pub named_converter : (u : ℕ) → u < 2 → is_converter (unit_named u) ≡ true
-named_converter zero lt = refl
-named_converter (suc zero) lt = refl
 named_converter (suc (suc u)) lt = absurd (omega (arith, lt))
+named_converter _ lt = refl
 
 pub named_number : (u : ℕ) → u < 2 → u ≡ unit_number (unit_named u)
-named_number zero lt = refl
-named_number (suc zero) lt = refl
 named_number (suc (suc u)) lt = absurd (omega (arith, lt))
+named_number _ lt = refl
 
 pub named_of : (u : ℕ) → u < 2 → number_of (unit_named u) ≡ Some u
-named_of zero lt = refl
-named_of (suc zero) lt = refl
 named_of (suc (suc u)) lt = absurd (omega (arith, lt))
+named_of _ lt = refl
 
 -- ---- rounds and turns
 
@@ -34,15 +31,13 @@ pub round_turn : (s : AdcState) (g u : ℕ) → u < 2 → is_round_of g (round_a
 round_turn s g zero lt e = by (is_some (group_at s g).waiting) (is_round_of g (round_at s 0)) (is_round_of g (round_at s 1)) e
   where
     by : (a b c : Bool) → b ≡ true → a || b || c ≡ true
-    by true b c f = refl
-    by false true c f = refl
     by false false c f = absurd (cc)
+    by _ _ c f = refl
 round_turn s g (suc zero) lt e = by (is_some (group_at s g).waiting) (is_round_of g (round_at s 0)) (is_round_of g (round_at s 1)) e
   where
     by : (a b c : Bool) → c ≡ true → a || b || c ≡ true
-    by true b c f = refl
-    by false true c f = refl
     by false false c f = f
+    by _ _ c f = refl
 round_turn s g (suc (suc u)) lt e = absurd (omega (arith, lt))
 
 -- and so does a request

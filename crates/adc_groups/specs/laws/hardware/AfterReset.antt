@@ -6,7 +6,7 @@ use Rattle.adc_groups.specs.Terms
 use Terms.{AdcTable, Agrees, all_groups, AllByRecursion, ap, arith, BanksAgree, Chip, false, first_state, has_bit-zero}
 use Terms.{is_some, IsOver, IsSoundGroup, length, listener, None, Reason, refl, reset_chip, rests, result_word}
 use Terms.{rounds_of, Sample, slice_index-blank, slice_index_or, stands-reset, StandsIn, STATE, subst, suc, sym}
-use Terms.{trio_of, unused, word_at, word_number, word_of, World, zero, ℕ}
+use Terms.{trio_of, unused, word_at, word_number, word_of, World, ℕ}
 use Rattle.word_shapes.specs.TripleBuffer.{listed}
 use Rattle.adc_groups.specs.laws.hardware.HardwareMoves.{none_listens}
 use Rattle.adc_groups.specs.declared.words.Word.TheVariants as words
@@ -39,9 +39,8 @@ unfolding unused
 over_first now = (0, refl, omega arith)
 
 over_units : (now : ℕ) (u : ℕ) → u < 2 → IsOver (slice_index_or (unused ∷ unused ∷ []) u unused).round now
-over_units now zero lt = over_first now
-over_units now (suc zero) lt = over_first now
 over_units now (suc (suc u)) lt = absurd (omega (arith, lt))
+over_units now _ lt = over_first now
 
 -- and all its list registers
 list_first : length unused.list ≡ 8
@@ -49,9 +48,8 @@ unfolding unused
 list_first = refl
 
 list_units : (u : ℕ) → u < 2 → length (slice_index_or (unused ∷ unused ∷ []) u unused).list ≡ 8
-list_units zero lt = list_first
-list_units (suc zero) lt = list_first
 list_units (suc (suc u)) lt = absurd (omega (arith, lt))
+list_units _ lt = list_first
 
 first_banks : (d : AdcTable) (g : ℕ) (word : ℕ → ℕ) → ((k : ℕ) → word k ≡ 0) → BanksAgree d [] word first_state g
 first_banks d g word none =

@@ -11,13 +11,14 @@ use Terms.{Flags_left, Flags_same, get_or-map, get_or-set_other, get_or-set_same
 use Terms.{has_bit-pow_other, has_bit-pow_same, has_bit-without, if_same, inl, inr, is_fill, is_other, Is_over, IsDone}
 use Terms.{IsOver, IsUnkept, length, length-map, length-set, List, map, nat_lt, nat_tests, None, not, or_lt, Order}
 use Terms.{outside_at, owed_of, Read, refl, same_from_bits_below, same_or_other, slice_index_or, slice_set, subst, suc}
-use Terms.{sym, TriggerClear, TriggerFlags, true, UnitsAlike, unused, WindowWrite, without, words_happened, Write, zero}
-use Terms.{ℕ}
+use Terms.{sym, TriggerClear, TriggerFlags, true, UnitsAlike, unused, WindowWrite, without, words_happened, Write}
+use Terms.{and_parts, ℕ}
 use Rattle.chip_converter.specs.Rounds.{Round}
 use Rattle.adc_groups.specs.laws.hardware.PendingWritesStable.{done_later, sound_later, aborted_done, acknowledged_over}
 use Rattle.adc_groups.specs.laws.hardware.PendingWritesStable.{aborted_list, acknowledged_list, unkept_same}
 use Rattle.chip_converter.specs.Converters as chips
 use Rattle.mcal_base.specs.declared.directive.Order.TheVariants as orders
+use Rattle.plain_facts.specs.Truths.{set_apart}
 
 -- ---- what the hardware leaves of the block
 
@@ -32,12 +33,7 @@ with_block chip c = record chip { converters = c }
 
 -- the block goes its own way
 happened_with : (chip : Chip) (c : Converters) (order : Order) → is_fill order ≡ false → happened (with_block chip c) order ≡ with_block (happened chip order) (block_after order chip.clock.rate c)
-happened_with chip c (orders.Tick n) e = refl
 happened_with chip c (orders.Level p v) e = if_same (λ x. with_block x c) (is_other (outside_at chip p) v) (edged chip p v) chip
-happened_with chip c (orders.Analog i v) e = refl
-happened_with chip c (orders.Trigger i) e = refl
-happened_with chip c (orders.Miso u ws) e = refl
-happened_with chip c (orders.SpiFault u) e = refl
 happened_with chip c (orders.Fill k ws) e = absurd (cc)
 happened_with chip c _ e = refl
 
@@ -60,11 +56,8 @@ pub small_or : (p i : ℕ) → p < 16 → i < 4 → bit_or p (2 ^ i) < 16
 small_or p i few lt = or_lt 4 p (2 ^ i) few (below i lt)
   where
     below : (k : ℕ) → k < 4 → 2 ^ k < 2 ^ 4
-    below zero lt = omega arith
-    below (suc zero) lt = omega arith
-    below (suc (suc zero)) lt = omega arith
-    below (suc (suc (suc zero))) lt = omega arith
     below (suc (suc (suc (suc k)))) lt = absurd (omega (arith, lt))
+    below _ lt = omega arith
 
 pub small_without : (p v : ℕ) → p < 16 → without p v < 16
 small_without p v few = let le = and_le_l p (2 ^ 32 - 1 - v) in omega (arith, le, few)
@@ -261,7 +254,7 @@ module _ (d : AdcTable) (ds : List WindowWrite) (t : Continuation) (chip : Chip)
         all = fit.all;
         also = fit.all;
         units = λ u lt. Are_same refl;
-        flags = Flags_left (record { few = fit.few; also = small_or chip.converters.pulses i fit.few few; bits = λ j lt none. has_bit-or chip.converters.pulses (2 ^ i) j ∙ or_off (has_bit chip.converters.pulses j) (has_bit (2 ^ i) j) (one_bit i j false (apart j none)) });
+        flags = Flags_left (record { few = fit.few; also = small_or chip.converters.pulses i fit.few few; bits = λ j lt none. has_bit-or chip.converters.pulses (2 ^ i) j ∙ set_apart (has_bit chip.converters.pulses j) (has_bit (2 ^ i) j) (one_bit i j false (apart j none)) });
       }))
         where
           few : i < 4
@@ -280,12 +273,7 @@ module _ (d : AdcTable) (ds : List WindowWrite) (t : Continuation) (chip : Chip)
                 where
                   out : (s g : Bool) → s && g ≡ true → s && (g && not (has_bit v i)) ≡ false → has_bit v i ≡ false → ⊥
                   out true true f e h = let k : not (has_bit v i) ≡ true = ap (λ q. not q) h in cc
-                  out true false f e h = cc
-                  out false g f e h = cc
-
-          or_off : (a b : Bool) → b ≡ false → (a || b) ≡ a
-          or_off true b h = refl
-          or_off false b h = h
+                  out _ _ f e h = cc
 
           apart : (j : ℕ) → flag_left ds j ≡ false → (j == i) ≡ false
           apart j none = by (j == i) refl
@@ -295,8 +283,6 @@ module _ (d : AdcTable) (ds : List WindowWrite) (t : Continuation) (chip : Chip)
               by false h = refl
 
       by : (o : Order) → is_fill o ≡ false → Both (block_after o chip.clock.rate (record chip.converters { gates = without chip.converters.gates v })) (record (block_after o chip.clock.rate chip.converters) { gates = without (block_after o chip.clock.rate chip.converters).gates v })
-      by (orders.Tick n) e = Alike_same refl
-      by (orders.Analog i x) e = Alike_same refl
       by (orders.Trigger i) e = subst (λ b. Both (chips.after_pulse (record chip.converters { gates = without chip.converters.gates v }) i) b) (turned (nat_lt i 4 && has_bit chip.converters.gates i)) (pulses i _ _ refl refl)
         where
           turned : (r : Bool) → (if r then record chip.converters { gates = without chip.converters.gates v; pulses = bit_or chip.converters.pulses (2 ^ i) } else record chip.converters { gates = without chip.converters.gates v })
@@ -322,11 +308,7 @@ module _ (d : AdcTable) (ds : List WindowWrite) (t : Continuation) (chip : Chip)
               by_true : (q : Bool) → (q || true) ≡ true
               by_true true = refl
               by_true false = refl
-          turn true false w h = sym (by_false (not w))
-            where
-              by_false : (q : Bool) → (q || false) ≡ q
-              by_false true = refl
-              by_false false = refl
+          turn true false w h = sym ((elim (not w) as (λ q. (q || false) ≡ q) [ true ↦ refl | false ↦ refl ]))
           turn false true w h = ap (λ q. not q) (h refl)
           turn false false w h = refl
 
@@ -345,19 +327,13 @@ module _ (d : AdcTable) (ds : List WindowWrite) (t : Continuation) (chip : Chip)
               by false h = absurd (let f = one_bit i j false h in cc)
 
       by : (o : Order) → is_fill o ≡ false → record (block_after o chip.clock.rate chip.converters) { pulses = without (block_after o chip.clock.rate chip.converters).pulses v } ≡ block_after o chip.clock.rate (record chip.converters { pulses = without chip.converters.pulses v })
-      by (orders.Tick n) e = refl
-      by (orders.Analog i x) e = refl
       by (orders.Trigger i) e = pulsed (nat_lt i 4 && has_bit chip.converters.gates i) refl
         where
-          unclosed : (s g : Bool) → s && g ≡ true → (s ≡ true) × (g ≡ true)
-          unclosed true g e = (refl, e)
-          unclosed false g e = absurd (cc)
-
           small : (i : ℕ) → nat_lt i 4 ≡ true → i < 4
           small i e = grind (arith, nat_tests)
 
           pulsed : (q : Bool) → (nat_lt i 4 && has_bit chip.converters.gates i) ≡ q → record (if q then record chip.converters { pulses = bit_or chip.converters.pulses (2 ^ i) } else chip.converters) { pulses = without (if q then record chip.converters { pulses = bit_or chip.converters.pulses (2 ^ i) } else chip.converters).pulses v }
               ≡ (if q then record chip.converters { pulses = bit_or (without chip.converters.pulses v) (2 ^ i) } else record chip.converters { pulses = without chip.converters.pulses v })
-          pulsed true h = let both = unclosed (nat_lt i 4) (has_bit chip.converters.gates i) h in ap (λ n. record chip.converters { pulses = n }) (cleared i (small i both.0) both.1)
+          pulsed true h = let both = and_parts (nat_lt i 4) (has_bit chip.converters.gates i) h in ap (λ n. record chip.converters { pulses = n }) (cleared i (small i both.0) both.1)
           pulsed false h = refl
       by _ e = refl

@@ -16,6 +16,8 @@ use Rattle.adc_groups.specs.laws.words.WordsOfModule.{words_below}
 use Rattle.chip_converter.specs.Converters as chips
 use Rattle.chip_converter.specs.Rounds as rounds
 use Rattle.mcal_base.specs.declared.directive.Order.TheVariants as orders
+use Rattle.std.proofs.lemmas.Bool.{and_right}
+use Rattle.plain_facts.specs.Truths.{and_first}
 
 -- ---- levels and samples
 
@@ -54,11 +56,7 @@ swap false m true e = absurd (cc)
 
 pub none_listens : (d : AdcTable) (s : AdcState) (i : ℕ) (gs : List ℕ) → ((g : ℕ) → (group_at s g).trigger ≡ false) → listener_among d s i gs ≡ None
 none_listens d s i [] off = refl
-none_listens d s i (g ∷ gs) off = ap (λ q. cond q (Some g) (listener_among d s i gs)) (deaf (is_input i (trigger_input (group_of d g))) (group_at s g).trigger (off g)) ∙ none_listens d s i gs off
-  where
-    deaf : (a b : Bool) → b ≡ false → a && b ≡ false
-    deaf true b e = e
-    deaf false b e = refl
+none_listens d s i (g ∷ gs) off = ap (λ q. cond q (Some g) (listener_among d s i gs)) (and_right (is_input i (trigger_input (group_of d g))) (group_at s g).trigger (off g)) ∙ none_listens d s i gs off
 
 -- a listener's input is one of the four
 listener_few : (d : AdcTable) → FitsAdc d → (s : AdcState) (i : ℕ) (gs : List ℕ) → is_some (listener_among d s i gs) ≡ true → i < 4
@@ -76,12 +74,8 @@ listener_few d fits s i (g ∷ gs) e = by (listens d s i g) refl (λ h. listener
             let same : j ≡ i = grind (arith, nat_tests) in
             omega (arith, lt, same)
 
-    first : (a b : Bool) → a && b ≡ true → a ≡ true
-    first true b e = refl
-    first false b e = absurd (cc)
-
     by : (q : Bool) → listens d s i g ≡ q → (is_some (listener_among d s i gs) ≡ true → i < 4) → is_some (cond q (Some g) (listener_among d s i gs)) ≡ true → i < 4
-    by true f rest h = input_few (group_of d g) refl (first (is_input i (trigger_input (group_of d g))) (group_at s g).trigger f)
+    by true f rest h = input_few (group_of d g) refl (and_first (is_input i (trigger_input (group_of d g))) (group_at s g).trigger f)
     by false f rest h = rest h
 
 -- ---- lemmas without the words and the state, so that no search reads those
@@ -121,11 +115,8 @@ one_bit i j true e = ap (λ k. has_bit (2 ^ i) k) (equal i j e) ∙ (has_bit-pow
 one_bit i j false e = let other : j ≢ i = grind (arith, nat_tests) in has_bit-pow_other i j other ∙ sym e
 
 below_pow : (k : ℕ) → k < 4 → 2 ^ k < 2 ^ 4
-below_pow zero lt = omega arith
-below_pow (suc zero) lt = omega arith
-below_pow (suc (suc zero)) lt = omega arith
-below_pow (suc (suc (suc zero))) lt = omega arith
 below_pow (suc (suc (suc (suc k)))) lt = four_or_more k lt
+below_pow _ lt = omega arith
 
 module _ (d : AdcTable) (fits : FitsAdc d) (held : Reservations) (chip : Chip) (w : World) (s : AdcState) (h : Agrees d held chip w s) where
   here : chip.converters.time ≡ w.now

@@ -4,11 +4,11 @@
 use Rattle.std.proofs.Common.{◌≡◌, ◌≢◌, ◌+◌, ◌^◌, ◌<◌, ◌≤◌, ◌&&◌, ◌||◌, ◌==◌, [], ◌∷◌, ◌∙◌}
 use Rattle.adc_groups.specs.Terms
 use Terms.{adc_owns, AdcState, AdcTable, after_read, Agrees, and_first, and_second, ap, arith, begins_word, bit_at}
-use Terms.{bit_at-lt, bit_at-zero, Bool, CaptureCountLow, CaptureTimeLow, Chip, chip_after, clear_apart, ClockPll}
+use Terms.{bit_at-lt, bit_at-zero, Bool, Chip, chip_after, clear_apart, ClockPll}
 use Terms.{ClockRate, ConverterAbort, ConverterAck, ConverterGo, ConverterList, EnableClear, EnableSet, false, FitsAdc}
 use Terms.{has_bit, has_bit-above, has_bit-or, has_bit-without, has_lines, is_for_lines, is_shared, is_trigger_line}
 use Terms.{is_unit_line, is_word, list_all, list_any, Load, may, may_name, may_write, Move, names_there, nat_lt}
-use Terms.{nat_tests, not, or_parts, owns_written, PinFlip, range_with_len, Read, refl, Reg, Reservations, ResetRequest}
+use Terms.{nat_tests, not, or_parts, owns_written, range_with_len, Read, refl, Reg, Reservations, ResetRequest}
 use Terms.{resets_chip, same_from_bits_below, SerialData, set_apart, sets_rate, stands-move, Store, stores_in, subst}
 use Terms.{suc, sym, TimerLow, TriggerClear, TriggerFlags, TriggerSet, true, word_apart, World, Write, zero, ℕ}
 use Rattle.adc_machine.specs.Words.{is_converter}
@@ -58,7 +58,6 @@ line_few = by_line (λ l. l < 32) (omega arith) (omega arith) (omega arith) (ome
 
 read_apart : (chip : Chip) (r : Reg) → is_converter r ≡ false → (after_read chip r).converters ≡ chip.converters
 read_apart chip (ConverterAbort u) e = absurd (cc)
-read_apart chip (PinFlip p) e = refl
 read_apart chip _ e = refl
 
 written_apart : (chip : Chip) (r : Reg) (v received : ℕ) → owns_written r v ≡ false → (chip_after chip (Write r v) received).converters ≡ chip.converters
@@ -86,10 +85,6 @@ written_enabled chip _ v received l e at = refl
 
 read_enabled : (chip : Chip) (r : Reg) → (after_read chip r).control ≡ chip.control
 read_enabled chip (TimerLow c) = refl
-read_enabled chip (CaptureCountLow c) = refl
-read_enabled chip (CaptureTimeLow c) = refl
-read_enabled chip (ConverterAbort u) = refl
-read_enabled chip (PinFlip p) = refl
 read_enabled chip _ = refl
 
 enabled_apart : (d : AdcTable) (chip : Chip) (made : Move) (received l : ℕ) → adc_owns d made ≡ false → is_unit_line l || is_trigger_line l ≡ true → has_bit (chip_after chip made received).control.enabled l ≡ has_bit chip.control.enabled l
@@ -139,10 +134,9 @@ pub other_line : (bits line : ℕ) → is_for_lines bits ≡ true → is_unit_li
 other_line bits line e other = by (nat_lt line 32) refl
   where
     none : (b u t : Bool) → u || t ≡ false → not b || u || t ≡ true → b ≡ false
-    none true true t e f = absurd (cc)
     none true false true e f = absurd (cc)
-    none true false false e f = absurd (cc)
     none false u t e f = refl
+    none _ _ _ e f = absurd (cc)
 
     by : (q : Bool) → nat_lt line 32 ≡ q → has_bit bits line ≡ false
     by true i =

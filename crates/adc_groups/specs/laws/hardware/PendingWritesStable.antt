@@ -73,8 +73,7 @@ owed_reset chip made reason = by_kind (λ m. reset_chip (chip_after chip m 0) re
 
 search_simple : (r : Search) → is_simple (search_move r) ≡ true
 search_simple (searches.Tally at) = refl
-search_simple (searches.Low at t) = refl
-search_simple (searches.High at t l) = refl
+search_simple _ = refl
 
 pub shape_simple : (s : StructureOp) → is_simple (shape_move s) ≡ true
 shape_simple (Add (adds.Count at n)) = refl
@@ -151,9 +150,8 @@ aborted_done x now h = by (rounds.is_running x.round now) refl
     still q e (Is_open k) = Is_finished (finish (rounds.is_idle x.round) (rounds.ended x.round now == x.round.count) (ap (λ o. is_some o) k) e)
       where
         finish : (idle all : Bool) → idle ≡ false → not idle && not all ≡ false → not idle && all ≡ true
-        finish true all i j = absurd (cc)
         finish false true i j = refl
-        finish false false i j = absurd (cc)
+        finish _ _ i j = absurd (cc)
 
     by : (q : Bool) → rounds.is_running x.round now ≡ q → IsDone (if q then record x { round = rounds.over now x.round } else x).round now
     by true e = Is_over (now, refl, omega arith)
@@ -178,18 +176,14 @@ done_stays x now h = ap (λ q. if q then record x { round = rounds.over now x.ro
     quiet (Is_over k) = ap (λ q. not q && not (rounds.ended x.round now == x.round.count)) (ap (λ o. is_some o) k.1)
 
 pub aborted_list : (x : Converter) (now : ℕ) → (chips.aborted now x).list ≡ x.list
-aborted_list x now = by (rounds.is_running x.round now)
-  where
-    by : (q : Bool) → (if q then record x { round = rounds.over now x.round } else x).list ≡ x.list
-    by true = refl
-    by false = refl
+aborted_list x now =
+    elim (rounds.is_running x.round now) as (λ q. (if q then record x { round = rounds.over now x.round } else x).list ≡ x.list)
+    [ true ↦ refl | false ↦ refl ]
 
 pub acknowledged_list : (x : Converter) (now : ℕ) → (chips.acknowledged now x).list ≡ x.list
-acknowledged_list x now = by (rounds.is_finished x.round now)
-  where
-    by : (q : Bool) → (if q then record x { round = rounds.over now x.round } else x).list ≡ x.list
-    by true = refl
-    by false = refl
+acknowledged_list x now =
+    elim (rounds.is_finished x.round now) as (λ q. (if q then record x { round = rounds.over now x.round } else x).list ≡ x.list)
+    [ true ↦ refl | false ↦ refl ]
 
 -- ---- words after deeds
 

@@ -5,7 +5,7 @@ use Rattle.std.proofs.Common.{◌≡◌, ◌≢◌, ◌+◌, ◌-◌, ◌*◌, �
 use Rattle.std.proofs.Common.{if◌then◌else◌}
 use Rattle.adc_groups.specs.Terms
 use Terms.{aborts_by, AdcState, AdcTable, Agrees, AllRight, ap, arith, Bank, bank_word, BanksAgree, Bool, Call, Chip}
-use Terms.{claim_right, Claims, clear_at, Clears, Column, cond, Copies, CopiesRight, ends_at, false, Fills, FillsRight}
+use Terms.{claim_right, clear_at, Clears, Column, cond, Copies, CopiesRight, ends_at, false, Fills, FillsRight}
 use Terms.{finish_of, FitsAdc, Full, FullRight, Group, group_at, group_of, group_word, GroupAgrees, has_bit}
 use Terms.{has_ended-open, HeldRight, holds-agree, inputs_left, inputs_of, is_finished, is_on, is_outranked, is_some}
 use Terms.{is_trigger_line, is_unit_line, is_word, IsBlock, IsOver, IsSound, IsSoundGroup, IsZero, Keeps, KeepsRight}
@@ -13,8 +13,8 @@ use Terms.{kept_by, kept_in, kept_of_round, kept_word, length, length-drop, leve
 use Terms.{mark_at, min, Move, nat_le, nat_tests, None, not, Option, order_of, own-control, PlacesAgree, Promised}
 use Terms.{Reads, ReadsRight, refl, Request, Reservation, Reservations, ReservedBy, result_of, result_word, Round}
 use Terms.{round_at, RoundAgrees, rounds_of, sample_at, Settled, slice_get, slice_get_within, Some, stands-agree}
-use Terms.{StandsIn, Starts, STATE, subst, suc, sym, TriggersAgree, trio_of, true, unit_of, UnitAgrees, unwrap_or}
-use Terms.{values_of, Whole, whole_values, WholeRight, word_number, word_of, World, Yields, zero, ℕ}
+use Terms.{StandsIn, STATE, subst, suc, sym, TriggersAgree, trio_of, true, unit_of, UnitAgrees, unwrap_or}
+use Terms.{values_of, Whole, whole_values, WholeRight, word_number, word_of, World, zero, ℕ}
 use Rattle.word_shapes.specs.TripleBuffer.{listed}
 use Rattle.adc_groups.specs.laws.words.WordsOfModule.{IsOwnStore, on_there, first_words, running_words, claim_words}
 use Rattle.adc_groups.specs.laws.words.WordsOfModule.{order_words, low_words, bank_words, kept_words, trio_words}
@@ -249,17 +249,15 @@ module _ (d : AdcTable) (fits : FitsAdc d) (a b : Chip) (w x : World) (s : AdcSt
 
     held_later : (h : ReservedBy Call Reservation) (y : Reservation) → HeldRight d a w s h y → HeldRight d b x u_later h y
     held_later h (Clears n) r = (r.0, r.1, λ i lt. zero_later (clear_at d i) (clear_words d fits i) (r.2 i lt))
-    held_later h (Starts u) r = r
-    held_later h (Yields u) r = r
     held_later h (Fills u g e k i v) r = (r.0, r.1, r.2, fills_later u g e k i v r.2 r.3)
     held_later h (Full u g k) r = (r.0, r.1, r.2, full_later u g k r.2 r.3)
-    held_later h (Claims u) r = r
     held_later h (Whole u g n) r = (r.0, r.1, r.2, λ e. whole_later u g n r.1 (r.3 (sym (word (word_number d (words.Claim u)) (claim_words d u (unit_below u g r.1))) ∙ e)))
     held_later h (Keeps u g e n i v) r =
         let claim = λ (f : word_of b (word_number d (words.Claim u)) ≡ 2 + g). sym (word (word_number d (words.Claim u)) (claim_words d u (unit_below u g r.1))) ∙ f in
         (r.0, r.1, r.2, λ f. kept_on u g e n i v r.1 r.2 (claim f) (on.units u (unit_below u g r.1)) (r.3 (claim f)), λ f. r.4 (λ q. f (word (word_number d (words.Claim u)) (claim_words d u (unit_below u g r.1)) ∙ q)))
     held_later h (Copies k c i v) r = (r.0, r.1, r.2, copies_later k c i v r.2 r.3)
     held_later h (Reads g k vs) r = (r.0, r.1, r.2, reads_later h g k vs r.2 r.3)
+    held_later h _ r = r
 
     all_later : (hs : Reservations) → AllRight d a w s hs → AllRight d b x u_later hs
     all_later [] r = tt
@@ -359,10 +357,9 @@ module _ (d : AdcTable) (fits : FitsAdc d) (a b : Chip) (w x : World) (s : AdcSt
     -- ---- no unit waits
 
     aborts_before : (fw fx o : Bool) (r : Round) → (fw ≡ true → fx ≡ true) → is_some (cond (not fx && o) (Some r) None) ≡ true → is_some (cond (not fw && o) (Some r) None) ≡ true
-    aborts_before true true o r le e = absurd (cc)
     aborts_before true false o r le e = absurd (let f = le refl in cc)
-    aborts_before false true o r le e = absurd (cc)
     aborts_before false false o r le e = e
+    aborts_before _ _ o r le e = absurd (cc)
 
     aborts_by_before : (u : ℕ) (q : Option Round) → is_some (aborts_by d x u_later u q) ≡ true → is_some (aborts_by d w s u q) ≡ true
     aborts_by_before u None e = e

@@ -11,7 +11,7 @@ use Terms.{is_under_way, is_unit_taken, List, list_any, listed, Load, looked, Ma
 use Terms.{None, not, Option, phase_in, phase_of, phase_under_way, Place, place_ends, refl, refused, Reservations}
 use Terms.{ResultBuffer, Round, round_at, running_of, set_up, Sets_up, SetupResultBuffer, slice_get, Some}
 use Terms.{StartGroupConversion, Status, StreamCompleted, subst, suc, survey, survey_by, surveyed, Surveys, sym}
-use Terms.{takes_one, true, under_way_by, unit_in, unit_of, Window, word_number, word_of, World, zero, ℕ}
+use Terms.{or_right, takes_one, true, under_way_by, unit_in, unit_of, Window, word_number, word_of, World, zero, ℕ}
 use Rattle.adc_groups.specs.laws.services.QueriesAndErrors.{group_errors, refused_right}
 use Rattle.adc_groups.specs.laws.services.LookRight.{DecidedRight}
 use Rattle.mcal_base.specs.declared.error_name.ErrorName.TheVariants as errors
@@ -20,6 +20,7 @@ use Rattle.adc_machine.specs.declared.call.Call.TheVariants as calls
 use Rattle.adc_machine.specs.declared.table.Group as configured
 use Rattle.adc_groups.specs.declared.window.Window.TheVariants as windows
 use Rattle.adc_groups.specs.declared.words.Word.TheVariants as words
+use Rattle.plain_facts.specs.Truths.{and_false}
 
 -- ---- groups in their order
 
@@ -73,31 +74,20 @@ any_off p off = among all_groups all_small
 pub any_on : (p : ℕ → Bool) (j : ℕ) → j < 16 → p j ≡ true → list_any p all_groups ≡ true
 any_on p j lt on = among all_groups j (listed j lt)
   where
-    or_true : (a b : Bool) → b ≡ true → a || b ≡ true
-    or_true true b e = refl
-    or_true false b e = e
-
     among : (js : List ℕ) (n : ℕ) → slice_get js n ≡ Some j → list_any p js ≡ true
     among [] n e = absurd (cc)
     among (i ∷ js) zero e = let same : i ≡ j = cc in ap (λ q. q || list_any p js) (ap p same ∙ on)
-    among (i ∷ js) (suc n) e = or_true (p i) (list_any p js) (among js n e)
+    among (i ∷ js) (suc n) e = or_right (p i) (list_any p js) (among js n e)
 
 -- ---- words
 
 pub phase_idle : (x : Status) (on : Bool) → (phase_of x on == 0) ≡ is_idle x
-phase_idle Idle on = refl
-phase_idle Busy on = refl
-phase_idle Completed on = refl
 phase_idle StreamCompleted true = refl
-phase_idle StreamCompleted false = refl
+phase_idle _ _ = refl
 
 pub phase_way : (x : Status) (turn trigger : Bool) → phase_under_way (phase_in (phase_of x (turn || trigger))) ≡ under_way_by x turn trigger
-phase_way Idle turn trigger = refl
-phase_way Busy turn trigger = refl
-phase_way Completed turn trigger = refl
-phase_way StreamCompleted true trigger = refl
 phase_way StreamCompleted false true = refl
-phase_way StreamCompleted false false = refl
+phase_way _ _ _ = refl
 
 none_chosen : (o : Option ResultBuffer) → (chosen_of o == 0) ≡ not (is_some o)
 none_chosen None = refl
@@ -215,11 +205,7 @@ module _ (d : AdcTable) (fits : FitsAdc d) (f r : AdcBody → ℕ) (below : Rese
       free : next_of d (unit_in d win) from ≡ None → is_start_busy d s g ≡ false
       free e =
           let taken = free_unit (λ j lt on. none_found d (unit_in d win) (λ z. is_under_way s z ≡ false) (16 - from) from below_it e j (omega (arith, lt, le)) (subst (λ z. is_of d z j ≡ true) (sym (unit_is_in call win b)) on)) in
-          ap (λ q. q || (takes_one d && is_unit_taken d s (group_of d g))) l.quiet ∙ (ap (λ q. takes_one d && q) taken ∙ and_off (takes_one d))
-        where
-          and_off : (q : Bool) → q && false ≡ false
-          and_off true = refl
-          and_off false = refl
+          ap (λ q. q || (takes_one d && is_unit_taken d s (group_of d g))) l.quiet ∙ (ap (λ q. takes_one d && q) taken ∙ and_false (takes_one d))
 
       by : (o : Option ℕ) → next_of d (unit_in d win) from ≡ o → Decides call (Goes (survey_by d win o))
       by None e = begun call win b may (record { chosen = l.chosen; quiet = l.quiet; free = free e })
@@ -246,12 +232,8 @@ module _ (d : AdcTable) (fits : FitsAdc d) (f r : AdcBody → ℕ) (below : Rese
       by true e = busied call win b may l.chosen (taken_by call win b)
         where
           taken_by : (call : GroupCall) (win : Window) → Begins g call win → is_start_busy d s g ≡ true
-          taken_by c x i = ap (λ q. is_under_way s g || (q && is_unit_taken d s (group_of d g))) l.one ∙ or_true (is_under_way s g) (is_unit_taken d s (group_of d g)) (found (group_of d g) refl)
+          taken_by c x i = ap (λ q. is_under_way s g || (q && is_unit_taken d s (group_of d g))) l.one ∙ or_right (is_under_way s g) (is_unit_taken d s (group_of d g)) (found (group_of d g) refl)
             where
-              or_true : (p q : Bool) → q ≡ true → p || q ≡ true
-              or_true true q z = refl
-              or_true false q z = z
-
               found : (q : Option configured.Group) → group_of d g ≡ q → is_unit_taken d s q ≡ true
               found None z = absurd (let i : is_some (group_of d g) ≡ false = ap (λ o. is_some o) z in let j = may.there in cc)
               found (Some o) z = any_on (λ n. is_on o.unit (group_of d n) && is_under_way s n) j lt

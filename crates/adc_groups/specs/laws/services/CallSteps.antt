@@ -1,7 +1,7 @@
 -- The steps of windows that look: those of calls and of pulses; and those that read the register of their line.
 -- From services.BeginDecisions, services.BodySteps, services.Decisions, services.StopDecisions and 5 more.
 -- Used by services.SearchSteps, services.DeInitRight.
-use Rattle.std.proofs.Common.{◌≡◌, ◌+◌, ◌<◌, ◌&&◌, ◌||◌, if◌then◌else◌}
+use Rattle.std.proofs.Common.{◌≡◌, ◌+◌, ◌<◌, if◌then◌else◌}
 use Rattle.adc_groups.specs.Terms
 use Terms.{adc_bodies, adc_machine, AdcBody, AdcGround, AdcState, AdcTable, Agrees, Answer, ap, arith, AssertedAt}
 use Terms.{body_ends, body_takes, body_work, Bool, Call, Called, Chip, Decided, Done, EnableHardwareTrigger, ended_at}
@@ -10,7 +10,7 @@ use Terms.{GetStreamLastPointer, Goes, group_of, GroupCall, has_bit, HasLooked, 
 use Terms.{is_some, Is_this_frame, IsStop, IsThisFrame, List, looking, Looks, map, mark_at, MayCall, missed_after, None}
 use Terms.{not, Option, Origin, over, Place, place_ends, Read, ReadGroup, ready, refl, Reservations, ResultBuffer}
 use Terms.{RightOr, SetupResultBuffer, Some, StartGroupConversion, subst, suc, surveyed, Surveys, sym, TriggerFlags}
-use Terms.{true, unit_of, value_of, Window, word_number, word_of, words_of, World, zero, ℕ}
+use Terms.{or_right, true, unit_of, value_of, Window, word_number, word_of, words_of, World, zero, ℕ}
 use Rattle.adc_groups.specs.laws.{services.QueriesAndErrors.{status_right, point_right}}
 use Rattle.adc_groups.specs.laws.{services.BeginDecisions.{Begins, Begins_start, Begins_enable, set_up_right}}
 use Rattle.adc_groups.specs.laws.{services.BeginDecisions.{looked_right, surveyed_right}}
@@ -21,6 +21,7 @@ use Rattle.adc_machine.specs.declared.call.Call.TheVariants as calls
 use Rattle.adc_machine.specs.declared.table.Group as configured
 use Rattle.adc_groups.specs.declared.window.Window.TheVariants as windows
 use Rattle.adc_groups.specs.declared.words.Word.TheVariants as words
+use Rattle.std.proofs.lemmas.Bool.{and_right}
 
 none_ends : (q : Option Answer) (left : Option Done) → q ≡ None → ended_by q left ≡ None
 none_ends None left e = refl
@@ -98,21 +99,13 @@ module _ (d : AdcTable) (fits : FitsAdc d) (f r : AdcBody → ℕ) (below : Rese
   -- ---- registers
 
   off_line : (i : ℕ) → i < 4 → mark_at s i ≡ false → missed (28 + i) ≡ true
-  off_line i lt none = or_true (m (28 + i)) (not (ready d w s (28 + i))) (ap (λ q. not q) (by i lt none))
+  off_line i lt none = or_right (m (28 + i)) (not (ready d w s (28 + i))) (ap (λ q. not q) (by i lt none))
     where
-      or_true : (a b : Bool) → b ≡ true → a || b ≡ true
-      or_true true b e = refl
-      or_true false b e = e
-
-      and_off : (a b : Bool) → b ≡ false → a && b ≡ false
-      and_off true b e = e
-      and_off false b e = refl
-
       by : (i : ℕ) → i < 4 → mark_at s i ≡ false → ready d w s (28 + i) ≡ false
-      by zero lt e = and_off s.initialised (mark_at s 0) e
-      by (suc zero) lt e = and_off s.initialised (mark_at s 1) e
-      by (suc (suc zero)) lt e = and_off s.initialised (mark_at s 2) e
-      by (suc (suc (suc zero))) lt e = and_off s.initialised (mark_at s 3) e
+      by zero lt e = and_right s.initialised (mark_at s 0) e
+      by (suc zero) lt e = and_right s.initialised (mark_at s 1) e
+      by (suc (suc zero)) lt e = and_right s.initialised (mark_at s 2) e
+      by (suc (suc (suc zero))) lt e = and_right s.initialised (mark_at s 3) e
       by (suc (suc (suc (suc i)))) lt e = absurd (omega (arith, lt))
 
   pub trigger_flag : (i g : ℕ) (o : Origin Call) (p : FrameHistory) → InFlag d (windows.Trigger i g) below o p → Agrees d below chip w s

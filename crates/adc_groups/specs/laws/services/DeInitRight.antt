@@ -1,7 +1,7 @@
 -- Adc_DeInit: its window looks at each group, and where none is under way it closes the module.
 -- From services.Decisions, services.BeginDecisions, words.WordsAtRest, services.BodySteps and 8 more.
 -- Used by services.SingleWordSteps.
-use Rattle.std.proofs.Common.{◌≡◌, ◌≢◌, ◌+◌, ◌-◌, ◌<◌, ◌≤◌, ◌||◌, ◌==◌, [], ◌∷◌, ◌∙◌, ◌⊎◌, if◌then◌else◌}
+use Rattle.std.proofs.Common.{◌≡◌, ◌≢◌, ◌+◌, ◌-◌, ◌<◌, ◌≤◌, ◌||◌, [], ◌∷◌, ◌∙◌, ◌⊎◌, if◌then◌else◌}
 use Rattle.adc_groups.specs.Terms
 use Terms.{acts_by, adc_bodies, adc_machine, AdcBody, AdcGround, AdcState, AdcTable, Agrees, all_groups, ap, arith}
 use Terms.{asks_no, begin, body_ends, body_work, Bool, Called, Chip, chip_after, chosen_of, circumstances, close}
@@ -28,6 +28,7 @@ use Rattle.adc_machine.specs.declared.table.Group as configured
 use Rattle.adc_groups.specs.declared.making.WindowWrite.TheVariants as deeds
 use Rattle.adc_groups.specs.declared.window.Window.TheVariants as windows
 use Rattle.adc_groups.specs.declared.words.Word.TheVariants as words
+use Rattle.plain_facts.specs.Numbers.{eq_self}
 
 -- ---- groups none of which is under way
 
@@ -53,12 +54,9 @@ module _ (d : AdcTable) (w : World) (s : AdcState) (sound : IsSound d w s) (free
   no_round : (u : ℕ) → u < 2 → round_at s u ≡ None
   no_round u lt = by (round_at s u) refl
     where
-      itself : (n : ℕ) → (n == n) ≡ true
-      itself n = grind (arith, nat_tests)
-
       by : (q : Option Round) → round_at s u ≡ q → q ≡ None
       by None e = refl
-      by (Some x) e = absurd (let off : is_round_of x.group (round_at s u) ≡ false = none_runs s x.group (none_on x.group).0 u lt in let on : is_round_of x.group (Some x) ≡ true = itself x.group in let is : is_round_of x.group (round_at s u) ≡ is_round_of x.group (Some x) = ap (λ o. is_round_of x.group o) e in cc)
+      by (Some x) e = absurd (let off : is_round_of x.group (round_at s u) ≡ false = none_runs s x.group (none_on x.group).0 u lt in let on : is_round_of x.group (Some x) ≡ true = eq_self x.group in let is : is_round_of x.group (round_at s u) ≡ is_round_of x.group (Some x) = ap (λ o. is_round_of x.group o) e in cc)
 
   pub is_quiet : IsQuiet s
   is_quiet = record { rounds = no_round; triggers = λ g. (none_on g).1 }

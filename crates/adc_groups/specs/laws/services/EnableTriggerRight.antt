@@ -10,11 +10,11 @@ use Terms.{EnableHardwareTrigger, ended_at, Entry, error_by, false, first_error,
 use Terms.{group_of, group_same, group_word, GroupAgrees, GroupState, has_bit, has_bit-or, has_bit-pow_other}
 use Terms.{has_bit-pow_same, has_turn, HasWords, inl, inr, is_on, is_round_of, is_some, is_start_busy, Is_this_frame}
 use Terms.{is_triggered, is_word, IsOrder, IsSoundGroup, Leaves_acted, length, length_after, List, listener, Makes}
-use Terms.{making_owed, mark_at, MayCall, MayStart, min, nat_tests, None, not, nothing_more, number_by, Option}
+use Terms.{making_owed, mark_at, MayCall, MayStart, min, None, not, nothing_more, number_by, Option}
 use Terms.{order_of, outcome, owed_of, owed_own, phase_of, refl, Request, Reservation, Reservations, RightOr, Round}
 use Terms.{round_at, RoundAgrees, rounds_of, samples_of, Set, settles_list, Some, SoundGroup, stands-agree, STATE}
 use Terms.{Store, subst, sym, tells_nothing, trigger_bit, trigger_input, TriggerSet, trio_of, true, unit_of, UnitAgrees}
-use Terms.{value_of, WindowWrite, word_number, word_of, World, zero-mod, ℕ}
+use Terms.{or_right, value_of, WindowWrite, word_number, word_of, World, zero-mod, ℕ}
 use Rattle.word_shapes.specs.PriorityQueue.{own_of}
 use Rattle.adc_groups.specs.declared.making.WindowWrite.TheVariants.{Write}
 use Rattle.adc_groups.specs.laws.{services.QueriesAndErrors.{group_errors, not_reset}, bookkeeping.FrameRule.{Stays}}
@@ -34,6 +34,8 @@ use Rattle.mcal_base.specs.declared.service.Service.TheVariants as services
 use Rattle.adc_machine.specs.declared.call.Call.TheVariants as calls
 use Rattle.adc_machine.specs.declared.table.Group as configured
 use Rattle.adc_groups.specs.declared.words.Word.TheVariants as words
+use Rattle.plain_facts.specs.Numbers.{eq_self, same_or_other}
+use Rattle.plain_facts.specs.Truths.{set_apart}
 
 -- ---- Adc_EnableHardwareTrigger
 
@@ -71,11 +73,8 @@ module _ (d : AdcTable) (fits : FitsAdc d) (f r : AdcBody → ℕ) (below : Rese
   is_other k ne = other_at s g begun (sound_past d s h.sound.groups) k ne
 
   waiting_as : (k : ℕ) → (group_at t k).waiting ≡ (group_at s k).waiting
-  waiting_as k = by (cases k g)
+  waiting_as k = by (same_or_other k g)
     where
-      cases : (i j : ℕ) → (i ≡ j) ⊎ (i ≢ j)
-      cases i j = grind arith
-
       by : (k ≡ g) ⊎ (k ≢ g) → (group_at t k).waiting ≡ (group_at s k).waiting
       by (inl e) = subst (λ n. (group_at t n).waiting ≡ (group_at s n).waiting) (sym e) (ap (λ (x : GroupState). x.waiting) is_group)
       by (inr ne) = ap (λ (x : GroupState). x.waiting) (is_other k ne)
@@ -140,12 +139,9 @@ module _ (d : AdcTable) (fits : FitsAdc d) (f r : AdcBody → ℕ) (below : Rese
   no_round : (v : ℕ) (x : Round) → v < 2 → round_at s v ≡ Some x → x.group ≢ g
   no_round v x less e same =
       let off : is_round_of g (round_at s v) ≡ false = none_runs s g quiet.0 v less in
-      let on : is_round_of g (Some x) ≡ true = ap (λ n. n == g) same ∙ itself g in
+      let on : is_round_of g (Some x) ≡ true = ap (λ n. n == g) same ∙ eq_self g in
       let is : is_round_of g (round_at s v) ≡ is_round_of g (Some x) = ap (λ q. is_round_of g q) e in
       cc
-    where
-      itself : (n : ℕ) → (n == n) ≡ true
-      itself n = grind (arith, nat_tests)
 
   -- ---- the words after the window's moves
 
@@ -224,12 +220,12 @@ module _ (d : AdcTable) (fits : FitsAdc d) (f r : AdcBody → ℕ) (below : Rese
     sound = sound;
     waits = λ q e. absurd (let none = none_wait in cc);
     runs = λ x e same. absurd (no_round u x few e same);
-    marks = λ i e. marks i e (cases i input.0);
+    marks = λ i e. marks i e (same_or_other i input.0);
     hears = λ e i. ap (λ (x : GroupState). x.trigger) is_group;
     outside = stands_last d fits g u may.there few chip whole deed tt acted (differs_none (own_of (order_of u)) acted first_whole) deeds (refl, (refl, (refl, tt))) w h.outside;
     block = record { all = h.block.all; lists = h.block.lists; past = h.block.past; samples = h.block.samples };
     round = round_by (round_at s u) (h.rounds u few);
-    triggers = record { gates = λ i less. gates i (cases i input.0) less; flags = λ i less. h.triggers.flags i less; others = h.triggers.others };
+    triggers = record { gates = λ i less. gates i (same_or_other i input.0) less; flags = λ i less. h.triggers.flags i less; others = h.triggers.others };
     right = right;
     banks = banks;
     places = λ k n p less free. place_stays d fits below below chip b w s t h g u at stays k n p ∙ h.places k n p less free;
@@ -240,24 +236,13 @@ module _ (d : AdcTable) (fits : FitsAdc d) (f r : AdcBody → ℕ) (below : Rese
     promised = λ v. promised_same d w s t v refl (λ k. ap (λ q. is_on v (group_of d k) && is_some q) (waiting_as k)) below below (λ e. e) (λ e. e) ((h.settled may.on).promised v);
   }
     where
-      cases : (i j : ℕ) → (i ≡ j) ⊎ (i ≢ j)
-      cases i j = grind arith
-
       marks : (i : ℕ) → mark_at s i ≡ true → (i ≡ input.0) ⊎ (i ≢ input.0) → is_some (listener d t i) ≡ true
       marks i e (inl is) = subst (λ n. is_some (listener d t n) ≡ true) (sym is) heard
       marks i e (inr ne) = ap (λ o. is_some o) (heard_as i ne) ∙ h.sound.marks i e
 
-      or_true : (a b : Bool) → b ≡ true → a || b ≡ true
-      or_true true b e = refl
-      or_true false b e = e
-
-      or_false : (a b : Bool) → b ≡ false → a || b ≡ a
-      or_false true b e = refl
-      or_false false b e = e
-
       gates : (i : ℕ) → (i ≡ input.0) ⊎ (i ≢ input.0) → i < 4 → has_bit (bit_or chip.converters.gates (trigger_bit d g)) i ≡ is_some (listener d t i)
-      gates i (inl is) less = has_bit-or chip.converters.gates (trigger_bit d g) i ∙ (or_true (has_bit chip.converters.gates i) (has_bit (trigger_bit d g) i) (ap (λ n. has_bit n i) bits ∙ (ap (λ n. has_bit (2 ^ input.0) n) is ∙ has_bit-pow_same input.0)) ∙ sym (subst (λ n. is_some (listener d t n) ≡ true) (sym is) heard))
-      gates i (inr ne) less = has_bit-or chip.converters.gates (trigger_bit d g) i ∙ (or_false (has_bit chip.converters.gates i) (has_bit (trigger_bit d g) i) (ap (λ n. has_bit n i) bits ∙ has_bit-pow_other input.0 i ne) ∙ (h.triggers.gates i less ∙ ap (λ o. is_some o) (sym (heard_as i ne))))
+      gates i (inl is) less = has_bit-or chip.converters.gates (trigger_bit d g) i ∙ (or_right (has_bit chip.converters.gates i) (has_bit (trigger_bit d g) i) (ap (λ n. has_bit n i) bits ∙ (ap (λ n. has_bit (2 ^ input.0) n) is ∙ has_bit-pow_same input.0)) ∙ sym (subst (λ n. is_some (listener d t n) ≡ true) (sym is) heard))
+      gates i (inr ne) less = has_bit-or chip.converters.gates (trigger_bit d g) i ∙ (set_apart (has_bit chip.converters.gates i) (has_bit (trigger_bit d g) i) (ap (λ n. has_bit n i) bits ∙ has_bit-pow_other input.0 i ne) ∙ (h.triggers.gates i less ∙ ap (λ o. is_some o) (sym (heard_as i ne))))
 
       round_by : (q : Option Round) → RoundAgrees d chip.converters w (chips.unit_at chip.converters u) q → RoundAgrees d b.converters w (chips.unit_at chip.converters u) q
       round_by None x = x

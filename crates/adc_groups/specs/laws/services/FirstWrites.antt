@@ -28,9 +28,8 @@ first_takes d e x z rest o b t v = ap (λ k. (record { table = d; place = k.0 },
     more = grind (arith, nat_tests)
 
     open_still : (p q : Bool) → not p && (not q && nat_le (suc (suc (length rest))) 1) ≡ false
-    open_still true q = refl
-    open_still false true = refl
     open_still false false = more
+    open_still _ _ = refl
 
 -- a frame need not add to its past where it looks
 adding_none : {State Call : Type 0} {g : SharedRefinement State Call} (x : PointAssertion g) (ready : ℕ → Bool) (past : FrameHistory) (P : FrameHistory → Type 0) → P past → Adding x ready past P

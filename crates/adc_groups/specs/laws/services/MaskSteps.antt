@@ -23,11 +23,8 @@ module _ (d : AdcTable) (fits : FitsAdc d) (f r : AdcBody → ℕ) (below : Rese
   masked held h = (bare_right d fits).agrees_apart held chip w s Mask y (λ origin. refl) h
 
   pub opens_step : (x : Outside) → place_out d x below o p → Agrees d (with_holds o p.acted (hold_out x) below) chip w s → OpensRight x
-  opens_step (outsides.Copies c a) at h = (unmasked _ h, (refl, at))
-  opens_step (outsides.Counts q) at h = (unmasked _ h, (refl, at))
-  opens_step (outsides.Notes g u) at h = (unmasked _ h, (refl, at))
-  opens_step (outsides.Closes win) at h = (unmasked _ h, (refl, at))
   opens_step (outsides.Reads g b) at h = (unmasked _ h, (refl, (refl, some_inputs d fits g h.right.0.2, at.0, at.1)))
+  opens_step _ at h = (unmasked _ h, (refl, at))
 
   abbrev closing : Window → AdcBody
   closing win = record { table = d; place = Out (outsides.Closes win) }

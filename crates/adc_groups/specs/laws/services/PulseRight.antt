@@ -18,7 +18,7 @@ use Terms.{phase_of, pow_below, pulse_by, refl, Request, requested, requested_un
 use Terms.{RightOr, Round, round_at, RoundAgrees, rounds_of, same_line, samples_of, served, served_trigger, Serves, Set}
 use Terms.{settles_list, settles_part, slice_get, Some, SoundGroup, stands-agree, stands-move, STATE, Store}
 use Terms.{StreamCompleted, subst, suc, sym, tells_nothing, TriggerFlags, TriggersAgree, trio_of, true, unit_of}
-use Terms.{UnitAgrees, value_of, WindowWrite, with_mark, without, word_number, word_of, World, zero, ℕ}
+use Terms.{or_right, UnitAgrees, value_of, WindowWrite, with_mark, without, word_number, word_of, World, zero, ℕ}
 use Rattle.word_shapes.specs.PriorityQueue.{own_of}
 use Rattle.adc_groups.specs.declared.making.WindowWrite.TheVariants.{Write}
 use Rattle.adc_groups.specs.laws.{bookkeeping.FrameRule.{Stays, Fresh, Spares, all_spare, no_keeper, all_changed}}
@@ -39,6 +39,7 @@ use Rattle.chip_converter.specs.Converters as chips
 use Rattle.adc_groups.specs.declared.making.StructureOp.TheVariants as shapes
 use Rattle.adc_groups.specs.declared.window.Window.TheVariants as windows
 use Rattle.adc_groups.specs.declared.words.Word.TheVariants as words
+use Rattle.plain_facts.specs.Numbers.{eq_self, same_or_other}
 
 -- ---- marks
 
@@ -187,11 +188,8 @@ module _ (d : AdcTable) (fits : FitsAdc d) (f r : AdcBody → ℕ) (below : Rese
   turn = ap (λ (x : GroupState). is_some x.waiting || is_round_of g (round_at s 0) || is_round_of g (round_at s 1)) is_group
 
   trigger_as : (k : ℕ) → (group_at t k).trigger ≡ (group_at s k).trigger
-  trigger_as k = by (cases k g)
+  trigger_as k = by (same_or_other k g)
     where
-      cases : (i j : ℕ) → (i ≡ j) ⊎ (i ≢ j)
-      cases i j = grind arith
-
       by : (k ≡ g) ⊎ (k ≢ g) → (group_at t k).trigger ≡ (group_at s k).trigger
       by (inl e) = subst (λ n. (group_at t n).trigger ≡ (group_at s n).trigger) (sym e) (ap (λ (x : GroupState). x.trigger) is_group)
       by (inr ne) = ap (λ (x : GroupState). x.trigger) (is_other k ne)
@@ -205,12 +203,8 @@ module _ (d : AdcTable) (fits : FitsAdc d) (f r : AdcBody → ℕ) (below : Rese
   awake : {A : Type 0} → (group_at s g).status ≡ Idle → A
   awake e = absurd (let off = was_sound.trigger e in let on = heard.1 in cc)
 
-  or_on : (a b : Bool) → b ≡ true → a || b ≡ true
-  or_on true b f = refl
-  or_on false b f = f
-
   going : (group_at s g).status ≡ StreamCompleted → true || (group_at s g).trigger ≡ not (ends_with_stream (group_of d g))
-  going e = sym (or_on (has_turn s g) (group_at s g).trigger heard.1) ∙ was_sound.going e
+  going e = sym (or_right (has_turn s g) (group_at s g).trigger heard.1) ∙ was_sound.going e
 
   sound : IsSoundGroup d t g
   sound = subst (λ x. SoundGroup (group_of d g) (has_turn t g) x) (sym is_group) (subst (λ q. SoundGroup (group_of d g) q asks) (sym turn) (record {
@@ -223,7 +217,7 @@ module _ (d : AdcTable) (fits : FitsAdc d) (f r : AdcBody → ℕ) (below : Rese
     rounds = was_sound.rounds;
     stream = was_sound.stream;
     linear = was_sound.linear;
-    lasts = λ e. was_sound.lasts (or_on (has_turn s g) (group_at s g).trigger heard.1);
+    lasts = λ e. was_sound.lasts (or_right (has_turn s g) (group_at s g).trigger heard.1);
     whole = was_sound.whole;
   }))
 
@@ -237,12 +231,9 @@ module _ (d : AdcTable) (fits : FitsAdc d) (f r : AdcBody → ℕ) (below : Rese
   no_round : (v : ℕ) (x : Round) → v < 2 → round_at s v ≡ Some x → x.group ≢ g
   no_round v x less e same =
       let off : is_round_of g (round_at s v) ≡ false = none_runs s g none v less in
-      let on : is_round_of g (Some x) ≡ true = ap (λ n. n == g) same ∙ itself g in
+      let on : is_round_of g (Some x) ≡ true = ap (λ n. n == g) same ∙ eq_self g in
       let is : is_round_of g (round_at s v) ≡ is_round_of g (Some x) = ap (λ q. is_round_of g q) e in
       cc
-    where
-      itself : (n : ℕ) → (n == n) ≡ true
-      itself n = grind (arith, nat_tests)
 
   -- ---- the words after the window's moves
 
@@ -360,11 +351,7 @@ module _ (d : AdcTable) (fits : FitsAdc d) (f r : AdcBody → ℕ) (below : Rese
             }
 
         running_on : has_turn s g || (group_at s g).trigger ≡ true || (group_at s g).trigger
-        running_on = or_on (has_turn s g) (group_at s g).trigger heard.1
-          where
-            or_on : (a b : Bool) → b ≡ true → a || b ≡ true
-            or_on true b f = refl
-            or_on false b f = f
+        running_on = or_right (has_turn s g) (group_at s g).trigger heard.1
 
         group : GroupAgrees d (word_of b) t g
         group = record {

@@ -5,13 +5,13 @@ use Rattle.std.proofs.Common.{◌≡◌, ◌≢◌, ◌<◌, ◌≤◌, ◌||◌
 use Rattle.adc_groups.specs.Terms
 use Terms.{acts_and_ends, acts_by, adc_machine, AdcBody, AdcState, AdcTable, Agrees, Answer, answer_refused, answers}
 use Terms.{ap, arith, asks_no, Bool, Busy, Call, Called, change, Chip, circumstances, Completed, Decided}
-use Terms.{DisableHardwareTrigger, done, EnableHardwareTrigger, ends_with_stream, error_by, error_told, ErrorName}
+use Terms.{done, ends_with_stream, error_by, error_told, ErrorName}
 use Terms.{false, first_error, FitsAdc, foot_of, fresh_history, GetGroupStatus, GetStreamLastPointer, Goes, group_at}
 use Terms.{group_facts, group_of, group_service, GroupCall, has_turn, Idle, is_idle, is_reset_service, is_some}
 use Terms.{Is_this_frame, IsDealing, length, List, Load, making, MayCall, min, name_of, named, None, not, Nothing}
 use Terms.{Notification, numbers, outcome, owed, owing_notices, phase_in, phase_of, Place, place_ends, point, point_by}
-use Terms.{pointed, Points, points, preceding, ReadGroup, refl, Reservations, samples_of, service_of, Set}
-use Terms.{SetupResultBuffer, Some, StartGroupConversion, Status, status, status_read, StopGroupConversion}
+use Terms.{pointed, Points, points, preceding, refl, Reservations, samples_of, service_of, Set}
+use Terms.{Some, Status, status, status_read}
 use Terms.{StreamCompleted, subst, sym, tells_error, true, word_number, word_of, work, World, zero_null, ℕ}
 use Rattle.adc_groups.specs.laws.{services.LookRight.{DecidedRight}, words.WordsOfModule.{some_samples}}
 use Rattle.adc_groups.specs.laws.{words.StreamPlaces.{preceding_place}}
@@ -27,18 +27,8 @@ use Rattle.adc_groups.specs.declared.words.Word.TheVariants as words
 
 -- no call resets the chip
 pub not_reset : (c : Call) → is_reset_service (service_of c) ≡ false
-not_reset calls.Init = refl
-not_reset calls.DeInit = refl
-not_reset (calls.Group g (SetupResultBuffer b)) = refl
-not_reset (calls.Group g StartGroupConversion) = refl
-not_reset (calls.Group g StopGroupConversion) = refl
-not_reset (calls.Group g ReadGroup) = refl
-not_reset (calls.Group g EnableHardwareTrigger) = refl
-not_reset (calls.Group g DisableHardwareTrigger) = refl
 not_reset (calls.Group g (Notification true)) = refl
-not_reset (calls.Group g (Notification false)) = refl
-not_reset (calls.Group g GetGroupStatus) = refl
-not_reset (calls.Group g GetStreamLastPointer) = refl
+not_reset _ = refl
 
 -- those of an initialised module about a group that is there
 pub group_errors : (d : AdcTable) (s : AdcState) (g : ℕ) (call : GroupCall) → MayCall d s g call
@@ -93,11 +83,8 @@ module _ (d : AdcTable) (f r : AdcBody → ℕ) (below : Reservations) (chip : C
   -- ---- Adc_GetGroupStatus
 
   named_as : (x : Status) (on : Bool) → name_of (phase_in (phase_of x on)) ≡ groups.name_of x
-  named_as Idle on = refl
-  named_as Busy on = refl
-  named_as Completed on = refl
   named_as StreamCompleted true = refl
-  named_as StreamCompleted false = refl
+  named_as _ _ = refl
 
   pub status_right : (g : ℕ) (K : Place) (k v : ℕ) → place_ends K ≡ None → MayCall d s g GetGroupStatus
       → DecidedRight d f r below chip w s (Called (calls.Group g GetGroupStatus)) (Load k) true v y fresh_history m K (status (word_of chip (word_number d (words.Phase g))))
@@ -136,10 +123,9 @@ module _ (d : AdcTable) (f r : AdcBody → ℕ) (below : Reservations) (chip : C
   completed_phase false = refl
 
   ends_as : (a b : Bool) → a ≡ not b → b ≡ not a
-  ends_as true true e = absurd (cc)
   ends_as true false e = refl
   ends_as false true e = refl
-  ends_as false false e = absurd (cc)
+  ends_as _ _ e = absurd (cc)
 
   pub streamed_phase : (g : ℕ) (on : Bool) → (group_at s g).status ≡ StreamCompleted → has_turn s g || (group_at s g).trigger ≡ on → phase_of (status_read (ends_with_stream (group_of d g)) StreamCompleted) true ≡ phase_of (status_read (not on) StreamCompleted) true
   streamed_phase g on is so = ap (λ b. phase_of (status_read b StreamCompleted) true) (ends_as on (ends_with_stream (group_of d g)) (sym so ∙ (h.sound.groups g).going is))

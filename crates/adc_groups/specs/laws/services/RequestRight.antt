@@ -20,7 +20,7 @@ use Terms.{round_at, RoundAgrees, rounds_of, samples_of, Set, settles_list, sett
 use Terms.{Some, some_hold, SoundGroup, stands-agree, start, StartGroupConversion, Starts, starts_on, STATE, Status}
 use Terms.{Store, StreamCompleted, subst, suc, sym, take_of, tells_nothing, trigger_input, TriggersAgree, trio_of, true}
 use Terms.{under_way_by, unit_of, UnitAgrees, untouched, value_of, will_yield, WindowWrite, with_group, with_holds}
-use Terms.{word_number, word_of, World, Yields, zero, zero-mod, ℕ}
+use Terms.{or_right, word_number, word_of, World, Yields, zero, zero-mod, ℕ}
 use Rattle.word_shapes.specs.PriorityQueue.{own_of}
 use Rattle.adc_groups.specs.laws.services.QueriesAndErrors.{group_errors, not_reset}
 use Rattle.adc_groups.specs.laws.bookkeeping.FrameRule.{Stays, Fresh, Spares, all_spare, no_keeper, all_changed}
@@ -40,6 +40,7 @@ use Rattle.adc_machine.specs.declared.table.Group as configured
 use Rattle.adc_groups.specs.declared.making.StructureOp.TheVariants as shapes
 use Rattle.adc_groups.specs.declared.window.Window.TheVariants as windows
 use Rattle.adc_groups.specs.declared.words.Word.TheVariants as words
+use Rattle.plain_facts.specs.Numbers.{eq_self, same_or_other}
 
 -- ---- groups of a changed state
 
@@ -72,10 +73,8 @@ none_under_way k q x h e = by x.status refl
     by StreamCompleted f = or_parts q x.trigger (ap (λ z. under_way_by z q x.trigger) (sym f) ∙ e)
 
 nothing_of : (a b c : Bool) → a || b || c ≡ false → (a ≡ false) × (b ≡ false) × (c ≡ false)
-nothing_of true b c e = absurd (cc)
-nothing_of false true c e = absurd (cc)
-nothing_of false false true e = absurd (cc)
 nothing_of false false false e = (refl, refl, refl)
+nothing_of _ _ _ e = absurd (cc)
 
 -- no unit has a round of a group without a turn, and it doesn't wait
 pub none_waits : (s : AdcState) (g : ℕ) → has_turn s g ≡ false → is_some (group_at s g).waiting ≡ false
@@ -88,10 +87,7 @@ none_runs s g e (suc (suc v)) lt = absurd (omega (arith, lt))
 
 pub on_own : (k : Option configured.Group) → is_some k ≡ true → is_on (unit_of k) k ≡ true
 on_own None e = absurd (cc)
-on_own (Some k) e = same k.unit
-  where
-    same : (n : ℕ) → (n == n) ≡ true
-    same n = grind (arith, nat_tests)
+on_own (Some k) e = eq_self k.unit
 
 -- the same triggers are enabled
 pub listener_as : (d : AdcTable) (s t : AdcState) → ((k : ℕ) → (group_at t k).trigger ≡ (group_at s k).trigger) → (i : ℕ) → listener d t i ≡ listener d s i
@@ -152,36 +148,26 @@ module _ (o : Origin Call) (a : Option Answer) (u : ℕ) (below : Reservations) 
   asking_backed true h = (λ v e. absurd (cc), (λ v e. absurd (cc), h))
   asking_backed false h = (λ v e. absurd (cc), h)
 
-  same : (n : ℕ) → (n == n) ≡ true
-  same n = grind (arith, nat_tests)
-
   pub asking_starts : (q : Bool) → some_hold (starts_on u) (asking q) ≡ true
-  asking_starts true = ap (λ b. b || some_hold (starts_on u) below) (same u)
-  asking_starts false = ap (λ b. b || some_hold (starts_on u) below) (same u)
+  asking_starts true = ap (λ b. b || some_hold (starts_on u) below) (eq_self u)
+  asking_starts false = ap (λ b. b || some_hold (starts_on u) below) (eq_self u)
 
   pub asking_yields : will_yield u (asking true) ≡ true
-  asking_yields = ap (λ b. b || (not ((u == u) && is_handler u o) && will_yield u below)) (same u)
-
-  more : (p q : Bool) → q ≡ true → p || q ≡ true
-  more true q e = refl
-  more false q e = e
+  asking_yields = ap (λ b. b || (not ((u == u) && is_handler u o) && will_yield u below)) (eq_self u)
 
   pub asking_more : (p : Reservation → Bool) (q : Bool) → some_hold p below ≡ true → some_hold p (asking q) ≡ true
-  asking_more p true e = more (p (Yields u)) (p (Starts u) || some_hold p below) (more (p (Starts u)) (some_hold p below) e)
-  asking_more p false e = more (p (Starts u)) (some_hold p below) e
+  asking_more p true e = or_right (p (Yields u)) (p (Starts u) || some_hold p below) (or_right (p (Starts u)) (some_hold p below) e)
+  asking_more p false e = or_right (p (Starts u)) (some_hold p below) e
 
   -- a frame that isn't the handler of a unit's line leaves what is yielded there
   pub still_yields : (v : ℕ) (q : Bool) → is_handler v o ≡ false → will_yield v below ≡ true → will_yield v (asking q) ≡ true
-  still_yields v true apart e = more (v == u) (not ((v == u) && is_handler v o) && will_yield v below) (yields_past (v == u) v o (will_yield v below) apart ∙ e)
+  still_yields v true apart e = or_right (v == u) (not ((v == u) && is_handler v o) && will_yield v below) (yields_past (v == u) v o (will_yield v below) apart ∙ e)
   still_yields v false apart e = yields_past (v == u) v o (will_yield v below) apart ∙ e
 
 -- what is promised once a group has made a request on its unit
 pub asking_promised : (d : AdcTable) (o : Origin Call) (a : Option Answer) (below : Reservations) (w : World) (s t : AdcState) (g u : ℕ) → FitsAdc d → is_on u (group_of d g) ≡ true → ((v : ℕ) → is_handler v o ≡ false) → ((v : ℕ) → v ≢ u → round_at t v ≡ round_at s v) → ((k : ℕ) → k ≢ g → group_at t k ≡ group_at s k) → ((v : ℕ) → Promised d below w s v) → (v : ℕ) → Promised d (asking o a u below d.priorities) w t v
-asking_promised d o a below w s t g u fits at apart rounds others was v = by (cases v u)
+asking_promised d o a below w s t g u fits at apart rounds others was v = by (same_or_other v u)
   where
-    cases : (x y : ℕ) → (x ≡ y) ⊎ (x ≢ y)
-    cases x y = grind arith
-
     yields : (q : Bool) → d.priorities ≡ q → is_some (aborts d w t u) ≡ true → will_yield u (asking o a u below q) ≡ true
     yields true e f = asking_yields o a u below
     yields false e f = absurd (let none = none_yields d w t u e in cc)
@@ -245,11 +231,8 @@ module _ (d : AdcTable) (fits : FitsAdc d) (f r : AdcBody → ℕ) (below : Rese
   turn = ap (λ (x : GroupState). is_some x.waiting || is_round_of g (round_at s 0) || is_round_of g (round_at s 1)) is_group
 
   trigger_as : (k : ℕ) → (group_at t k).trigger ≡ (group_at s k).trigger
-  trigger_as k = by (cases k g)
+  trigger_as k = by (same_or_other k g)
     where
-      cases : (i j : ℕ) → (i ≡ j) ⊎ (i ≢ j)
-      cases i j = grind arith
-
       by : (k ≡ g) ⊎ (k ≢ g) → (group_at t k).trigger ≡ (group_at s k).trigger
       by (inl e) = subst (λ n. (group_at t n).trigger ≡ (group_at s n).trigger) (sym e) (ap (λ (x : GroupState). x.trigger) is_group ∙ sym quiet.1)
       by (inr ne) = ap (λ (x : GroupState). x.trigger) (is_other k ne)
@@ -282,12 +265,9 @@ module _ (d : AdcTable) (fits : FitsAdc d) (f r : AdcBody → ℕ) (below : Rese
   no_round : (v : ℕ) (x : Round) → v < 2 → round_at s v ≡ Some x → x.group ≢ g
   no_round v x less e same =
       let off : is_round_of g (round_at s v) ≡ false = none_runs s g quiet.0 v less in
-      let on : is_round_of g (Some x) ≡ true = ap (λ n. n == g) same ∙ itself g in
+      let on : is_round_of g (Some x) ≡ true = ap (λ n. n == g) same ∙ eq_self g in
       let is : is_round_of g (round_at s v) ≡ is_round_of g (Some x) = ap (λ q. is_round_of g q) e in
       cc
-    where
-      itself : (n : ℕ) → (n == n) ≡ true
-      itself n = grind (arith, nat_tests)
 
   -- ---- the words after the window's moves
 

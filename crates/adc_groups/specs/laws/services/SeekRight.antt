@@ -19,6 +19,7 @@ use Rattle.adc_groups.specs.laws.{services.YieldRight.{drop_starts, drop_yields,
 use Rattle.word_shapes.specs.Playing as playing
 use Rattle.word_shapes.specs.declared.search.Search.TheVariants as searches
 use Rattle.adc_groups.specs.declared.window.Window.TheVariants as windows
+use Rattle.plain_facts.specs.Truths.{and_false}
 
 none_ends : (q : Option Answer) (left : Option Done) → q ≡ None → ended_by q left ≡ None
 none_ends None left e = refl
@@ -96,12 +97,8 @@ module _ (d : AdcTable) (fits : FitsAdc d) (f r : AdcBody → ℕ) (below : Rese
         stays : is_outranked d s u g ≡ false → Decides (Goes (begins_next u))
         stays none = ((drop_yields d chip w s o p.acted u (with_holds o p.acted (hold_in (windows.Begin u)) below) h (λ e. absurd (let calm = none_out in cc)), (refl, (has, few))), refl)
           where
-            and_off : (a : Bool) → a && false ≡ false
-            and_off true = refl
-            and_off false = refl
-
             none_out : is_some (aborts d w s u) ≡ false
-            none_out = ap (λ q. is_some (aborts_by d w s u q)) round.is ∙ (ap (λ q. is_some (cond (not (is_finished w (group_of d round.round.group) round.round) && q) (Some round.round) None)) (ap (λ n. is_outranked d s u n) round.group ∙ none) ∙ ap (λ q. is_some (cond q (Some round.round) None)) (and_off (not (is_finished w (group_of d round.round.group) round.round))))
+            none_out = ap (λ q. is_some (aborts_by d w s u q)) round.is ∙ (ap (λ q. is_some (cond (not (is_finished w (group_of d round.round.group) round.round) && q) (Some round.round) None)) (ap (λ n. is_outranked d s u n) round.group ∙ none) ∙ ap (λ q. is_some (cond q (Some round.round) None)) (and_false (not (is_finished w (group_of d round.round.group) round.round))))
 
         by : (q : Option ℕ) → next_group d s u ≡ q → Decides (sought d (windows.Suspend u g) (choice (ranks_of d) xs))
         by None e = subst (λ x. Decides (sought d (windows.Suspend u g) x)) (sym (next_none ((h.settled on).units u few) e)) (stays (any_off (λ j. waits_for d s u j && nat_lt (rank_of d g) (rank_of d j)) (λ j lt. ap (λ q. q && nat_lt (rank_of d g) (rank_of d j)) (none_is d s u j e))))

@@ -95,25 +95,15 @@ pub read_sound : (k : Option configured.Group) (q : Bool) (x : GroupState) → i
 read_sound k q x there ne h = by (ends_with_stream k) refl x.status refl
   where
     by : (b : Bool) → ends_with_stream k ≡ b → (z : Status) → x.status ≡ z → SoundGroup k q (record x { status = status_read b z })
-    by true e Idle f = busy_sound k q x there ne h
-    by true e Busy f = busy_sound k q x there ne h
-    by true e Completed f = busy_sound k q x there ne h
     by true e StreamCompleted f = idle_sound k q x there f e h
     by false e Idle f = busy_sound k q x there ne h
-    by false e Busy f = busy_sound k q x there ne h
-    by false e Completed f = busy_sound k q x there ne h
-    by false e StreamCompleted f = busy_sound k q x there ne h
+    by _ e _ f = busy_sound k q x there ne h
 
 -- what was read isn't completed any more, so that its phase is the same whether it goes on or not
 pub read_phase : (b : Bool) (z : Status) (on : Bool) → phase_of (status_read b z) true ≡ phase_of (status_read b z) on
 read_phase true Idle on = refl
-read_phase true Busy on = refl
-read_phase true Completed on = refl
-read_phase true StreamCompleted on = refl
 read_phase false Idle on = refl
-read_phase false Busy on = refl
-read_phase false Completed on = refl
-read_phase false StreamCompleted on = refl
+read_phase _ _ on = refl
 
 module _ (d : AdcTable) (fits : FitsAdc d) (f r : AdcBody → ℕ) (below : Reservations) (chip : Chip) (w : World) (s : AdcState) (h : Agrees d below chip w s) (m : ℕ → Bool) (y : ℕ) where
   abbrev body : WriteBatch → AdcBody
@@ -194,14 +184,11 @@ module _ (d : AdcTable) (fits : FitsAdc d) (f r : AdcBody → ℕ) (below : Rese
   points_by : (g : ℕ) (z : Status) → (group_at s g).status ≡ z → (z ≡ Busy → ⊥) → (z ≡ Idle → ⊥) → points d s g (group_at s g).status ≡ points d s g Completed
   points_by g Idle is nb ni = absurd (ni refl)
   points_by g Busy is nb ni = absurd (nb refl)
-  points_by g Completed is nb ni = ap (λ z. points d s g z) is
-  points_by g StreamCompleted is nb ni = ap (λ z. points d s g z) is
+  points_by g _ is nb ni = ap (λ z. points d s g z) is
 
   awake : (z : Status) → (z ≡ Idle → ⊥) → is_idle z ≡ false
   awake Idle ni = absurd (ni refl)
-  awake Busy ni = refl
-  awake Completed ni = refl
-  awake StreamCompleted ni = refl
+  awake _ ni = refl
 
   pub points_to : (g : ℕ) (z : Status) → MayCall d s g GetStreamLastPointer → (group_at s g).status ≡ z → (z ≡ Busy → ⊥) → (z ≡ Idle → ⊥)
       → IsRight (making (Some events.Act) (Set (words.Phase g) (phase_of (status_read (ends_with_stream (group_of d g)) z) true) ∷ []) (thens.Ends (done (numbers (pointed d s g))))) (calls.Group g GetStreamLastPointer)

@@ -3,11 +3,11 @@
 -- Used by services.CallSteps.
 use Rattle.std.proofs.Common.{◌≡◌, ◌+◌, ◌<◌, ◌||◌, ◌==◌, [], ◌∷◌, ◌∙◌, ◌⊎◌, if◌then◌else◌}
 use Rattle.adc_groups.specs.Terms
-use Terms.{acts_and_ends, AdcBody, AdcState, AdcTable, Agrees, ap, arith, Bool, Busy, Called, Chip, circumstances}
+use Terms.{acts_and_ends, AdcBody, AdcState, AdcTable, Agrees, ap, Bool, Busy, Called, Chip, circumstances}
 use Terms.{Completed, Decided, DisableHardwareTrigger, ends_with_stream, ENotOk, Entered, error_by, false, first_error}
 use Terms.{FitsAdc, fresh_history, Goes, group_at, group_of, GroupAgrees, GroupCall, has_input, has_turn, Idle, inl}
 use Terms.{inr, is_idle, is_input, is_round_of, is_some, Is_this_frame, is_triggered, IsOnlyReader, IsStop, listener}
-use Terms.{Load, makes, making, mark_at, MayCall, MayPulse, named, nat_tests, no_answer, None, not, nothing_more}
+use Terms.{Load, makes, making, mark_at, MayCall, MayPulse, named, no_answer, None, not, nothing_more}
 use Terms.{Option, owed, Phase, phase_in, phase_number, phase_of, phase_read, Pins, Place, place_ends, pulse, pulse_by}
 use Terms.{Pulses, quieted, read, read_by, ReadGroup, reads, refl, Reservations, round_at, Some, Status, status_read}
 use Terms.{stop, stop_by, stop_service, StopGroupConversion, stopping, Stops, Stops_turn, StopSeen, StreamCompleted}
@@ -23,6 +23,7 @@ use Rattle.adc_machine.specs.declared.call.Call.TheVariants as calls
 use Rattle.adc_machine.specs.declared.table.Group as configured
 use Rattle.adc_groups.specs.declared.words.Word.TheVariants as words
 use Rattle.mcal_base.specs.declared.moves.Event.TheVariants as events
+use Rattle.plain_facts.specs.Numbers.{eq_is}
 
 module _ (d : AdcTable) (fits : FitsAdc d) (f r : AdcBody → ℕ) (below : Reservations) (chip : Chip) (w : World) (s : AdcState) (h : Agrees d below chip w s) (m : ℕ → Bool) (y : ℕ) (g : ℕ) (K : Place) (k v : ℕ) (ends : place_ends K ≡ None) where
   -- ---- stops
@@ -50,10 +51,9 @@ module _ (d : AdcTable) (fits : FitsAdc d) (f r : AdcBody → ℕ) (below : Rese
         wired (Some x) = refl
 
         sees : (a b : Bool) → not a ≡ b → a ≡ not b
-        sees true true i = absurd (cc)
         sees true false i = refl
         sees false true i = refl
-        sees false false i = absurd (cc)
+        sees _ _ i = absurd (cc)
 
         by : (c : GroupCall) → IsStop c → MayCall d s g c → DecidedRight d f r below chip w s (Called (calls.Group g c)) (Load k) true v y fresh_history m K (acts_and_ends no_answer (owed d (stop_service (is_some (trigger_input (group_of d g)))) errors.AdcIdle))
         by StopGroupConversion i j =
@@ -94,9 +94,7 @@ module _ (d : AdcTable) (fits : FitsAdc d) (f r : AdcBody → ℕ) (below : Rese
 
         by : (x : Status) → (group_at s g).status ≡ x → Decides (if is_idle x then acts_and_ends no_answer (owed d (stop_service (is_some (trigger_input (group_of d g)))) errors.AdcIdle) else makes (stopping d u g seen))
         by Idle e = idle e
-        by Busy e = awake (λ i. absurd (cc))
-        by Completed e = awake (λ i. absurd (cc))
-        by StreamCompleted e = awake (λ i. absurd (cc))
+        by _ e = awake (λ i. absurd (cc))
 
   -- ---- pulses
 
@@ -104,15 +102,12 @@ module _ (d : AdcTable) (fits : FitsAdc d) (f r : AdcBody → ℕ) (below : Rese
   listens_to : (i : ℕ) → has_input i (group_of d g) ≡ true → mark_at s i ≡ true → listener d s i ≡ Some g
   listens_to i has marked = by (listener d s i) refl (h.sound.marks i marked)
     where
-      equal : (x z : ℕ) → (x == z) ≡ true → x ≡ z
-      equal x z e = grind (arith, nat_tests)
-
       input_of : (q : Option configured.Group) → has_input i q ≡ true → trigger_input q ≡ Some i
       input_of q e = one (trigger_input q) e
         where
           one : (o : Option ℕ) → is_input i o ≡ true → o ≡ Some i
           one None e = absurd (cc)
-          one (Some j) e = ap (λ n. Some n) (equal j i e)
+          one (Some j) e = ap (λ n. Some n) (eq_is j i e)
 
       by : (o : Option ℕ) → listener d s i ≡ o → is_some o ≡ true → o ≡ Some g
       by None e there = absurd (cc)

@@ -5,8 +5,8 @@ use Rattle.std.proofs.Common.{◌≡◌, ◌≢◌, ◌+◌, ◌*◌, ◌/◌, �
 use Rattle.std.proofs.Common.{if◌then◌else◌}
 use Rattle.adc_groups.specs.Terms
 use Terms.{acts_by, adc_bodies, adc_machine, AdcBody, AdcGround, AdcState, AdcTable, after_list, Agrees, AllRight}
-use Terms.{and_false, ap, arith, asks_no, BanksAgree, bit_of, body_ends, body_work, Bool, Busy, Call, Called, Chip}
-use Terms.{chip_after, chosen_of, circumstances, claim_lost, claim_right, CommitsAfter, CommitsTo, Completed, cond}
+use Terms.{and_false, ap, arith, asks_no, BanksAgree, bit_of, body_ends, body_work, Bool, Call, Called, Chip}
+use Terms.{chip_after, chosen_of, circumstances, claim_lost, claim_right, CommitsAfter, CommitsTo, cond}
 use Terms.{Continuation, Converter, Converters, deed_move, DiffersIn, DisableHardwareTrigger, drop-ends, drop_start}
 use Terms.{dropping, ended_at, Entry, entry, eq_is, eq_other, eq_self, error_by, false, first_error, FitsAdc}
 use Terms.{fresh_history, group_at, group_of, group_word, GroupAgrees, GroupCall, GroupState, Has_acted, has_bit}
@@ -16,7 +16,7 @@ use Terms.{List, Makes, making, making_owed, mark_at, MayCall, mod-eq_of_lt, nat
 use Terms.{number_at, number_by, off, off_where, Option, order_of, Origin, outcome, owed_of, phase_of, Promised}
 use Terms.{quieted, refl, Request, Reservation, Reservations, RightOr, Round, round_at, RoundAgrees, rounds_of}
 use Terms.{running_of, same_or_other, Set, settles_list, settles_part, Some, SoundGroup, stands-agree, starts_on, STATE}
-use Terms.{Status, step, stop_by, StopGroupConversion, stopped, StreamCompleted, subst, suc, sym, taken_away}
+use Terms.{Status, step, stop_by, StopGroupConversion, stopped, subst, suc, sym, taken_away}
 use Terms.{tells_nothing, trigger_bit, trigger_input, TriggersAgree, trio_of, true, unit_of, UnitAgrees, unless_of}
 use Terms.{value_of, waits_for, WindowWrite, without_mark, word_number, word_of, World, ℕ}
 use Rattle.word_shapes.specs.PriorityQueue.{own_of}
@@ -178,11 +178,9 @@ module _ (d : AdcTable) (fits : FitsAdc d) (f r : AdcBody → ℕ) (below : Rese
   deaf = ap (λ (x : GroupState). x.trigger) is_group
 
   left_marks : (i : ℕ) → mark_at t i ≡ mark_at (without_mark s (trigger_input (group_of d g))) i
-  left_marks i = by (trigger_input (group_of d g))
-    where
-      by : (o : Option ℕ) → mark_at (without_mark (off s g) o) i ≡ mark_at (without_mark s o) i
-      by None = refl
-      by (Some j) = refl
+  left_marks i =
+      elim (trigger_input (group_of d g)) as (λ o. mark_at (without_mark (off s g) o) i ≡ mark_at (without_mark s o) i)
+      [ None ↦ refl | Some j ↦ refl ]
 
   triggers : (run : Bool) → TriggersAgree d (away_block run u (off_block wired bits chip.converters)) t
   triggers run =
@@ -360,11 +358,9 @@ module _ (d : AdcTable) (fits : FitsAdc d) (f r : AdcBody → ℕ) (below : Rese
             by (inr ne) = rounds_as v (none_elsewhere v ne)
 
         turns_all : (k : ℕ) → has_turn t k ≡ has_turn s k
-        turns_all k = by (same_or_other k g)
-          where
-            by : (k ≡ g) ⊎ (k ≢ g) → has_turn t k ≡ has_turn s k
-            by (inl e) = subst (λ n. has_turn t n ≡ has_turn s n) (sym e) (turn ∙ sym none)
-            by (inr ne) = turns k ne
+        turns_all k =
+            elim (same_or_other k g)
+            [ inl e ↦ subst (λ n. has_turn t n ≡ has_turn s n) (sym e) (turn ∙ sym none) | inr ne ↦ turns k ne ]
 
       order : (z : Bool) → has_turn s g ≡ z → IsOrder d t u (if z then left_of g xs else xs)
       order true e = order_without d s t g u at turns waits xs unit_was.order.2 other_numbers unit_was.order.1.once turn
@@ -485,9 +481,7 @@ module _ (d : AdcTable) (fits : FitsAdc d) (f r : AdcBody → ℕ) (below : Rese
     where
       awake : (x : Status) → (x ≡ Idle → ⊥) → is_idle x ≡ false
       awake Idle ne = absurd (ne refl)
-      awake Busy ne = refl
-      awake Completed ne = refl
-      awake StreamCompleted ne = refl
+      awake _ ne = refl
 
       by : (c : GroupCall) → IsStop c → MayCall d s g c → error_by d (calls.Group g c) (circumstances d s (calls.Group g c)) ≡ None
       by StopGroupConversion i k =

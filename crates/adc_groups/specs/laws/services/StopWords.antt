@@ -6,14 +6,14 @@ use Rattle.std.proofs.Common.{if◌then◌else◌}
 use Rattle.adc_groups.specs.Terms
 use Terms.{Abort, ack_left, AdcState, AdcTable, after_deeds, after_list, AllMay, AllRight, and_false, and_first, ap}
 use Terms.{arith, bit_of_trigger, Bool, Chip, chip_after, claim_fits, claim_lost, claim_right, Claims, claims_on}
-use Terms.{Clears, Continuation, Converter, ConverterAck, Converters, Copies, deed_move, eq_self, false, Fills, FitsAdc}
+use Terms.{Continuation, Converter, ConverterAck, Converters, deed_move, eq_self, false, Fills, FitsAdc}
 use Terms.{flag_left, Full, group_at, group_of, group_same, group_word, GroupState, has_bit, has_bit-without, HasWords}
 use Terms.{HeldRight, Idle, idle, inl, inr, is_some, is_word, IsBlock, IsDone, IsUnkept, Keeps, length, length-set}
 use Terms.{List, making_owed, nat_lt, nat_tests, None, not, off, off_where, Option, owed_of, owed_own, pow_below, quiet}
-use Terms.{Reads, refl, Reservation, Reservations, round_at, same_or_other, Set, Some, some_hold, Starts, STATE}
+use Terms.{refl, Reservation, Reservations, round_at, same_or_other, Set, Some, some_hold, STATE}
 use Terms.{stopped, Store, subst, suc, sym, taken_away, trigger_bit, trigger_input, true, unless_of, unmarked_group}
-use Terms.{unmarked_round, untouched, Whole, WindowWrite, without, without_mark, word_number, word_of, World, Yields}
-use Terms.{zero, ℕ}
+use Terms.{unmarked_round, untouched, Whole, WindowWrite, without, without_mark, word_number, word_of, World}
+use Terms.{ℕ}
 use Rattle.adc_groups.specs.{PendingWrites.{IsSound}, declared.making.WindowWrite.TheVariants.{Write}}
 use Rattle.adc_groups.specs.laws.{hardware.HardwareCommutes.{unit_set, unit_other}}
 use Rattle.adc_groups.specs.laws.{bookkeeping.TriggerListener.{input_small, bit_is}}
@@ -24,6 +24,7 @@ use Rattle.adc_groups.specs.laws.{services.RequestRight.{past_untouched, other_a
 use Rattle.adc_groups.specs.laws.{words.StructureParts.{lows_set, units_set, AllOf, own_named, deeds_unit, deeds_whole}}
 use Rattle.chip_converter.specs.Converters as chips
 use Rattle.adc_groups.specs.declared.words.Word.TheVariants as words
+use Rattle.plain_facts.specs.Truths.{or_true}
 
 -- ---- the state
 
@@ -48,9 +49,8 @@ pub halted_round : (d : AdcTable) (s : AdcState) (g : ℕ) → ((v : ℕ) → ro
 halted_round d s g past v = unmarked_round (off s g) v (trigger_input (group_of d g)) ∙ by v
   where
     by : (v : ℕ) → round_at (off s g) v ≡ unless_of g (round_at s v)
-    by zero = refl
-    by (suc zero) = refl
     by (suc (suc v)) = sym (ap (λ r. unless_of g r) (past v))
+    by _ = refl
 
 pub halted_rest : (d : AdcTable) (s : AdcState) (g : ℕ) → ((stopped d s g).initialised ≡ s.initialised) × ((stopped d s g).requests ≡ s.requests) × ((stopped d s g).results ≡ s.results)
 halted_rest d s g = by (trigger_input (group_of d g))
@@ -72,12 +72,11 @@ ends_all d u g false true run lost = (refl, (tt, (tt, tt)))
 ends_all d u g false false run lost = (refl, tt)
 ends_all d u g true true true true = (refl, (tt, (tt, (tt, (tt, (refl, (refl, (refl, tt))))))))
 ends_all d u g true true true false = (refl, (tt, (tt, (tt, (tt, (refl, (refl, tt)))))))
-ends_all d u g true true false true = (refl, (tt, (tt, (refl, (refl, tt)))))
 ends_all d u g true true false false = (refl, (tt, (tt, (refl, tt))))
 ends_all d u g true false true true = (refl, (tt, (tt, (refl, (refl, (refl, tt))))))
-ends_all d u g true false true false = (refl, (tt, (tt, (refl, (refl, tt)))))
 ends_all d u g true false false true = (refl, (refl, (refl, tt)))
 ends_all d u g true false false false = (refl, (refl, tt))
+ends_all d u g _ _ _ _ = (refl, (tt, (tt, (refl, (refl, tt)))))
 
 abbrev pub turn_set : Bool → (j x : ℕ) → ℕ
 turn_set true j x = set_at 3 0 j x
@@ -100,10 +99,8 @@ where_set true i v j x = set_at i v j x
 where_set false i v j x = x
 
 pub ends_unit : (d : AdcTable) (u g : ℕ) (q wired run lost : Bool) → (q ≡ false → (run ≡ false) × (lost ≡ false)) → (j x : ℕ) → units_set (ends_of d u g q wired run lost) j x ≡ where_set lost 1 1 j (where_set run 0 0 j x)
-ends_unit d u g false true true lost still j x = absurd (let e = (still refl).0 in cc)
 ends_unit d u g false true false true still j x = absurd (let e = (still refl).1 in cc)
 ends_unit d u g false true false false still j x = refl
-ends_unit d u g false false true lost still j x = absurd (let e = (still refl).0 in cc)
 ends_unit d u g false false false true still j x = absurd (let e = (still refl).1 in cc)
 ends_unit d u g false false false false still j x = refl
 ends_unit d u g true true true true still j x = refl
@@ -114,6 +111,7 @@ ends_unit d u g true false true true still j x = refl
 ends_unit d u g true false true false still j x = refl
 ends_unit d u g true false false true still j x = refl
 ends_unit d u g true false false false still j x = refl
+ends_unit d u g _ _ _ lost still j x = absurd (let e = (still refl).0 in cc)
 
 pub ends_claim : (d : AdcTable) (u g : ℕ) (q wired run lost : Bool) → (q ≡ false → (run ≡ false) × (lost ≡ false)) → (x : ℕ) → units_set (ends_of d u g q wired run lost) 1 x ≡ (if lost then 1 else x)
 ends_claim d u g q wired run lost still x = ends_unit d u g q wired run lost still 1 x ∙ by run lost
@@ -266,37 +264,22 @@ kept_free d chip w s u k (x ∷ xs) r e = one x.what r.0 (kept_free d chip w s u
     keeping v p false i none rest f = rest f
 
     one : (z : Reservation) → HeldRight d chip w s x z → (claim_right xs u (2 + k) ≡ true → round_at s u ≡ None) → (if claims_on u z then claim_fits z (2 + k) && not (some_hold (claims_on u) xs) else claim_right xs u (2 + k)) ≡ true → round_at s u ≡ None
-    one (Clears n) h rest f = rest f
-    one (Starts v) h rest f = rest f
-    one (Yields v) h rest f = rest f
-    one (Copies n c i y) h rest f = rest f
-    one (Reads j n vs) h rest f = rest f
     one (Fills v j n m i y) h rest f = plain (u == v) rest f
     one (Full v j n) h rest f = plain (u == v) rest f
     one (Claims v) h rest f = plain (u == v) rest f
     one (Keeps v j n m i y) h rest f = keeping v ((2 + k == 2 + j) || (2 + k == 1)) (u == v) refl h.2 rest f
     one (Whole v j n) h rest f = keeping v ((2 + k == 2 + j) || (2 + k == 1)) (u == v) refl h.2 rest f
+    one _ h rest f = rest f
 
 -- such a claim may be lost
 pub claim_loses : (u k : ℕ) (hs : Reservations) → claim_right hs u (2 + k) ≡ true → claim_right hs u 1 ≡ true
 claim_loses u k [] e = absurd (not_zero k e)
 claim_loses u k (x ∷ xs) e = one x.what (claims_on u x.what) (claim_loses u k xs) e
   where
-    either : (a : Bool) → a || true ≡ true
-    either true = refl
-    either false = refl
-
     fits : (z : Reservation) → claim_fits z (2 + k) ≡ true → claim_fits z 1 ≡ true
-    fits (Keeps v j n m i y) f = either (1 == 2 + j)
-    fits (Whole v j n) f = either (1 == 2 + j)
-    fits (Clears n) f = refl
-    fits (Starts v) f = refl
-    fits (Yields v) f = refl
-    fits (Copies n c i y) f = refl
-    fits (Reads j n vs) f = refl
-    fits (Fills v j n m i y) f = refl
-    fits (Full v j n) f = refl
-    fits (Claims v) f = refl
+    fits (Keeps v j n m i y) f = or_true (1 == 2 + j)
+    fits (Whole v j n) f = or_true (1 == 2 + j)
+    fits _ f = refl
 
     both : (a b c : Bool) → (a ≡ true → b ≡ true) → a && c ≡ true → b && c ≡ true
     both true b c f e = ap (λ q. q && c) (f refl) ∙ e

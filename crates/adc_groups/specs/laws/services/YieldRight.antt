@@ -4,12 +4,12 @@
 use Rattle.std.proofs.Common.{◌≡◌, ◌≢◌, ◌+◌, ◌-◌, ◌<◌, ◌≤◌, ◌&&◌, ◌||◌, ◌==◌, [], ◌∷◌, ◌∙◌, ◌⊎◌, if◌then◌else◌}
 use Rattle.adc_groups.specs.Terms
 use Terms.{aborts, aborts_by, AdcBody, AdcGround, AdcState, AdcTable, Agrees, AllRight, and_first, Answer, ap, arith}
-use Terms.{Backed, begins, begins_next, Bool, Call, Chip, claim_fits, claim_right, Claims, claims_on, Clears, cond}
-use Terms.{Copies, Decided, done, eq_is, eq_other, false, Fills, FitsAdc, FrameHistory, front-ends, front_start, Full}
+use Terms.{Backed, begins, begins_next, Bool, Call, Chip, claim_fits, claim_right, Claims, claims_on, cond}
+use Terms.{Decided, done, eq_is, eq_other, false, Fills, FitsAdc, FrameHistory, front-ends, front_start, Full}
 use Terms.{Goes, group_in, group_of, Has_acted, Has_served, HasDone, HeldRight, hold_in, inl, inr, is_finished}
 use Terms.{is_handler, is_outranked, is_some, Is_this_frame, Keeps, length, Load, MayStop, nat_le, nat_lt, nat_tests}
 use Terms.{next_group, no_answer, None, not, Option, or_right, order_of, Origin, over, Place, place_ends, Promised}
-use Terms.{ranks_of, Reads, refl, Reservation, Reservations, Round, round_at, running_of, same_line, same_or_other}
+use Terms.{ranks_of, refl, Reservation, Reservations, Round, round_at, running_of, same_line, same_or_other}
 use Terms.{Seeks, Some, some_hold, Starts, starts, starts_by, starts_on, subst, sym, true, Whole, will_yield}
 use Terms.{with_holds, word_number, word_of, World, Yields, yields, yields_by, ℕ}
 use Rattle.adc_groups.specs.laws.{services.LookRight.{DecidedRight}, words.WordsOfModule.{within, on_there}}
@@ -83,14 +83,7 @@ fits_some (Whole u g n) v f i0 = absurd (let k : (0 == 2 + g) || (0 == 1) ≡ tr
   where
     no : (g : ℕ) → (0 == 2 + g) || (0 == 1) ≡ true → ⊥
     no g e = grind (arith, nat_tests)
-fits_some (Clears n) v f e = let i = eq_is v 1 f in omega (arith, e, i)
-fits_some (Starts u) v f e = let i = eq_is v 1 f in omega (arith, e, i)
-fits_some (Yields u) v f e = let i = eq_is v 1 f in omega (arith, e, i)
-fits_some (Copies n c j y) v f e = let i = eq_is v 1 f in omega (arith, e, i)
-fits_some (Reads j n vs) v f e = let i = eq_is v 1 f in omega (arith, e, i)
-fits_some (Fills u j n m k y) v f e = let i = eq_is v 1 f in omega (arith, e, i)
-fits_some (Full u j n) v f e = let i = eq_is v 1 f in omega (arith, e, i)
-fits_some (Claims u) v f e = let i = eq_is v 1 f in omega (arith, e, i)
+fits_some _ v f e = let i = eq_is v 1 f in omega (arith, e, i)
 
 -- the word of a claim is 0 where no frame claims the unit, and nowhere else
 pub unclaimed : (u v : ℕ) (hs : Reservations) → claim_right hs u v ≡ true → some_hold (claims_on u) hs ≡ not (v == 0)
@@ -122,16 +115,12 @@ claimed_calm d chip w s u (x ∷ xs) r e = one x.what r.0 (claimed_calm d chip w
     over_now v g false i same rest f = rest f
 
     one : (z : Reservation) → HeldRight d chip w s x z → (some_hold (claims_on u) xs ≡ true → is_some (aborts d w s u) ≡ false) → claims_on u z || some_hold (claims_on u) xs ≡ true → is_some (aborts d w s u) ≡ false
-    one (Clears n) h rest f = rest f
-    one (Starts v) h rest f = rest f
-    one (Yields v) h rest f = rest f
-    one (Copies n c i y) h rest f = rest f
-    one (Reads j n vs) h rest f = rest f
     one (Fills v j n m i y) h rest f = over_now v j (u == v) refl (λ z e. (let k = h.3.same z e in (k.0, k.2))) rest f
     one (Full v j n) h rest f = over_now v j (u == v) refl (λ z e. h.3.same z e) rest f
     one (Claims v) h rest f = free v (u == v) refl h.2 rest f
     one (Keeps v j n m i y) h rest f = free v (u == v) refl h.2 rest f
     one (Whole v j n) h rest f = free v (u == v) refl h.2 rest f
+    one _ h rest f = rest f
 
 -- ---- a frame that has done its work may end
 
@@ -146,11 +135,7 @@ module _ (d : AdcTable) (fits : FitsAdc d) (f r : AdcBody → ℕ) (below : Rese
   Decides x = DecidedRight d f r below chip w s o (Load k) false v y p m K x
 
   few_moves : (n : ℕ) → (if nat_lt 8 n then 3 else 2) ≤ 3
-  few_moves n = by (nat_lt 8 n)
-    where
-      by : (q : Bool) → (if q then 3 else 2) ≤ 3
-      by true = omega arith
-      by false = omega arith
+  few_moves n = elim (nat_lt 8 n) as (λ q. (if q then 3 else 2) ≤ 3) [ true ↦ omega arith | false ↦ omega arith ]
 
   none_runs : (q : Option Round) → (running_of q == 0) ≡ not (is_some q)
   none_runs None = refl

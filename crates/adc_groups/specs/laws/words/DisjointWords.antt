@@ -6,6 +6,7 @@ use Terms.{AdcTable, ap, arith, Bool, cases_lt, end_of, false, FitsAdc, Group, g
 use Terms.{inr, is_some, kept_word, length, nat_tests, None, Option, own_of, refl, result_word, ResultBuffer, rounds_of}
 use Terms.{Some, start_of, STATE, sym, trio_of, true, ℕ}
 use Rattle.adc_machine.specs.declared.call.ResultBuffer.TheVariants as buffers
+use Rattle.plain_facts.specs.Numbers.{same_or_other}
 
 module _ (d : AdcTable) (fits : FitsAdc d) where
   -- the first word of a group and the one after its last, of one that is there
@@ -27,9 +28,8 @@ module _ (d : AdcTable) (fits : FitsAdc d) where
       ]
 
       by : (k l : Option Group) → group_of d g ≡ k → group_of d h ≡ l → is_some k ≡ true → is_some l ≡ true → j < 32 + 6 * length (inputs_of l) → STATE + start_of l + j ≢ STATE + start_of k + i
-      by None l e f p q few = absurd (cc)
-      by (Some k) None e f p q few = absurd (cc)
       by (Some k) (Some l) e f p q few = less k l ne fits.apart e f few
+      by _ _ e f p q few = absurd (cc)
 
   -- one of the first 64 words is none of a group's
   pub unit_apart : (g i j : ℕ) → is_some (group_of d g) ≡ true → j < 64 → STATE + j ≢ group_word d g i
@@ -45,16 +45,13 @@ module _ (d : AdcTable) (fits : FitsAdc d) where
 
   -- the banks' words, with their control word, of any group
   pub trio_apart : (g h i k : ℕ) → is_some (group_of d g) ≡ true → is_some (group_of d h) ≡ true → i < 7 → own_of (trio_of (rounds_of d h)) k ≡ true → k ≢ group_word d g i
-  trio_apart g h i k there here lt own same = by (cases g h)
+  trio_apart g h i k there here lt own same = by (same_or_other g h)
     where
       start : ℕ
       start = start_of (group_of d h)
 
       len : ℕ
       len = length (inputs_of (group_of d h))
-
-      cases : (g h : ℕ) → (g ≡ h) ⊎ (g ≢ h)
-      cases g h = grind arith
 
       offset : (q : Bool) → (k == STATE + start_of (group_of d h) + 7) ≡ q → (j : ℕ) × (k ≡ STATE + start_of (group_of d h) + j) × (7 ≤ j) × (j < 32 + 6 * length (inputs_of (group_of d h)))
       offset true e = (7, (let at : k ≡ STATE + start_of (group_of d h) + 7 = grind (arith, nat_tests) in at), omega arith, omega arith)

@@ -11,23 +11,8 @@ use Terms.{ℕ}
 use Rattle.adc_groups.specs.laws.words.OrderWords.{listed_there}
 
 pub rank_at : (d : AdcTable) (k : ℕ) → k < 16 → rank (ranks_of d) k ≡ rank_of d k
-rank_at d zero lt = refl
-rank_at d (suc zero) lt = refl
-rank_at d (suc (suc zero)) lt = refl
-rank_at d (suc (suc (suc zero))) lt = refl
-rank_at d (suc (suc (suc (suc zero)))) lt = refl
-rank_at d (suc (suc (suc (suc (suc zero))))) lt = refl
-rank_at d (suc (suc (suc (suc (suc (suc zero)))))) lt = refl
-rank_at d (suc (suc (suc (suc (suc (suc (suc zero))))))) lt = refl
-rank_at d (suc (suc (suc (suc (suc (suc (suc (suc zero)))))))) lt = refl
-rank_at d (suc (suc (suc (suc (suc (suc (suc (suc (suc zero))))))))) lt = refl
-rank_at d (suc (suc (suc (suc (suc (suc (suc (suc (suc (suc zero)))))))))) lt = refl
-rank_at d (suc (suc (suc (suc (suc (suc (suc (suc (suc (suc (suc zero))))))))))) lt = refl
-rank_at d (suc (suc (suc (suc (suc (suc (suc (suc (suc (suc (suc (suc zero)))))))))))) lt = refl
-rank_at d (suc (suc (suc (suc (suc (suc (suc (suc (suc (suc (suc (suc (suc zero))))))))))))) lt = refl
-rank_at d (suc (suc (suc (suc (suc (suc (suc (suc (suc (suc (suc (suc (suc (suc zero)))))))))))))) lt = refl
-rank_at d (suc (suc (suc (suc (suc (suc (suc (suc (suc (suc (suc (suc (suc (suc (suc zero))))))))))))))) lt = refl
 rank_at d (suc (suc (suc (suc (suc (suc (suc (suc (suc (suc (suc (suc (suc (suc (suc (suc k)))))))))))))))) lt = absurd (omega (arith, lt))
+rank_at d _ lt = refl
 
 -- a waiting group's number
 number_waiting : (q : Option Request) (r : Option Round) → is_some q ≡ true → number_by q r ≡ number_in q

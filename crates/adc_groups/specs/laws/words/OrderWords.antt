@@ -5,8 +5,9 @@ use Rattle.adc_groups.specs.Terms
 use Terms.{AdcState, AdcTable, added, ap, arith, Bool, Entry, eq_other, eq_self, false, group_at, group_of, has_turn}
 use Terms.{inl, inr, is_on, is_some, is_there, is_there-append, is_there-waiting, IsOnce, IsOrder, length, List, map}
 use Terms.{nat_tests, number-waiting, number_at, or_false, or_right, refl, same_or_other, slice_get, Some, subst, suc}
-use Terms.{sym, true, waiting, with_wait, zero, ℕ}
+use Terms.{and_parts, or_left, sym, true, waiting, with_wait, zero, ℕ}
 use Rattle.word_shapes.specs.Order.{without}
+use Rattle.plain_facts.specs.Truths.{and_second}
 
 -- ---- lists
 
@@ -17,11 +18,7 @@ or_none false b e = refl
 -- an entry that is listed is there
 pub listed_there : (xs : List Entry) (i : ℕ) (x : Entry) → slice_get xs i ≡ Some x → is_there x.number xs ≡ true
 listed_there [] i x e = absurd (cc)
-listed_there (z ∷ zs) zero x e = let same : z ≡ x = cc in first (z.number == x.number) (is_there x.number zs) (subst (λ (q : Entry). (q.number == x.number) ≡ true) (sym same) (eq_self x.number))
-  where
-    first : (a b : Bool) → a ≡ true → a || b ≡ true
-    first true b f = refl
-    first false b f = absurd (cc)
+listed_there (z ∷ zs) zero x e = let same : z ≡ x = cc in or_left (z.number == x.number) (is_there x.number zs) (subst (λ (q : Entry). (q.number == x.number) ≡ true) (sym same) (eq_self x.number))
 listed_there (z ∷ zs) (suc i) x e = or_right (z.number == x.number) (is_there x.number zs) (listed_there zs i x e)
 
 -- an element of a list with one more at its end
@@ -29,11 +26,7 @@ pub last_or : (xs : List Entry) (y : Entry) (i : ℕ) (x : Entry) → slice_get 
 last_or [] y zero x e = inr (refl, (let same : y ≡ x = cc in sym same))
 last_or [] y (suc i) x e = absurd (cc)
 last_or (z ∷ zs) y zero x e = inl e
-last_or (z ∷ zs) y (suc i) x e = by (last_or zs y i x e)
-  where
-    by : (slice_get zs i ≡ Some x) ⊎ ((i ≡ length zs) × (x ≡ y)) → (slice_get zs i ≡ Some x) ⊎ ((suc i ≡ suc (length zs)) × (x ≡ y))
-    by (inl f) = inl f
-    by (inr f) = inr (ap suc f.0, f.1)
+last_or (z ∷ zs) y (suc i) x e = elim (last_or zs y i x e) [ inl f ↦ inl f | inr f ↦ inr (ap suc f.0, f.1) ]
 
 within : (xs : List Entry) (i : ℕ) (x : Entry) → slice_get xs i ≡ Some x → i < length xs
 within [] i x e = absurd (cc)
@@ -64,10 +57,9 @@ ordered_left P n (z ∷ zs) h = by (z.number == n) (ordered_left P n zs (λ i j 
   where
     by : (q : Bool) → Ordered P (without n zs) → Ordered P (if q then zs else z ∷ without n zs)
     by true rest i j x y lt e f = h (suc i) (suc j) x y (omega (arith, lt)) e f
-    by false rest zero zero x y lt e f = absurd (omega (arith, lt))
     by false rest zero (suc j) x y lt e f = let k = left_from n zs j y f in h zero (suc k.0) x y (omega arith) e k.1
-    by false rest (suc i) zero x y lt e f = absurd (omega (arith, lt))
     by false rest (suc i) (suc j) x y lt e f = rest i j x y (omega (arith, lt)) e f
+    by _ rest _ _ x y lt e f = absurd (omega (arith, lt))
 
 -- which entries are left
 there_left : (k n : ℕ) (xs : List Entry) → k ≢ n → is_there k (without n xs) ≡ is_there k xs
@@ -91,12 +83,7 @@ none_left n (z ∷ zs) once = by (none_left n zs once.1) (z.number == n) refl
 module _ (d : AdcTable) (s t : AdcState) (g u : ℕ) (at : is_on u (group_of d g) ≡ true) (turns : (k : ℕ) → k ≢ g → has_turn t k ≡ has_turn s k) (waits : (k : ℕ) → k ≢ g → is_some (group_at t k).waiting ≡ is_some (group_at s k).waiting)
     (xs : List Entry) (o : IsOrder d s u xs) where
   on_unit : (i : ℕ) (x : Entry) → slice_get xs i ≡ Some x → (has_turn s x.number ≡ true) × (is_on u (group_of d x.number) ≡ true)
-  on_unit i x e = parts (has_turn s x.number) (is_on u (group_of d x.number)) (sym (o.there x.number) ∙ listed_there xs i x e)
-    where
-      parts : (a b : Bool) → a && b ≡ true → (a ≡ true) × (b ≡ true)
-      parts true true e = (refl, refl)
-      parts true false e = absurd (cc)
-      parts false b e = absurd (cc)
+  on_unit i x e = and_parts (has_turn s x.number) (is_on u (group_of d x.number)) (sym (o.there x.number) ∙ listed_there xs i x e)
 
   -- one more group has a turn, with a number above all
   module _ (numbers : (k : ℕ) → k ≢ g → is_on u (group_of d k) ≡ true → number_at d t k ≡ number_at d s k) (none : has_turn s g ≡ false) (turn : has_turn t g ≡ true) (waiting_now : is_some (group_at t g).waiting ≡ true)
@@ -186,9 +173,5 @@ order_kept d s t u turns waits numbers xs o = record {
   sorted = λ i j x y lt e f. subst (λ n. n < number_at d t y.number) (sym (numbers x.number (on i x e))) (subst (λ n. number_at d s x.number < n) (sym (numbers y.number (on j y f))) (o.sorted i j x y lt e f));
 }
   where
-    second : (a b : Bool) → a && b ≡ true → b ≡ true
-    second true b e = e
-    second false b e = absurd (cc)
-
     on : (i : ℕ) (x : Entry) → slice_get xs i ≡ Some x → is_on u (group_of d x.number) ≡ true
-    on i x e = second (has_turn s x.number) (is_on u (group_of d x.number)) (sym (o.there x.number) ∙ listed_there xs i x e)
+    on i x e = and_second (has_turn s x.number) (is_on u (group_of d x.number)) (sym (o.there x.number) ∙ listed_there xs i x e)

@@ -1,6 +1,6 @@
 -- What a change of one group rests on beside its words: rounds of other groups, entries of an order, and numbers of words.
 -- Used by bookkeeping.FrameRule.
-use Rattle.std.proofs.Common.{◌≡◌, ◌≢◌, ◌+◌, ◌-◌, ◌*◌, ◌<◌, ◌≤◌, ◌&&◌, ◌||◌, ◌==◌, [], ◌∷◌, ◌∙◌, ◌⊎◌, if◌then◌else◌}
+use Rattle.std.proofs.Common.{◌≡◌, ◌≢◌, ◌+◌, ◌-◌, ◌*◌, ◌<◌, ◌≤◌, ◌&&◌, ◌||◌, ◌==◌, [], ◌∷◌, ◌∙◌, if◌then◌else◌}
 use Rattle.adc_groups.specs.Terms
 use Terms.{AdcTable, ap, arith, Bank, bank_number, bank_word, Bool, Entry, eq_self, false, group_of, group_word}
 use Terms.{inputs_of, is_round_of, is_there, kept_of_round, kept_word, length, List, nat_le, nat_lt, nat_tests, None}
@@ -44,11 +44,7 @@ look_same e f g k (Some x) (Some y) ne h = by (x.group == k) refl (y.group == k)
 
 pub turn_look : (k : ℕ) (q : Option Round) → is_round_of k q ≡ look false (λ x. true) k q
 turn_look k None = refl
-turn_look k (Some x) = by (x.group == k)
-  where
-    by : (b : Bool) → b ≡ (if b then true else false)
-    by true = refl
-    by false = refl
+turn_look k (Some x) = elim (x.group == k) as (λ b. b ≡ (if b then true else false)) [ true ↦ refl | false ↦ refl ]
 
 pub kept_look : (k : ℕ) (q : Option Round) → kept_of_round k q ≡ look [] (λ x. x.request.kept) k q
 kept_look k None = refl
@@ -107,10 +103,8 @@ pub kept_place : (j n : ℕ) → j < n → 32 + 3 * n + j < 32 + 6 * n
 kept_place j n lt = omega (arith, lt)
 
 pub bank_place : (b n j : ℕ) → b < 3 → j < n → 32 + b * n + j < 32 + 6 * n
-bank_place zero n j lt less = omega (arith, less)
-bank_place (suc zero) n j lt less = omega (arith, less)
-bank_place (suc (suc zero)) n j lt less = omega (arith, less)
 bank_place (suc (suc (suc b))) n j lt less = absurd (omega (arith, lt))
+bank_place _ n j lt less = omega (arith, less)
 
 pub bank_past : (b n j : ℕ) → 8 ≤ 32 + b * n + j
 bank_past b n j = omega arith
@@ -176,7 +170,6 @@ listed_there (z ∷ zs) (suc i) x e = by (z.number == x.number) (listed_there zs
     by false f = f
 
 pub and_off : (x y z : Bool) → z ≡ false → x && z ≡ y && z
-and_off true true z e = refl
 and_off true false z e = e
 and_off false true z e = sym e
-and_off false false z e = refl
+and_off _ _ z e = refl

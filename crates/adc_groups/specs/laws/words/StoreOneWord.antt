@@ -4,15 +4,15 @@
 use Rattle.std.proofs.Common.{◌≡◌, ◌≢◌, ◌+◌, ◌-◌, ◌*◌, ◌/◌, ◌%◌, ◌<◌, ◌≤◌, ◌&&◌, ◌||◌, ◌==◌, [], ◌∷◌, ◌∙◌, ◌⊎◌}
 use Rattle.adc_groups.specs.Terms
 use Terms.{aborts, aborts_by, AdcState, AdcTable, Agrees, all_groups, AllRight, ap, arith, Bank, bank_number, bank_word}
-use Terms.{BanksAgree, bit_of, Call, Chip, chip_after, chosen_of, claim_right, Claims, Clears, comes_before, cond}
+use Terms.{BanksAgree, bit_of, Call, Chip, chip_after, chosen_of, claim_right, Clears, comes_before, cond}
 use Terms.{Copies, Fills, first_of, FitsAdc, Full, group_at, group_of, group_word, GroupAgrees, GroupState, has_turn}
 use Terms.{HeldRight, holds-agree, Idle, inl, inputs_of, inr, is_finished, is_on, is_outranked, is_some, IsSound}
 use Terms.{IsSoundGroup, Keeps, kept_by, kept_in, kept_of_round, kept_word, length, List, list_any, min, nat_lt}
 use Terms.{nat_tests, newest, next_among, next_group, None, not, number_at, number_by, number_in, Option, order_of}
 use Terms.{own-control, own-word, phase_of, Promised, rank_of, Reads, refl, Reservation, Reservations, ReservedBy}
 use Terms.{result_word, Round, round_at, rounds_of, samples_of, Settled, slice_get, Some, stands-agree, stands-move}
-use Terms.{Starts, starts, starts_by, STATE, Store, stored_other, stored_same, subst, sym, trio_of, true, unit_of}
-use Terms.{UnitAgrees, values_of, waits_for, Whole, with_group, word_number, word_of, World, Yields, ℕ}
+use Terms.{starts, starts_by, STATE, Store, stored_other, stored_same, subst, sym, trio_of, true, unit_of}
+use Terms.{UnitAgrees, values_of, waits_for, Whole, with_group, word_number, word_of, World, ℕ}
 use Rattle.adc_groups.specs.laws.words.DisjointWords.{groups_apart, unit_apart, place_apart, trio_apart, kept_apart}
 use Rattle.adc_groups.specs.laws.hardware.StableUnderHardware.{value_within, listed_agree, kept_within}
 use Rattle.adc_groups.specs.laws.words.WordsOfModule.{words_below, low_words, on_there, within, bank_below, unit_small}
@@ -148,9 +148,6 @@ module _ (d : AdcTable) (fits : FitsAdc d) (held : Reservations) (a : Chip) (w :
 
   held_touched : (x : ReservedBy Call Reservation) (z : Reservation) → HeldRight d a w s x z → HeldRight d b w t x z
   held_touched x (Clears n) r = absurd (let f = r.1 in let e = on in cc)
-  held_touched x (Starts u) r = r
-  held_touched x (Yields u) r = r
-  held_touched x (Claims u) r = r
   held_touched x (Fills u k e n j p) r = (r.0, r.1, r.2, (let q = r.3 in record { same = q.same; filled = λ z m c o few is. bank_stays k n m (on_there u (group_of d k) r.2) (few_values u z k o (q.same z o).0 m c is) ∙ q.filled z m c o few is; next = q.next }))
   held_touched x (Full u k n) r = (r.0, r.1, r.2, (let q = r.3 in record { same = q.same; filled = λ z m c o is. bank_stays k n m (on_there u (group_of d k) r.2) (few_values u z k o (q.same z o).0 m c is) ∙ q.filled z m c o is }))
   held_touched x (Whole u k n) r = (
@@ -203,6 +200,7 @@ module _ (d : AdcTable) (fits : FitsAdc d) (held : Reservations) (a : Chip) (w :
     where
       at : (m : ℕ) → m < length (inputs_of (group_of d k)) → word_of b (bank_word (rounds_of d k) n 0 + m) ≡ word_of a (bank_word (rounds_of d k) n 0 + m)
       at m few = let same : bank_word (rounds_of d k) n m ≡ bank_word (rounds_of d k) n 0 + m = omega arith in subst (λ z. word_of b z ≡ word_of a z) same (bank_stays k n m r.2 few)
+  held_touched x _ r = r
 
   all_touched : (hs : Reservations) → AllRight d a w s hs → AllRight d b w t hs
   all_touched [] r = tt

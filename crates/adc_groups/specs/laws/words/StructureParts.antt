@@ -5,9 +5,9 @@ use Rattle.std.proofs.Common.{◌≡◌, ◌≢◌, ◌+◌, ◌*◌, ◌<◌, �
 use Rattle.adc_groups.specs.Terms
 use Terms.{AdcTable, adding, after_list, Answer, ap, AreListed, arith, Bool, Chip, chip_after, Continuation, deed_move}
 use Terms.{dropping, false, FitsAdc, group_of, group_word, HasWords, is_some, is_word, IsPart, length_after, List, Load}
-use Terms.{lt_from, making_owed, Mask, Move, NamesOwn, nat_lt, nat_tests, None, Note, Option, owed_of, owed_own, PartTo}
-use Terms.{PendingWrites, Play, Read, refl, Report, Some, stands-move, StandsIn, STATE, Store, stored_other}
-use Terms.{stored_same, stores_in, StructureOp, subst, sym, true, Unmask, waiting_again, WindowWrite, word_apart}
+use Terms.{lt_from, making_owed, Move, NamesOwn, nat_lt, nat_tests, None, Option, owed_of, owed_own, PartTo}
+use Terms.{PendingWrites, Play, refl, Some, stands-move, StandsIn, STATE, Store, stored_other}
+use Terms.{stored_same, stores_in, StructureOp, subst, sym, true, waiting_again, WindowWrite, word_apart}
 use Terms.{word_number, word_of, WORDS, World, Write, ℕ}
 use Rattle.adc_groups.specs.laws.words.DisjointWords.{start_from}
 use Rattle.adc_groups.specs.laws.words.WordsOfModule.{words_below, low_words, first_words}
@@ -23,19 +23,13 @@ module _ (d : AdcTable) (fits : FitsAdc d) where
 
   both : (a b : Bool) → a ≡ true → b ≡ true → (a && b) && true ≡ true
   both true true e f = refl
-  both true false e f = absurd (cc)
-  both false b e f = absurd (cc)
+  both _ _ e f = absurd (cc)
 
   -- a move of a word of the module may be owed
   pub own_named : (own : ℕ → Bool) → ((k : ℕ) → own k ≡ true → is_word d k ≡ true) → (made : Move) → NamesOwn own made → owed_own d made ≡ true
   own_named own is (Load k) at = both (is_word d k) (nat_lt k WORDS) (is k at) (lt_from k WORDS (word_there k (is k at)))
   own_named own is (Store k v) at = both (is_word d k) (nat_lt k WORDS) (is k at) (lt_from k WORDS (word_there k (is k at)))
-  own_named own is (Read r) at = absurd at
-  own_named own is (Write r v) at = absurd at
-  own_named own is Mask at = absurd at
-  own_named own is Unmask at = absurd at
-  own_named own is (Note n) at = absurd at
-  own_named own is (Report e) at = absurd at
+  own_named own is _ at = absurd at
 
   -- ---- a change of an order, and of banks
 

@@ -8,7 +8,7 @@ use Terms.{drop, false, FitsAdc, Group, group_clear, group_of, group_start, grou
 use Terms.{is_in_buffer, is_linear_stream, is_on, is_own_word, is_result_word, is_some, is_word, kept_word, length}
 use Terms.{List, list_any, listed, Load, Move, mul-le-mul_right, nat_le, nat_lt, nat_tests, None, not, object_count}
 use Terms.{One, Option, or_left, or_right, order_of, own_of, place_count, refl, result_word, ResultBuffer, rounds_of}
-use Terms.{samples_of, slice_get, slice_index_or, Some, SOURCES, STATE, Store, subst, suc, trio_of, true, Two}
+use Terms.{samples_of, slice_get, slice_index_or, Some, SOURCES, STATE, Store, subst, suc, trio_of, true}
 use Terms.{unit_level, unit_of, unit_word, word_number, Zero, zero, ℕ}
 use Rattle.mcal_base.specs.{Layout.{start_of}, declared.layout.Array.TheVariants.{Round}}
 use Rattle.word_shapes.specs.PriorityQueue as ranked
@@ -125,8 +125,7 @@ module _ (d : AdcTable) (fits : FitsAdc d) where
 
   pub bank_below : (b : Bank) → bank_number b < 3
   bank_below Zero = omega arith
-  bank_below One = omega arith
-  bank_below Two = omega arith
+  bank_below _ = omega arith
 
   -- a word of a group's banks, and a kept value
   pub bank_words : (g : ℕ) (b : Bank) (j : ℕ) → is_some (group_of d g) ≡ true → j < length (inputs_of (group_of d g)) → is_word d (bank_word (rounds_of d g) b j) ≡ true

@@ -1,10 +1,10 @@
 -- A call of Adc_ReadGroup begins above no other one of its group, since it has the group as its key.
 use Rattle.std.proofs.Common.{◌≡◌, ◌==◌, [], ◌∷◌, ◌∙◌, if◌then◌else◌}
 use Rattle.adc_serving.specs.Terms
-use Terms.{adc_setting, AdcState, AdcTable, AllRight, ap, bank_number, Beside, blocks, Bool, Call, Called, Chip, Claims}
-use Terms.{class_of, Clears, Copies, eq_is, eq_self, false, Fills, first_held, Full, HeldRight, IsOnlyReader, Keeps}
-use Terms.{mark_of, None, or_else, Origin, ReadGroup, Reads, refl, Reservation, Reservations, ReservedBy, Some, Starts}
-use Terms.{subst, sym, take_of, true, Whole, World, Yields, ℕ}
+use Terms.{adc_setting, AdcState, AdcTable, AllRight, ap, bank_number, Beside, blocks, Bool, Call, Called, Chip}
+use Terms.{class_of, eq_is, eq_self, false, first_held, HeldRight, IsOnlyReader}
+use Terms.{mark_of, None, or_else, Origin, ReadGroup, Reads, refl, Reservation, Reservations, ReservedBy, Some}
+use Terms.{subst, sym, take_of, true, World, ℕ}
 use Rattle.adc_machine.specs.declared.call.Call.TheVariants as calls
 
 module _ (d : AdcTable) (chip : Chip) (w : World) (s : AdcState) (g : ℕ) where
@@ -21,15 +21,7 @@ module _ (d : AdcTable) (chip : Chip) (w : World) (s : AdcState) (g : ℕ) where
       by : (q : Bool) → (g == k) ≡ q → (if q then Some (bank_number b) else None) ≡ None
       by true e = absurd (kept_off (subst Free (right.0 ∙ ap (λ n. Called (calls.Group n ReadGroup)) (sym (eq_is g k e))) free))
       by false e = refl
-  not_read x (Clears n) right free = refl
-  not_read x (Starts u) right free = refl
-  not_read x (Yields u) right free = refl
-  not_read x (Fills u k e b i v) right free = refl
-  not_read x (Full u k b) right free = refl
-  not_read x (Keeps u k e n i v) right free = refl
-  not_read x (Whole u k n) right free = refl
-  not_read x (Claims u) right free = refl
-  not_read x (Copies b c i v) right free = refl
+  not_read x _ right free = refl
 
   pub only_reader : (hs : Reservations) → AllRight d chip w s hs → Beside (adc_setting d) (Called (calls.Group g ReadGroup)) hs → IsOnlyReader g hs
   only_reader [] right beside = refl

@@ -2,26 +2,21 @@
 -- Used by services.ServeActRight.
 use Rattle.std.proofs.Common.{◌≡◌, ◌≢◌, ◌+◌, ◌%◌, ◌<◌, ◌≤◌, ◌&&◌, ◌||◌, ◌==◌, [], ◌∷◌, ◌++◌, ◌∙◌, ◌⊎◌}
 use Rattle.adc_serving.specs.Terms
-use Terms.{ap, arith, Bool, Busy, Completed, cond, ends_with_stream, eq_is, false, Group, GroupState, Idle, inl}
+use Terms.{ap, arith, Bool, cond, ends_with_stream, eq_is, false, Group, GroupState, Idle, inl}
 use Terms.{inputs_of, inr, is_continuous, is_full, is_linear_stream, is_some, length, length_push, List, mod-le, nat_le}
 use Terms.{nat_tests, None, not, Option, refl, Request, samples_of, slice_get, Some, SoundGroup, Status, status_after}
 use Terms.{StreamCompleted, suc, sym, trigger_input, true, zero, ℕ}
 
 -- the status after a round
 pub not_idle : (last : Bool) (x : Status) → status_after last x ≡ Idle → ⊥
-not_idle true x e = absurd (cc)
 not_idle false Idle e = absurd (cc)
-not_idle false Busy e = absurd (cc)
-not_idle false Completed e = absurd (cc)
-not_idle false StreamCompleted e = absurd (cc)
+not_idle _ _ e = absurd (cc)
 
 -- a stream is completed by its last round, or was before
 completed_by : (last : Bool) (x : Status) → status_after last x ≡ StreamCompleted → (last ≡ true) ⊎ (x ≡ StreamCompleted)
 completed_by true x e = inl refl
-completed_by false Idle e = absurd (cc)
-completed_by false Busy e = absurd (cc)
-completed_by false Completed e = absurd (cc)
 completed_by false StreamCompleted e = inr refl
+completed_by _ _ e = absurd (cc)
 
 lt_of : (x y : ℕ) → nat_le x y ≡ false → y < x
 lt_of x y e = grind (arith, nat_tests)
@@ -84,10 +79,9 @@ module _ (k : Option Group) (x : GroupState) (there : is_some k ≡ true) (some 
   hears_same = by x.trigger refl (is_some (trigger_input k)) refl
     where
       by : (a : Bool) → x.trigger ≡ a → (b : Bool) → is_some (trigger_input k) ≡ b → a ≡ b
-      by true e true i = refl
       by true e false i = absurd (let on = sound.input e in cc)
       by false e true i = absurd (let on = hears i in cc)
-      by false e false i = refl
+      by _ e _ i = refl
 
   -- by whether its turn goes on, and its trigger
   pub served_sound : (turned trigger : Bool) (waiting : Option Request) → (trigger ≡ true → x.trigger ≡ true) → (status ≡ StreamCompleted → turned || trigger ≡ not (ends_with_stream k)) → (turned || trigger ≡ true → is_full k (length x.rounds + 1) ≡ false) → SoundGroup k turned (record x { status = status; rounds = x.rounds ++ values ∷ []; trigger = trigger; waiting = waiting })

@@ -57,13 +57,12 @@ module _ (d : AdcTable) (s : AdcState) (g u : ℕ) (few : u < 2) (lt : g < 16) (
   other_round f c none v ne = rounds_stored f c v ∙ by u few v ne
     where
       by : (u : ℕ) → u < 2 → (v : ℕ) → v ≢ u → round_at (with_round s u None) v ≡ round_at s v
-      by zero less zero ne = absurd (ne refl)
       by zero less (suc zero) ne = refl
       by zero less (suc (suc v)) ne = sym (none v)
       by (suc zero) less zero ne = refl
-      by (suc zero) less (suc zero) ne = absurd (ne refl)
       by (suc zero) less (suc (suc v)) ne = sym (none v)
       by (suc (suc u)) less v ne = absurd (omega (arith, less))
+      by _ less _ ne = absurd (ne refl)
 
   without_same : (z : AdcState) (o : Option ℕ) → ((without_mark z o).results ≡ z.results) × ((without_mark z o).requests ≡ z.requests) × ((without_mark z o).initialised ≡ z.initialised)
   without_same z None = (refl, refl, refl)

@@ -42,11 +42,7 @@ module _ (d : AdcTable) (fits : FitsAdc d) (f r : AdcBody → ℕ) (below : Rese
     more_running x = eq_other (1 + x.group) 0 (λ e. omega (arith, e))
 
     few_moves : (n : ℕ) → (if nat_lt 8 n then 3 else 2) ≤ 3
-    few_moves n = by (nat_lt 8 n)
-      where
-        by : (q : Bool) → (if q then 3 else 2) ≤ 3
-        by true = omega arith
-        by false = omega arith
+    few_moves n = elim (nat_lt 8 n) as (λ q. (if q then 3 else 2) ≤ 3) [ true ↦ omega arith | false ↦ omega arith ]
 
     abbrev Decides : Bool → Type 0
     Decides q = DecidedRight d f r below chip w s (Entered (24 + t.unit)) (Load k) false v y fresh_history missed K (if q then leaves d t.unit else makes (served (length (inputs_of (group_of d t.group)) == 0)))

@@ -5,7 +5,7 @@ use Rattle.std.proofs.Common.{◌≡◌, ◌≢◌, ◌+◌, ◌/◌, ◌%◌, �
 use Rattle.adc_serving.specs.Terms
 use Terms.{aborts, adc_bodies, adc_machine, AdcBody, AdcGround, AdcState, AdcTable, Agrees, AllRight, ap, arith}
 use Terms.{AssertedAt, Bank, bank_below, bank_number, bank_word, BanksAgree, body_ends, body_work, Bool, Call, Chip}
-use Terms.{chip_after, chooses, choosing, claim, claim_right, claim_words, Claims, claims_on, Clears, CommitsTo}
+use Terms.{chip_after, chooses, choosing, claim, claim_right, claim_words, Claims, claims_on, CommitsTo}
 use Terms.{Continuation, Copies, copies_or, copying, DecidedRight, ended_at, Entered, eq_is, eq_other, eq_self, false}
 use Terms.{few_inputs, Fills, first_held, FitsAdc, foot_of, FrameHistory, free, fresh_history, Full, group_at, group_of}
 use Terms.{has_turn, HasWords, held, HeldRight, inl, inputs_of, inr, InWindow, is_finished, is_handler, is_on}
@@ -16,7 +16,7 @@ use Terms.{or_right, Origin, own-control, own-word, own_named, own_of, PendingWr
 use Terms.{refl, Reservation, Reservations, ReservedBy, result_word, ResultBuffer, RightOr, Round, round_at, rounds_of}
 use Terms.{same_or_other, Serves, Set, Some, some_hold, some_inputs, stands-agree, start_from, Starts, starts_on, Store}
 use Terms.{stored_other, stored_same, subst, suc, sym, Taken, trio_of, TripleBuffer, true, unclaimed, unit_is, unit_of}
-use Terms.{value_of, Whole, will_yield, word_number, word_of, word_there, World, Yields, zero, ℕ}
+use Terms.{value_of, Whole, will_yield, word_number, word_of, word_there, World, zero, ℕ}
 use Rattle.adc_serving.specs.laws.services.TakeRoundSteps.{round_on}
 use Rattle.adc_serving.specs.laws.words.WordsChange.{BankStays, HoldStays, AllStay, CoreStays, all_stay, stays_agree}
 use Rattle.adc_serving.specs.laws.words.WordsChange.{trio_place, core_claim}
@@ -46,11 +46,7 @@ not_claimed d chip w s u r x z right ne is = one z right
     one (Claims v) h = by_line v (u == v) refl h.0
     one (Keeps v g e n i k) h = by_round v (u == v) refl h.2
     one (Whole v g n) h = by_round v (u == v) refl h.2
-    one (Clears n) h = refl
-    one (Starts v) h = refl
-    one (Yields v) h = refl
-    one (Copies n c i k) h = refl
-    one (Reads g b vs) h = refl
+    one _ h = refl
 
 pub none_claims : (d : AdcTable) (chip : Chip) (w : World) (s : AdcState) (u : ℕ) (r : Round) (hs : Reservations) → AllRight d chip w s hs → IsAlone (24 + u) hs → round_at s u ≡ Some r → some_hold (claims_on u) hs ≡ false
 none_claims d chip w s u r [] right alone is = refl
@@ -111,10 +107,7 @@ module _ (d : AdcTable) (fits : FitsAdc d) (u : ℕ) (few : u < 2) (c : Chip) (w
     one_stays w s x (Whole n k b) r free = kept_before n k
     one_stays w s x (Copies n k i q) r free = (ap (λ z. z % 4) (control_claimed k.group r.2), bank_claimed k.group n r.2)
     one_stays w s x (Reads k n vs) r free = (ap (λ z. z / 4) (control_claimed k r.2), bank_claimed k n r.2)
-    one_stays w s x (Clears n) r free = tt
-    one_stays w s x (Starts n) r free = tt
-    one_stays w s x (Yields n) r free = tt
-    one_stays w s x (Claims n) r free = tt
+    one_stays w s x _ r free = tt
 
     pub claim_stays_below : (w : World) (s : AdcState) (hs : Reservations) → AllRight d c w s hs → some_hold (claims_on u) hs ≡ false → AllStay d c (chip_after c (Store (word_number d (words.Claim u)) v) 0) hs
     claim_stays_below w s [] r free = tt
@@ -130,22 +123,19 @@ claimed_parts u x below rest e = by (x == 1) refl (some_hold (claims_on u) below
   where
     by : (p : Bool) → (x == 1) ≡ p → (q : Bool) → some_hold (claims_on u) below ≡ q → p && not q ≡ true → (x ≡ 1) × (some_hold (claims_on u) below ≡ false)
     by true i false j f = (eq_is x 1 i, j)
-    by true i true j f = absurd (cc)
-    by false i q j f = absurd (cc)
+    by _ i _ j f = absurd (cc)
 
 -- a group has a turn whose round is on a unit
 pub turn_of_round : (s : AdcState) (g u : ℕ) → u < 2 → is_round_of g (round_at s u) ≡ true → has_turn s g ≡ true
 turn_of_round s g u lt e = by u lt e
   where
     last : (a b c : Bool) → c ≡ true → a || b || c ≡ true
-    last true b c i = refl
-    last false true c i = refl
     last false false c i = i
+    last _ _ c i = refl
 
     middle : (a b c : Bool) → b ≡ true → a || b || c ≡ true
-    middle true b c i = refl
-    middle false true c i = refl
     middle false false c i = absurd (cc)
+    middle _ _ c i = refl
 
     by : (u : ℕ) → u < 2 → is_round_of g (round_at s u) ≡ true → has_turn s g ≡ true
     by zero lt i = middle (is_some (group_at s g).waiting) (is_round_of g (round_at s 0)) (is_round_of g (round_at s 1)) i

@@ -1,20 +1,20 @@
 -- A handler copies a finished round to its bank value by value, with the mask open: what words and registers agree with meanwhile.
 -- From words.WordsChange, services.ClaimRight, words.ControlWord.
 -- Used by services.CopySteps, services.ServeActRight.
-use Rattle.std.proofs.Common.{◌≡◌, ◌≢◌, ◌+◌, ◌-◌, ◌*◌, ◌/◌, ◌%◌, ◌<◌, ◌≤◌, ◌||◌, ◌==◌, [], ◌∷◌, ◌++◌, ◌∙◌, ◌⊎◌}
+use Rattle.std.proofs.Common.{◌≡◌, ◌≢◌, ◌+◌, ◌-◌, ◌*◌, ◌/◌, ◌%◌, ◌<◌, ◌≤◌, ◌==◌, [], ◌∷◌, ◌++◌, ◌∙◌, ◌⊎◌}
 use Rattle.std.proofs.Common.{if◌then◌else◌, length-drop}
 use Rattle.adc_serving.specs.Terms
 use Terms.{AdcState, AdcTable, Agrees, AllRight, ap, arith, Bank, bank_below, bank_number, bank_word, banks-apart}
-use Terms.{BanksAgree, Bool, Call, Chip, chip_after, claim_right, Claims, claims_on, Clears, control-apart, Copies}
+use Terms.{BanksAgree, Bool, Call, Chip, chip_after, claim_right, claims_on, control-apart, Copies}
 use Terms.{ends_at, eq_is, eq_other, eq_self, false, filling, Fills, fills, FillsRight, finish_of, first_held, FitsAdc}
 use Terms.{Full, group_at, group_of, HasValues, HasWords, HeldRight, inl, inputs_left, inputs_of, inr, is_finished}
 use Terms.{is_on, is_round_of, is_some, IsNext, IsRound, Keeps, kept_by, kept_in, kept_of_round, kept_word, length}
 use Terms.{length_push, List, nat_le, nat_tests, newest-in, None, on_there, Option, option_map, or_else, or_parts}
 use Terms.{own-control, own-word, own_of, pin_of, put_of, PutIn, PutStands, Putting, Reads, refl, Reservation}
 use Terms.{Reservations, ReservedBy, result_of, Round, round_at, RoundAgrees, rounds_of, same_or_other, sample_at}
-use Terms.{slice_get, Some, some_hold, Stands, stands-agree, Starts, Store, stored, stored_other, stored_same, subst}
+use Terms.{slice_get, Some, some_hold, Stands, stands-agree, Store, stored, stored_other, stored_same, subst}
 use Terms.{suc, sym, trio_of, trio_words, TripleBuffer, true, unit_is, unit_of, unit_small, unit_within, value_within}
-use Terms.{values_of, Whole, whole_values, word_at, word_number, word_of, word_there, words-after, World, Yields, zero}
+use Terms.{values_of, Whole, whole_values, word_at, word_number, word_of, word_there, words-after, World, zero}
 use Terms.{ℕ}
 use Rattle.adc_serving.specs.laws.services.ClaimRight.{claiming, claimed_parts, turn_of_round}
 use Rattle.adc_serving.specs.laws.words.ControlWord.{trio_fits}
@@ -256,10 +256,7 @@ module _ (d : AdcTable) (fits : FitsAdc d) (below : Reservations) (chip : Chip) 
       by : (k ≡ g) ⊎ (k ≢ g) → BankStays d chip now k n
       by (inl same) = subst (λ m. BankStays d chip now m n) (sym same) (bank_other n (λ f. not_pinned (sym pin_is ∙ (subst (λ m. word_of chip (trio_of (rounds_of d m)).control / 4 ≡ bank_number n + 1) same r.3.pinned ∙ ap (λ m. m + 1) f))))
       by (inr ne) = bank_group k n r.2 ne
-  one_stays y (Clears n) r free = tt
-  one_stays y (Starts v) r free = tt
-  one_stays y (Yields v) r free = tt
-  one_stays y (Claims v) r free = tt
+  one_stays y _ r free = tt
 
   below_stay : (hs : Reservations) → AllRight d chip w s hs → some_hold (claims_on u) hs ≡ false → AllStay d chip now hs
   below_stay [] r free = tt

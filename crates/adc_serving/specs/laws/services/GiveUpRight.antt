@@ -1,14 +1,14 @@
 -- A group was stopped while its round was copied: the round is served no more, and the handler gives the bank up.
 -- From services.ClaimRight.
 -- Used by services.ServeActRight, services.AfterCopySteps.
-use Rattle.std.proofs.Common.{◌≡◌, ◌≢◌, ◌<◌, ◌&&◌, ◌||◌, ◌==◌, [], ◌∷◌, ◌∙◌, ◌⊎◌, if◌then◌else◌}
+use Rattle.std.proofs.Common.{◌≡◌, ◌≢◌, ◌<◌, ◌&&◌, ◌==◌, [], ◌∷◌, ◌∙◌, ◌⊎◌, if◌then◌else◌}
 use Rattle.adc_serving.specs.Terms
 use Terms.{abandoning, abandons, AdcState, AdcTable, Agrees, AllRight, ap, Bank, bank_number, BanksAgree, Bool, Call}
-use Terms.{Chip, claim_fits, claim_right, Claims, claims_on, Clears, Copies, eq_is, eq_other, eq_self, false, Fills}
-use Terms.{first_held, FitsAdc, Full, group_of, HeldRight, inl, inputs_of, inr, is_on, is_some, Keeps, length, None}
-use Terms.{not, on_there, Option, or_else, or_parts, put_of, Reads, refl, Reservation, Reservations, ReservedBy}
-use Terms.{round_at, rounds_of, same_or_other, Some, some_hold, Starts, starts, subst, sym, trio_of, true, unit_is}
-use Terms.{unit_of, Whole, word_number, word_of, World, Yields, ℕ}
+use Terms.{Chip, claim_fits, claim_right, Claims, claims_on, eq_is, eq_other, eq_self, false, Fills}
+use Terms.{first_held, FitsAdc, Full, group_of, HeldRight, inl, inputs_of, inr, is_on, is_some, length, None}
+use Terms.{not, on_there, Option, or_else, or_parts, put_of, refl, Reservation, Reservations, ReservedBy}
+use Terms.{round_at, rounds_of, same_or_other, Some, some_hold, starts, subst, sym, trio_of, true, unit_is}
+use Terms.{unit_of, word_number, word_of, World, ℕ}
 use Rattle.adc_serving.specs.laws.services.ClaimRight.{claiming, claimed_parts}
 use Rattle.adc_groups.specs.declared.words.Word.TheVariants as words
 
@@ -31,14 +31,7 @@ module _ (d : AdcTable) (fits : FitsAdc d) (chip : Chip) (w : World) (s : AdcSta
       one : (z : Reservation) → HeldRight d chip w s x z → claims_on u z ≡ false → put_of d g z ≡ None
       one (Fills v k e b i y) h off = by v k (bank_number b) i (g == k) refl h.2 off
       one (Full v k b) h off = by v k (bank_number b) (length (inputs_of (group_of d g))) (g == k) refl h.2 off
-      one (Clears n) h off = refl
-      one (Starts v) h off = refl
-      one (Yields v) h off = refl
-      one (Keeps v k e n i y) h off = refl
-      one (Whole v k n) h off = refl
-      one (Claims v) h off = refl
-      one (Copies n c i y) h off = refl
-      one (Reads k b vs) h off = refl
+      one _ h off = refl
 
   pub no_puts : (hs : Reservations) → AllRight d chip w s hs → some_hold (claims_on u) hs ≡ false → first_held (put_of d g) hs ≡ None
   no_puts [] right free = refl

@@ -114,9 +114,7 @@ module _ (d : AdcTable) (fits : FitsAdc d) (f r : AdcBody → ℕ) (below : Rese
   releases_right vs (takes.Free c v) alone e h =
       let freed = release_agrees d fits g h.right.0.2 chip w s below h.right.0.1 alone b vs vs h in
       (subst (λ k. Agrees d below (chip_after chip (Store c k) 0) w s) (sym e.1) (subst (λ k. Agrees d below (chip_after chip (Store k (word_of chip k % 4)) 0) w s) (sym e.0) freed), (refl, Is_this_frame))
-  releases_right vs (takes.Pin c) alone e h = absurd e
-  releases_right vs (takes.Hold c v n) alone e h = absurd e
-  releases_right vs (takes.Word k) alone e h = absurd e
+  releases_right vs _ alone e h = absurd e
 
   -- each step of a call that reads is right
   abbrev reading_body : Rounds → List ℕ → Stage → AdcBody

@@ -41,6 +41,7 @@ use Rattle.chip_converter.specs.Converters as chips
 use Rattle.word_shapes.specs.PriorityQueue as ranked
 use Rattle.adc_groups.specs.declared.making.WindowWrite.TheVariants as deeds
 use Rattle.adc_groups.specs.declared.words.Word.TheVariants as words
+use Rattle.plain_facts.specs.Truths.{and_false, and_true}
 
 module _ (d : AdcTable) (fits : FitsAdc d) (below : Reservations) (chip : Chip) (w : World) (s : AdcState) (u g : ℕ) (b : Bank) (few : u < 2) (alone : IsAlone (24 + u) below) (x : Round) (is : round_at s u ≡ Some x) (h : Agrees d (claiming u (Full u g b) below) chip w s) where
   abbrev before : Reservations
@@ -144,9 +145,8 @@ module _ (d : AdcTable) (fits : FitsAdc d) (below : Reservations) (chip : Chip) 
 
     waiting_by : (f c : Bool) → is_some (served_group d s g u few lt past x.request.number values f c).waiting ≡ c && not f
     waiting_by true true = ap (λ q. is_some q) waits_none
-    waiting_by true false = ap (λ q. is_some q) waits_none
     waiting_by false true = refl
-    waiting_by false false = ap (λ q. is_some q) waits_none
+    waiting_by _ _ = ap (λ q. is_some q) waits_none
 
     waits_now : is_some (group_at t g).waiting ≡ c && not f
     waits_now = ap (λ (z : GroupState). is_some z.waiting) group_now ∙ waiting_by f c
@@ -159,47 +159,39 @@ module _ (d : AdcTable) (fits : FitsAdc d) (below : Reservations) (chip : Chip) 
     rounds_now = ap (λ (z : GroupState). z.rounds) group_now ∙ by f c
       where
         by : (f c : Bool) → (served_group d s g u few lt past x.request.number values f c).rounds ≡ (group_at s g).rounds ++ values ∷ []
-        by true c = refl
         by false true = refl
-        by false false = refl
+        by _ _ = refl
 
     status_now : (group_at t g).status ≡ status_after (length (group_at s g).rounds % samples_of (group_of d g) + 1 == samples_of (group_of d g)) (group_at s g).status
     status_now = ap (λ (z : GroupState). z.status) group_now ∙ by f c
       where
         by : (f c : Bool) → (served_group d s g u few lt past x.request.number values f c).status ≡ status_after (length (group_at s g).rounds % samples_of (group_of d g) + 1 == samples_of (group_of d g)) (group_at s g).status
-        by true c = refl
         by false true = refl
-        by false false = refl
+        by _ _ = refl
 
     chosen_now : (group_at t g).chosen ≡ (group_at s g).chosen
     chosen_now = ap (λ (z : GroupState). z.chosen) group_now ∙ by f c
       where
         by : (f c : Bool) → (served_group d s g u few lt past x.request.number values f c).chosen ≡ (group_at s g).chosen
-        by true c = refl
         by false true = refl
-        by false false = refl
+        by _ _ = refl
 
     notified_now : (group_at t g).notification ≡ (group_at s g).notification
     notified_now = ap (λ (z : GroupState). z.notification) group_now ∙ by f c
       where
         by : (f c : Bool) → (served_group d s g u few lt past x.request.number values f c).notification ≡ (group_at s g).notification
-        by true c = refl
         by false true = refl
-        by false false = refl
+        by _ _ = refl
 
     trigger_now : (group_at t g).trigger ≡ (group_at s g).trigger && not f
     trigger_now = ap (λ (z : GroupState). z.trigger) group_now ∙ by f c
       where
-        and_off : (q : Bool) → false ≡ q && false
-        and_off true = refl
-        and_off false = refl
-
         and_on : (q : Bool) → q ≡ q && true
         and_on true = refl
         and_on false = refl
 
         by : (f c : Bool) → (served_group d s g u few lt past x.request.number values f c).trigger ≡ (group_at s g).trigger && not f
-        by true c = and_off (group_at s g).trigger
+        by true c = elim (group_at s g).trigger as (λ q. false ≡ q && false) [ true ↦ refl | false ↦ refl ]
         by false true = and_on (group_at s g).trigger
         by false false = and_on (group_at s g).trigger
 
@@ -308,11 +300,7 @@ module _ (d : AdcTable) (fits : FitsAdc d) (below : Reservations) (chip : Chip) 
     -- ---- triggers
 
     deaf : f ≡ true → (group_at t1 g).trigger ≡ false
-    deaf e = trigger_now f c ∙ (ap (λ q. (group_at s g).trigger && not q) e ∙ and_off (group_at s g).trigger)
-      where
-        and_off : (q : Bool) → q && false ≡ false
-        and_off true = refl
-        and_off false = refl
+    deaf e = trigger_now f c ∙ (ap (λ q. (group_at s g).trigger && not q) e ∙ and_false (group_at s g).trigger)
 
     trigger_others : (k : ℕ) → k ≢ g → (group_at t1 k).trigger ≡ (group_at s k).trigger
     trigger_others k ne = ap (λ (q : GroupState). q.trigger) (others_as f c k ne)
@@ -337,12 +325,8 @@ module _ (d : AdcTable) (fits : FitsAdc d) (below : Reservations) (chip : Chip) 
       listens_as : (i : ℕ) → listener d t1 i ≡ listener d s i
       listens_as = listener_as d s t1 (λ k. by k (same_or_other k g))
         where
-          and_on : (q : Bool) → q && true ≡ q
-          and_on true = refl
-          and_on false = refl
-
           by : (k : ℕ) → (k ≡ g) ⊎ (k ≢ g) → (group_at t1 k).trigger ≡ (group_at s k).trigger
-          by k (inl i) = subst (λ n. (group_at t1 n).trigger ≡ (group_at s n).trigger) (sym i) (trigger_now f c ∙ (ap (λ q. (group_at s g).trigger && not q) e ∙ and_on (group_at s g).trigger))
+          by k (inl i) = subst (λ n. (group_at t1 n).trigger ≡ (group_at s n).trigger) (sym i) (trigger_now f c ∙ (ap (λ q. (group_at s g).trigger && not q) e ∙ and_true (group_at s g).trigger))
           by k (inr ne) = trigger_others k ne
 
       rest_triggers : TriggersAgree d z.converters t1
@@ -503,9 +487,8 @@ module _ (d : AdcTable) (fits : FitsAdc d) (below : Reservations) (chip : Chip) 
       where
         asks : (f c : Bool) → c && not f ≡ true → (served_group d s g u few lt past x.request.number values f c).waiting ≡ Some (record { number = x.request.number; kept = [] })
         asks true true i = off_on i
-        asks true false i = off_on i
         asks false true i = refl
-        asks false false i = off_on i
+        asks _ _ i = off_on i
 
         none : kept_in d t1 g ≡ []
         none = ap (λ q. kept_by q (kept_of_round g (round_at t1 (unit_of (group_of d g))))) (ap (λ (q : GroupState). q.waiting) (group_now f c) ∙ asks f c e)
@@ -550,9 +533,8 @@ module _ (d : AdcTable) (fits : FitsAdc d) (below : Reservations) (chip : Chip) 
       where
         own : (f c : Bool) → c && not f ≡ true → number_by (served_group d s g u few lt past x.request.number values f c).waiting (round_at t1 (unit_of (group_of d g))) ≡ x.request.number
         own true true i = off_on i
-        own true false i = off_on i
         own false true i = refl
-        own false false i = off_on i
+        own _ _ i = off_on i
 
         own_was : number_at d s g ≡ x.request.number
         own_was = ap (λ q. number_by q (round_at s (unit_of (group_of d g)))) waits_none ∙ (ap (λ n. number_by None (round_at s n)) here ∙ ap (λ q. number_by None q) is)
@@ -591,10 +573,9 @@ module _ (d : AdcTable) (fits : FitsAdc d) (below : Reservations) (chip : Chip) 
 
         by : (f c : Bool) → (served_group d s g u few lt past x.request.number values f c).waiting ≡ Some r → t1.requests ≡ s.requests → IsSoundRequest d t1 g r
         by true true i same = absurd (none (group_at s g).waiting waits_none i)
-        by true false i same = absurd (none (group_at s g).waiting waits_none i)
         by false true i same =
             subst (λ (q : Request). IsSoundRequest d t1 g q) (some_same i) (sound_request.0, subst (λ n. x.request.number ≤ n) (sym same) sound_request.1, some_inputs_left, λ k. refl)
-        by false false i same = absurd (none (group_at s g).waiting waits_none i)
+        by _ _ i same = absurd (none (group_at s g).waiting waits_none i)
 
     hears_now : has_turn t1 g ≡ true → is_some (trigger_input (group_of d g)) ≡ true → (group_at t1 g).trigger ≡ true
     hears_now turned i = trigger_now f c ∙ (ap (λ q. q && not f) (h.sound.hears g turn_was i) ∙ by f c (sym (turn_now f c) ∙ turned))

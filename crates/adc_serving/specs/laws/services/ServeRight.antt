@@ -108,10 +108,9 @@ module _ (d : AdcTable) (fits : FitsAdc d) (f r : AdcBody → ℕ) (below : Rese
     heard = by (group_at s t.group).trigger refl (is_some (trigger_input (group_of d t.group))) refl
       where
         by : (a : Bool) → (group_at s t.group).trigger ≡ a → (b : Bool) → is_some (trigger_input (group_of d t.group)) ≡ b → a ≡ b
-        by true e true i = refl
         by true e false i = absurd (let on = sound.input e in cc)
         by false e true i = absurd (let on = h.sound.hears t.group turned i in cc)
-        by false e false i = refl
+        by _ e _ i = refl
 
     phase_is : phase_number (phase_after d t.group seen full) ≡ phase_of (status_after (length (group_at s t.group).rounds % samples_of (group_of d t.group) + 1 == samples_of (group_of d t.group)) (group_at s t.group).status) (is_continuous (group_of d t.group) && not full || (group_at s t.group).trigger && not full)
     phase_is =

@@ -28,10 +28,9 @@ turn_set true j x = set_at 6 0 j x
 turn_set false j x = set_at 3 0 j x
 
 serves_all : (d : AdcTable) (u g c p n : ℕ) (again off : Bool) → AllOf g u (serves_of d u g c p n again off)
-serves_all d u g c p n true true = (refl, (refl, (refl, (refl, (refl, (tt, (tt, (refl, tt))))))))
 serves_all d u g c p n true false = (refl, (refl, (refl, (refl, (refl, (refl, tt))))))
-serves_all d u g c p n false true = (refl, (refl, (refl, (refl, (refl, (tt, (tt, (refl, tt))))))))
 serves_all d u g c p n false false = (refl, (refl, (refl, (refl, (refl, (refl, tt))))))
+serves_all d u g c p n _ _ = (refl, (refl, (refl, (refl, (refl, (tt, (tt, (refl, tt))))))))
 
 serves_low : (d : AdcTable) (u g c p n : ℕ) (again off : Bool) (j x : ℕ) → lows_set (serves_of d u g c p n again off) j x ≡ turn_set again j (set_at 0 n j (set_at 5 p j (set_at 4 c j x)))
 serves_low d u g c p n true true j x = refl

@@ -9,7 +9,7 @@ use Terms.{Entered, false, finished_here, FitsAdc, Flag, flagged, FrameHistory, 
 use Terms.{group_of, held, InFlag, InWindow, is_done, is_on, Is_this_frame, List, Load, looking, Looks, looks_right}
 use Terms.{missed_after, nat_le, nat_lt, nat_tests, None, not, on_there, Option, Origin, over, Place, place_ends, Put}
 use Terms.{put_start, Read, ready, refl, Reservations, RightOr, Round, round_at, rounds_of, running_of, Some, subst}
-use Terms.{suc, sym, take_by, trio_of, true, value_of, within, word_number, word_of, World, zero, ℕ}
+use Terms.{or_right, suc, sym, take_by, trio_of, true, value_of, within, word_number, word_of, World, zero, ℕ}
 use Rattle.adc_stream.specs.declared.rounds.Bank.TheVariants.{Zero}
 use Rattle.adc_groups.specs.laws.services.Decisions.{take}
 use Rattle.adc_serving.specs.laws.words.ControlWord.{number_of_bank}
@@ -19,23 +19,22 @@ use Rattle.word_shapes.specs.declared.put.Put.TheVariants as put
 use Rattle.word_shapes.specs.declared.put.PutPart.TheVariants as puts
 use Rattle.adc_groups.specs.declared.window.Window.TheVariants as windows
 use Rattle.adc_groups.specs.declared.words.Word.TheVariants as words
+use Rattle.std.proofs.lemmas.Bool.{and_right}
 
 -- the state of a unit is 2 where its round is finished
 state_two : (x : rounds.Round) (now : ℕ) → (rounds.state x now == 2) ≡ rounds.is_finished x now
 state_two x now = by (rounds.is_idle x) (rounds.ended x now == x.count)
   where
     by : (idle all : Bool) → ((if idle then 0 else (if all then 2 else 1)) == 2) ≡ not idle && all
-    by true all = refl
     by false true = refl
-    by false false = refl
+    by _ _ = refl
 
 free_three : (n : ℕ) → free n < 3
 free_three n = by (not (n % 4 == 0 || (nat_lt 0 (n / 4) && n / 4 - 1 == 0))) (not (n % 4 == 1 || (nat_lt 0 (n / 4) && n / 4 - 1 == 1)))
   where
     by : (p q : Bool) → (if p then 0 else if q then 1 else 2) < 3
-    by true q = omega arith
     by false true = omega arith
-    by false false = omega arith
+    by _ _ = omega arith
 
 group_back : (g : ℕ) → g < 16 → group_in (1 + g) ≡ Some g
 group_back g lt = by (nat_lt 0 (1 + g) && nat_le (1 + g) 16) (grind (arith, nat_tests))
@@ -62,19 +61,11 @@ module _ (d : AdcTable) (fits : FitsAdc d) (f r : AdcBody → ℕ) (below : Rese
   -- ---- the register of the line
 
   pub off_line : (u : ℕ) → u < 2 → is_done d w (round_at s u) ≡ false → missed (24 + u) ≡ true
-  off_line u lt none = or_true (m (24 + u)) (not (ready d w s (24 + u))) (ap (λ q. not q) (by u lt none))
+  off_line u lt none = or_right (m (24 + u)) (not (ready d w s (24 + u))) (ap (λ q. not q) (by u lt none))
     where
-      or_true : (a b : Bool) → b ≡ true → a || b ≡ true
-      or_true true b e = refl
-      or_true false b e = e
-
-      and_off : (a b : Bool) → b ≡ false → a && b ≡ false
-      and_off true b e = e
-      and_off false b e = refl
-
       by : (u : ℕ) → u < 2 → is_done d w (round_at s u) ≡ false → ready d w s (24 + u) ≡ false
-      by zero lt e = and_off s.initialised (is_done d w (round_at s 0)) e
-      by (suc zero) lt e = and_off s.initialised (is_done d w (round_at s 1)) e
+      by zero lt e = and_right s.initialised (is_done d w (round_at s 0)) e
+      by (suc zero) lt e = and_right s.initialised (is_done d w (round_at s 1)) e
       by (suc (suc u)) lt e = absurd (omega (arith, lt))
 
   pub take_flag : (u : ℕ) (o : Origin Call) (p : FrameHistory) → InFlag d (windows.Take u) below o p → Agrees d below chip w s → StepRight (Flag (windows.Take u)) o p

@@ -4,14 +4,14 @@
 use Rattle.std.proofs.Common.{◌≡◌, ◌≢◌, ◌+◌, ◌*◌, ◌/◌, ◌%◌, ◌<◌, ◌≤◌, ◌&&◌, ◌||◌, ◌==◌, [], ◌∷◌, ◌∙◌, ◌⊎◌}
 use Rattle.adc_serving.specs.Terms
 use Terms.{AdcState, AdcTable, Agrees, AllRight, ap, arith, Bank, bank_below, bank_number, bank_word, bit_of, Bool}
-use Terms.{buffer_by, buffer_in, Call, Chip, chip_after, claim_right, Claims, Clears, Column, column_word, Copies}
+use Terms.{buffer_by, buffer_in, Call, Chip, chip_after, claim_right, Column, column_word, Copies}
 use Terms.{CopiesRight, Entered, eq_is, false, Fills, FitsAdc, Full, Group, group_of, HasWords, HeldRight, inl}
 use Terms.{inputs_of, inr, is_owed, is_same, is_some, Keeps, length, mod-add-div, mul-le-mul, mul-le-mul_right}
 use Terms.{mul_comm, nat_le, nat_tests, None, on_there, Option, or_parts, own-control, own-word, own_of, place_count}
 use Terms.{place_value, place_words, Reads, refl, Reservation, Reservations, ReservedBy, result_word, ResultBuffer}
 use Terms.{rounds_of, same_or_other, samples_of, Some, some_hold, stands-agree, Starts, Store, stored_other}
 use Terms.{stored_same, subst, sym, trio_of, true, unit_of, unit_small, unit_within, USERS, Whole, word_number, word_of}
-use Terms.{word_there, World, Yields, ℕ}
+use Terms.{word_there, World, ℕ}
 use Rattle.adc_serving.specs.laws.{services.ClaimRight.{claiming}, words.WordsChange.{BankStays, HoldStays, AllStay}}
 use Rattle.adc_serving.specs.laws.{words.WordsChange.{CoreStays, all_stay, stays_agree, core_place, trio_far}}
 use Rattle.adc_machine.specs.declared.call.ResultBuffer.TheVariants as buffers
@@ -52,11 +52,9 @@ module _ (d : AdcTable) (fits : FitsAdc d) (c : Column) (there : is_some (group_
       sym whole ∙ (ap (λ n. n + c.samples * (p / c.samples)) rest ∙ (ap (λ n. c.place + c.samples * n) is ∙ turned c.samples i c.place))
     where
       between : (i n : ℕ) → i ≤ n → (i + 1 ≤ n → ⊥) → n ≡ i
-      between i n low high = by (same_or_other n i)
-        where
-          by : (n ≡ i) ⊎ (n ≢ i) → n ≡ i
-          by (inl e) = e
-          by (inr ne) = absurd (high (omega (arith, low, ne)))
+      between i n low high =
+          elim (same_or_other n i) as (λ _. n ≡ i)
+          [ inl e ↦ e | inr ne ↦ absurd (high (omega (arith, low, ne))) ]
 
       turned : (m i k : ℕ) → k + m * i ≡ i * m + k
       turned m i k = ap (λ n. k + n) (mul_comm m i) ∙ omega arith
@@ -103,14 +101,11 @@ module _ (d : AdcTable) (below : Reservations) (chip : Chip) (w : World) (s : Ad
     free_again k n p lt = by (c.group == k) refl (is_same (buffer_in c) n) (p % c.samples == c.place) (nat_le (length (inputs_of (group_of d c.group))) (p / c.samples)) refl
       where
         by : (q : Bool) → (c.group == k) ≡ q → (a z o : Bool) → nat_le (length (inputs_of (group_of d c.group))) (p / c.samples) ≡ o → q && (a && (z && o)) ≡ false
-        by false e a z o i = refl
-        by true e false z o i = refl
-        by true e true false o i = refl
-        by true e true true false i = refl
         by true e true true true i = absurd (owed_none d fits c there samples within p (subst (λ m. p < place_count d m) (sym (eq_is c.group k e)) lt) (le (length (inputs_of (group_of d c.group))) (p / c.samples) i))
           where
             le : (x y : ℕ) → nat_le x y ≡ true → x ≤ y
             le x y f = grind (arith, nat_tests)
+        by _ e _ _ _ i = refl
 
     pub tells_all : Agrees d (record { by = Entered (24 + u); what = Starts u; acted = None } ∷ below) chip w s
     tells_all = record {
@@ -181,10 +176,7 @@ module _ (d : AdcTable) (fits : FitsAdc d) (below : Reservations) (chip : Chip) 
   one_stays y (Whole v k n) r = λ f. sym (claim_stays v (unit_within d fits v k r.1)) ∙ f
   one_stays y (Copies n k j q) r = (ap (λ m. m % 4) (control_stays k.group r.2), bank_stays k.group n r.2)
   one_stays y (Reads k n vs) r = (ap (λ m. m / 4) (control_stays k r.2), bank_stays k n r.2)
-  one_stays y (Clears n) r = tt
-  one_stays y (Starts v) r = tt
-  one_stays y (Yields v) r = tt
-  one_stays y (Claims v) r = tt
+  one_stays y _ r = tt
 
   below_stay : (hs : Reservations) → AllRight d chip w s hs → AllStay d chip now hs
   below_stay [] r = tt
@@ -200,16 +192,14 @@ module _ (d : AdcTable) (fits : FitsAdc d) (below : Reservations) (chip : Chip) 
 
   -- places are told by their words
   column_one : (g k p q : ℕ) (m n : ResultBuffer) → p < 2048 → q < 2048 → result_word g m p ≡ result_word k n q → (g ≡ k) × (m ≡ n) × (p ≡ q)
-  column_one g k p q buffers.Zero buffers.Zero small less e = (omega (arith, e, small, less), refl, omega (arith, e, small, less))
-  column_one g k p q buffers.One buffers.One small less e = (omega (arith, e, small, less), refl, omega (arith, e, small, less))
   column_one g k p q buffers.Zero buffers.One small less e = absurd (omega (arith, e, small, less))
   column_one g k p q buffers.One buffers.Zero small less e = absurd (omega (arith, e, small, less))
+  column_one g k p q _ _ small less e = (omega (arith, e, small, less), refl, omega (arith, e, small, less))
 
   same_buffer : (m n : ResultBuffer) → is_same m n ≡ true → m ≡ n
-  same_buffer buffers.Zero buffers.Zero e = refl
-  same_buffer buffers.One buffers.One e = refl
   same_buffer buffers.Zero buffers.One e = absurd (cc)
   same_buffer buffers.One buffers.Zero e = absurd (cc)
+  same_buffer _ _ e = refl
 
   few_places : (k p : ℕ) → p < place_count d k → p < 2048
   few_places k p less = by (group_of d k) refl less
@@ -232,13 +222,10 @@ module _ (d : AdcTable) (fits : FitsAdc d) (below : Reservations) (chip : Chip) 
       past x y f g = grind (arith, nat_tests)
 
       by : (q : Bool) → (c.group == k) ≡ q → (a : Bool) → is_same (buffer_in c) n ≡ a → (z : Bool) → (p % c.samples == c.place) ≡ z → (o : Bool) → nat_le i (p / c.samples) ≡ o → q && (a && (z && nat_le (i + 1) (p / c.samples))) ≡ false → q && (a && (z && o)) ≡ false
-      by false e a f z g o j free = refl
-      by true e false f z g o j free = refl
-      by true e true f false g o j free = refl
-      by true e true f true g false j free = refl
       by true e true f true g true j free = absurd (ne (
           let is = owed_place d fits c here samples within i p (eq_is (p % c.samples) c.place g) (le i (p / c.samples) j) (past (i + 1) (p / c.samples) free) in
           ap (λ m. result_word m n p) (sym (eq_is c.group k e)) ∙ (ap (λ m. result_word c.group m p) (sym (same_buffer (buffer_in c) n f)) ∙ ap (λ m. result_word c.group (buffer_in c) m) is)))
+      by _ e _ f _ g _ j free = refl
 
   places_by : (k : ℕ) (n : ResultBuffer) (p : ℕ) → p < place_count d k → some_hold (is_owed k n p) after ≡ false → (result_word k n p ≡ word) ⊎ (result_word k n p ≢ word) → word_of now (result_word k n p) ≡ place_value s k n p
   places_by k n p less free (inl e) =

@@ -97,14 +97,15 @@ module _ (k : Option Group) (some : 0 < samples_of k) (n g : ℕ) (second : Bool
   group_unstored h c p ne = is.groups h c p ne
 
   same_buffer : (c e : ResultBuffer) → (is_same c e ≡ true) × (c ≡ e) ⊎ (e ≢ c)
-  same_buffer Zero Zero = inl (refl, refl)
   same_buffer Zero One = inr (λ e. absurd (cc))
   same_buffer One Zero = inr (λ e. absurd (cc))
-  same_buffer One One = inl (refl, refl)
+  same_buffer _ _ = inl (refl, refl)
 
   -- a place that no frame has yet to copy to
   pub place_unstored : (h : ℕ) (c : ResultBuffer) (p : ℕ) (b : Bank) → n % samples_of k < samples_of k → is_owed h c p (Copies b (record { group = g; second = second; samples = samples_of k; place = n % samples_of k }) 0 None) ≡ false → held_in results_of h c p ≡ held_in held h c p
-  place_unstored h c p b lt free = by_group (same_or_other h g)
+  place_unstored h c p b lt free =
+      elim (same_or_other h g)
+      [ inl e ↦ by_buffer e (same_buffer (buffer_by second) c) | inr ne ↦ group_unstored h c p ne ]
     where
       at_place : (h ≡ g) → (is_same (buffer_by second) c ≡ true) → (j : ℕ) → p ≡ j * samples_of k + n % samples_of k → ⊥
       at_place e i j f =
@@ -117,14 +118,8 @@ module _ (k : Option Group) (some : 0 < samples_of k) (n g : ℕ) (second : Bool
 
           all : (x y z v : Bool) → x ≡ true → y ≡ true → z ≡ true → v ≡ true → x && (y && (z && v)) ≡ true
           all true true true v e f i j = j
-          all false y z v e f i j = absurd (cc)
-          all true false z v e f i j = absurd (cc)
-          all true true false v e f i j = absurd (cc)
+          all _ _ _ v e f i j = absurd (cc)
 
       by_buffer : h ≡ g → (is_same (buffer_by second) c ≡ true) × (buffer_by second ≡ c) ⊎ (c ≢ buffer_by second) → held_in results_of h c p ≡ held_in held h c p
       by_buffer e (inl i) = subst (λ z. held_in results_of z c p ≡ held_in held z c p) (sym e) (subst (λ z. held_in results_of g z p ≡ held_in held g z p) i.1 (is.places p (λ j lt f. at_place e i.0 j f)))
       by_buffer e (inr ne) = subst (λ z. held_in results_of z c p ≡ held_in held z c p) (sym e) (is.buffers c p ne)
-
-      by_group : (h ≡ g) ⊎ (h ≢ g) → held_in results_of h c p ≡ held_in held h c p
-      by_group (inl e) = by_buffer e (same_buffer (buffer_by second) c)
-      by_group (inr ne) = group_unstored h c p ne

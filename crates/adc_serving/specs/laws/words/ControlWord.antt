@@ -4,14 +4,14 @@
 use Rattle.std.proofs.Common.{◌≡◌, ◌≢◌, ◌+◌, ◌*◌, ◌/◌, ◌%◌, ◌<◌, ◌==◌, [], ◌∷◌, ◌∙◌, ◌⊎◌, if◌then◌else◌}
 use Rattle.adc_serving.specs.Terms
 use Terms.{AdcState, AdcTable, Agrees, AllRight, ap, arith, Bank, bank_below, bank_number, bank_of, bank_word, Banks}
-use Terms.{BanksAgree, Bool, Call, Called, Chip, chip_after, claim_right, Claims, Clears, control-apart, Copies, EOk}
+use Terms.{BanksAgree, Bool, Call, Called, Chip, chip_after, claim_right, control-apart, Copies, EOk}
 use Terms.{eq_other, eq_self, false, Fills, first_held, Fits, FitsAdc, Full, group_of, HasWords, HeldRight, inl}
 use Terms.{inputs_of, inr, is_some, IsBank, Keeps, length, List, listed, named_with, nat_tests, newest-in, None}
 use Terms.{on_there, Option, option_map, or_else, own-control, own-word, own_of, pinning, pins, put_of, ReadGroup}
 use Terms.{Reads, refl, releases, releasing, Reservation, Reservations, ReservedBy, result_word, ResultBuffer}
-use Terms.{rounds_of, same_or_other, Some, Stands, stands-agree, start_from, Starts, Store, stored, stored_other}
+use Terms.{rounds_of, same_or_other, Some, Stands, stands-agree, start_from, Store, stored, stored_other}
 use Terms.{stored_same, subst, sym, take_of, Taking, trio_of, trio_words, TripleBuffer, true, unit_of, unit_small}
-use Terms.{unit_within, Whole, word_at, word_number, word_of, word_there, WORDS, words-after, World, Yields, ℕ}
+use Terms.{unit_within, Whole, word_at, word_number, word_of, word_there, WORDS, words-after, World, ℕ}
 use Rattle.adc_serving.specs.laws.words.WordsChange.{BankStays, HoldStays, AllStay, CoreStays, all_stay, stays_agree}
 use Rattle.adc_serving.specs.laws.words.WordsChange.{core_trio, trio_other, trio_claim, trio_result}
 use Rattle.adc_machine.specs.declared.call.Call.TheVariants as calls
@@ -101,10 +101,7 @@ module _ (d : AdcTable) (fits : FitsAdc d) (g : ℕ) (there : is_some (group_of 
           other : (q : Bool) → (g == k) ≡ q → (if q then Some (bank_number n) else None) ≡ None → g ≢ k
           other true e f i = absurd (cc)
           other false e f i = absurd (let on : (g == k) ≡ true = ap (λ z. g == z) (sym i) ∙ eq_self g in cc)
-      one_stays w s x (Clears n) r none = tt
-      one_stays w s x (Starts u) r none = tt
-      one_stays w s x (Yields u) r none = tt
-      one_stays w s x (Claims u) r none = tt
+      one_stays w s x _ r none = tt
 
       pub control_stays : (w : World) (s : AdcState) (hs : Reservations) → AllRight d c w s hs → first_held (take_of g) hs ≡ None → AllStay d c now hs
       control_stays w s [] r none = tt

@@ -6,10 +6,9 @@ use Terms.{AdcTable, arith, Bank, bank_word, Bool, false, group_word, nat_le, na
 use Terms.{trio_of, true, ℕ}
 
 pub three_off : (a b c : Bool) → b ≡ false → c ≡ false → a || b || c ≡ a
-three_off true b c e f = refl
-three_off false false false e f = refl
 three_off false true c e f = absurd (cc)
 three_off false false true e f = absurd (cc)
+three_off _ _ _ e f = refl
 
 pub some_left : (m n : ℕ) → m < n → 0 < n
 some_left m n less = omega (arith, less)

@@ -7,6 +7,7 @@ use Terms.{lt_is, lt_isnt, min, mod-eq_of_lt, mod-lt, mod_self, nat_le, nat_lt, 
 use Terms.{phase_number, phase_of, phase_on, refl, samples_of, Status, status_after, StreamCompleted, subst, suc}
 use Terms.{suc-mod, sym, true, ℕ}
 use Rattle.adc_groups.specs.declared.words.Phase.TheVariants as phases
+use Rattle.plain_facts.specs.Numbers.{eq_from}
 
 pub count_after : (n m : ℕ) → one_more (min n m) m ≡ min (n + 1) m
 count_after n m = by (nat_lt (min n m) m) refl
@@ -47,12 +48,9 @@ last_after n m some few = ap (λ q. (if q && nat_lt (n % m + 1) m then n % m + 1
     more : (k : ℕ) → (k + 1 == 0) ≡ false
     more k = grind (arith, nat_tests)
 
-    on : (k j : ℕ) → k ≡ j → (k == j) ≡ true
-    on k j e = grind (arith, nat_tests)
-
     by : (q : Bool) → nat_lt (n % m + 1) m ≡ q → ((if q then n % m + 1 else 0) == 0) ≡ (n % m + 1 == m)
     by true e = more (n % m) ∙ sym (off (n % m + 1) m (lt_is (n % m + 1) m e))
-    by false e = sym (on (n % m + 1) m (let le = lt_isnt (n % m + 1) m e in let lt = less in omega (arith, le, lt)))
+    by false e = sym (eq_from (n % m + 1) m (let le = lt_isnt (n % m + 1) m e in let lt = less in omega (arith, le, lt)))
 
 -- a stream is full by the rounds that its buffer holds
 pub full_after : (k : Option Group) (n : ℕ) → is_full k (one_more (min n (samples_of k)) (samples_of k)) ≡ is_full k (n + 1)

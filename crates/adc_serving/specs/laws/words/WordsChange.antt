@@ -3,14 +3,14 @@
 use Rattle.std.proofs.Common.{◌≡◌, ◌≢◌, ◌+◌, ◌-◌, ◌*◌, ◌/◌, ◌%◌, ◌<◌, ◌≤◌, ◌&&◌, ◌||◌, ◌==◌, [], ◌∷◌, ◌∙◌, ◌⊎◌}
 use Rattle.adc_serving.specs.Terms
 use Terms.{AdcState, AdcTable, Agrees, AllRight, ap, arith, Backed, Bank, bank_word, BanksAgree, Bool, Call, cases_lt}
-use Terms.{Chip, chip_after, claim_right, Claims, Clears, Converters, Copies, end_of, eq_is, eq_other, false, Fills}
+use Terms.{Chip, chip_after, claim_right, Clears, Converters, Copies, end_of, eq_is, eq_other, false, Fills}
 use Terms.{FitsAdc, Full, Group, group_of, group_word, GroupAgrees, has_bit, HasWords, HeldRight, holds-agree, inl}
 use Terms.{inputs_of, inr, is_on, is_some, IsBlock, Keeps, KeepsRight, kept_within, kept_word, length, length-set}
-use Terms.{listed_agree, nat_le, nat_lt, nat_tests, None, on_there, Option, order_of, order_own, own_of, place_apart}
+use Terms.{listed_agree, nat_le, nat_lt, nat_tests, on_there, Option, order_of, order_own, own_of, place_apart}
 use Terms.{PlacesAgree, Promised, Reads, refl, Reservation, Reservations, ReservedBy, result_word, ResultBuffer, Round}
-use Terms.{round_at, RoundAgrees, rounds_of, same_or_other, slice_get, Some, stands_words, start_from, start_of, Starts}
+use Terms.{round_at, RoundAgrees, rounds_of, same_or_other, slice_get, Some, stands_words, start_from, start_of}
 use Terms.{STATE, Store, stored_other, subst, sym, TriggersAgree, trio_apart, trio_of, true, unit_of, UnitAgrees}
-use Terms.{value_within, values_of, Whole, WholeRight, word_number, word_of, World, Yields, ℕ}
+use Terms.{value_within, values_of, Whole, WholeRight, word_number, word_of, World, ℕ}
 use Rattle.chip_converter.specs.Converters as chips
 use Rattle.chip_converter.specs.Rounds as rounds
 use Rattle.adc_machine.specs.declared.call.ResultBuffer.TheVariants as buffers
@@ -81,9 +81,6 @@ module _ (d : AdcTable) (fits : FitsAdc d) (before : Reservations) (a b : Chip) 
 
   pub held_stays : (x : ReservedBy Call Reservation) (z : Reservation) → HoldStays d a b z → HeldRight d a w s x z → HeldRight d b w s x z
   held_stays x (Clears n) stays r = absurd (let none = r.1 in let some = on in cc)
-  held_stays x (Starts u) stays r = r
-  held_stays x (Yields u) stays r = r
-  held_stays x (Claims u) stays r = r
   held_stays x (Fills u k e n i y) stays r = (r.0, r.1, r.2, (let q = r.3 in record { same = q.same; filled = λ z m v o less is. stays m (few_values u z k o (q.same z o).0 m v is) ∙ q.filled z m v o less is; next = q.next }))
   held_stays x (Full u k n) stays r = (r.0, r.1, r.2, (let q = r.3 in record { same = q.same; filled = λ z m v o is. stays m (few_values u z k o (q.same z o).0 m v is) ∙ q.filled z m v o is }))
   held_stays x (Keeps u k e n i y) stays r = (r.0, r.1, r.2, λ f. keeps_stays u k e n i y r.1 (r.3 (stays.0 f)), λ f. r.4 (λ q. f (stays.1 q)))
@@ -104,6 +101,7 @@ module _ (d : AdcTable) (fits : FitsAdc d) (before : Reservations) (a b : Chip) 
     where
       word : (m : ℕ) → m < length (inputs_of (group_of d k)) → word_of b (bank_word (rounds_of d k) n 0 + m) ≡ word_of a (bank_word (rounds_of d k) n 0 + m)
       word m less = let same : bank_word (rounds_of d k) n m ≡ bank_word (rounds_of d k) n 0 + m = omega arith in subst (λ z. word_of b z ≡ word_of a z) same (stays.1 m less)
+  held_stays x _ stays r = r
 
   pub all_stay : (hs : Reservations) → AllStay d a b hs → AllRight d a w s hs → AllRight d b w s hs
   all_stay [] stays r = tt
@@ -168,9 +166,8 @@ module _ (d : AdcTable) (fits : FitsAdc d) where
       ]
 
       by : (k l : Option Group) → group_of d g ≡ k → group_of d h ≡ l → is_some k ≡ true → is_some l ≡ true → i < 32 + 6 * length (inputs_of k) → j < 32 + 6 * length (inputs_of l) → STATE + start_of l + j ≢ STATE + start_of k + i
-      by None l e f p q low few = absurd (cc)
-      by (Some k) None e f p q low few = absurd (cc)
       by (Some k) (Some l) e f p q low few = less k l ne fits.apart e f low few
+      by _ _ e f p q low few = absurd (cc)
 
   is_control : (k at first len : ℕ) → (k == at) ≡ false → k == at || (nat_le first k && nat_lt k (first + len)) ≡ true → (first ≤ k) × (k < first + len)
   is_control k at first len off own = (grind (arith, nat_tests), grind (arith, nat_tests))

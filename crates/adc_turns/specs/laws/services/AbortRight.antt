@@ -33,6 +33,7 @@ use Rattle.adc_groups.specs.declared.making.StructureOp.TheVariants as shapes
 use Rattle.adc_groups.specs.declared.making.Continuation.TheVariants as thens
 use Rattle.adc_groups.specs.declared.window.Window.TheVariants as windows
 use Rattle.adc_groups.specs.declared.words.Word.TheVariants as words
+use Rattle.std.proofs.lemmas.Bool.{not-false, or_parts}
 
 -- what the window makes after the abort and the order, by whether the group suspends
 abbrev pub deeds_of : (unit group : ℕ) → Bool → List WindowWrite
@@ -157,11 +158,7 @@ module _ (d : AdcTable) (fits : FitsAdc d) (below : Reservations) (chip : Chip) 
   unit_was = (h.settled on).units u few
 
   claim_was : word_of chip (word_number d (words.Claim u)) ≡ 0
-  claim_was = eq_is (word_of chip (word_number d (words.Claim u))) 0 (off (word_of chip (word_number d (words.Claim u)) == 0) (sym (unclaimed u (word_of chip (word_number d (words.Claim u))) below ((h.settled on).claims u few)) ∙ none_claims))
-    where
-      off : (q : Bool) → not q ≡ false → q ≡ true
-      off true f = refl
-      off false f = absurd (cc)
+  claim_was = eq_is (word_of chip (word_number d (words.Claim u))) 0 (not-false (word_of chip (word_number d (words.Claim u)) == 0) (sym (unclaimed u (word_of chip (word_number d (words.Claim u))) below ((h.settled on).claims u few)) ∙ none_claims))
 
   unkept : word_of chip (word_number d (words.Claim (unit_of (group_of d x.group)))) ≢ 2 + x.group
   unkept i = let none : 0 ≡ 2 + x.group = sym claim_was ∙ (ap (λ v. word_of chip (word_number d (words.Claim v))) (sym here) ∙ i) in omega (arith, none)
@@ -232,11 +229,7 @@ module _ (d : AdcTable) (fits : FitsAdc d) (below : Reservations) (chip : Chip) 
     after = with_holds o p.acted (hold_then (then_of u g e c)) below
 
     of_all : AllOf g u deeds
-    of_all = by c
-      where
-        by : (z : Bool) → AllOf x.group u (deeds_of u x.group z)
-        by true = (refl, (refl, tt))
-        by false = (refl, tt)
+    of_all = elim c as (λ z. AllOf x.group u (deeds_of u x.group z)) [ true ↦ (refl, (refl, tt)) | false ↦ (refl, tt) ]
 
     module _ (a : Chip) (differs : DiffersIn (own_of (order_of u)) acted a) (holds : HoldsOrder (order_of u) (word_of a) (waiting g true xs)) where
       abbrev b : Chip
@@ -333,14 +326,10 @@ module _ (d : AdcTable) (fits : FitsAdc d) (below : Reservations) (chip : Chip) 
       right : AllRight d b w t below
       right = all_changed d fits before after chip b w s t h x.group u at stays below (spare below none_claims) h.right.1.1
         where
-          none_of : (i j : Bool) → i || j ≡ false → (i ≡ false) × (j ≡ false)
-          none_of true j f = absurd (cc)
-          none_of false j f = (refl, f)
-
           spare : (hs : Reservations) → some_hold (claims_on u) hs ≡ false → AllSpare d chip b s t x.group u hs
           spare [] f = tt
           spare (z ∷ zs) f =
-              let k = none_of (claims_on u z.what) (some_hold (claims_on u) zs) f in
+              let k = or_parts (claims_on u z.what) (some_hold (claims_on u) zs) f in
               (record { rounds = λ i. absurd (let off = k.0 in cc); unkept = λ i. absurd (let off = k.0 in cc); lost = λ i. absurd (let off = k.0 in cc); copies = λ n q j y i same. (ap (λ v. v % 4) (low 7), λ n j. refl); reads = λ k n vs i same. ap (λ v. v / 4) (low 7) }, spare zs k.1)
 
       right_in : (z : Bool) → suspends (group_of d x.group) ≡ z → AllRight d b w t (with_holds o p.acted (hold_then (then_of u x.group (length x.request.kept) z)) below)

@@ -14,12 +14,14 @@ use Terms.{no_answer, None, not, on_there, Option, or_parts, order_of, Origin, Q
 use Terms.{Reservations, ReservedBy, result_word, ResultBuffer, RightOr, round_at, rounds_of, same_or_other, some_hold}
 use Terms.{stands-agree, stands-move, start_from, Starts, starts, starts_by, STATE, Store, stored_other, stored_same}
 use Terms.{subst, suc, sym, trio_of, true, unit_of, UnitAgrees, value_of, Whole, with_holds, word_number, word_of}
-use Terms.{word_there, World, Yields, zero, ℕ}
+use Terms.{word_there, World, ℕ}
 use Rattle.word_shapes.specs.TripleBuffer.{own_of}
 use Rattle.word_shapes.specs.PriorityQueue as ranked
 use Rattle.adc_machine.specs.declared.call.ResultBuffer.TheVariants as buffers
 use Rattle.adc_groups.specs.declared.window.Window.TheVariants as windows
 use Rattle.adc_groups.specs.declared.words.Word.TheVariants as words
+use Rattle.plain_facts.specs.Truths.{and_false, and_first}
+use Rattle.std.proofs.lemmas.Bool.{not-true, or_right}
 
 -- ---- claims
 
@@ -78,9 +80,6 @@ module _ (d : AdcTable) (fits : FitsAdc d) (u : ℕ) (few : u < 2) (chip : Chip)
 
   held_same : (x : ReservedBy Call Reservation) (z : Reservation) → claims_on u z ≡ false → HeldRight d chip w s x z → HeldRight d b w s x z
   held_same x (Clears n) free r = absurd (let f = r.1 in let e = on in cc)
-  held_same x (Starts v) free r = r
-  held_same x (Yields v) free r = r
-  held_same x (Claims v) free r = r
   held_same x (Fills v k e n j p) free r = (r.0, r.1, r.2, (let q = r.3 in record { same = q.same; filled = λ z m i o less is. bank_stays k n m (on_there v (group_of d k) r.2) ∙ q.filled z m i o less is; next = q.next }))
   held_same x (Full v k n) free r = (r.0, r.1, r.2, (let q = r.3 in record { same = q.same; filled = λ z m i o is. bank_stays k n m (on_there v (group_of d k) r.2) ∙ q.filled z m i o is }))
   held_same x (Whole v k n) free r = (
@@ -133,6 +132,7 @@ module _ (d : AdcTable) (fits : FitsAdc d) (u : ℕ) (few : u < 2) (chip : Chip)
     where
       at : (m : ℕ) → word_of b (bank_word (rounds_of d k) n 0 + m) ≡ word_of chip (bank_word (rounds_of d k) n 0 + m)
       at m = let same : bank_word (rounds_of d k) n m ≡ bank_word (rounds_of d k) n 0 + m = omega arith in subst (λ z. word_of b z ≡ word_of chip z) same (bank_stays k n m r.2)
+  held_same x _ free r = r
 
   all_same : (hs : Reservations) → some_hold (claims_on u) hs ≡ false → AllRight d chip w s hs → AllRight d b w s hs
   all_same [] free r = tt
@@ -145,18 +145,10 @@ module _ (d : AdcTable) (fits : FitsAdc d) (u : ℕ) (few : u < 2) (chip : Chip)
     top = sym (ap (λ q. if q then (word_of chip (word_number d (words.Claim u)) == 1) && not (some_hold (claims_on u) hs) else claim_right hs u (word_of chip (word_number d (words.Claim u)))) (eq_self u)) ∙ (h.settled on).claims u few
 
     was_one : word_of chip (word_number d (words.Claim u)) ≡ 1
-    was_one = eq_is (word_of chip (word_number d (words.Claim u))) 1 (first (word_of chip (word_number d (words.Claim u)) == 1) (not (some_hold (claims_on u) hs)) top)
-      where
-        first : (p q : Bool) → p && q ≡ true → p ≡ true
-        first true q e = refl
-        first false q e = absurd (cc)
+    was_one = eq_is (word_of chip (word_number d (words.Claim u))) 1 (and_first (word_of chip (word_number d (words.Claim u)) == 1) (not (some_hold (claims_on u) hs)) top)
 
     none_below : some_hold (claims_on u) hs ≡ false
-    none_below = off (some_hold (claims_on u) hs) (and_second (word_of chip (word_number d (words.Claim u)) == 1) (not (some_hold (claims_on u) hs)) top)
-      where
-        off : (q : Bool) → not q ≡ true → q ≡ false
-        off true e = absurd (cc)
-        off false e = refl
+    none_below = not-true (some_hold (claims_on u) hs) (and_second (word_of chip (word_number d (words.Claim u)) == 1) (not (some_hold (claims_on u) hs)) top)
 
     claim_now : word_of b (word_number d (words.Claim u)) ≡ 0
     claim_now = stored_same chip (word_number d (words.Claim u)) 0 0 (word_there d fits (word_number d (words.Claim u)) (claim_words d u few)) h.outside.all.words
@@ -225,20 +217,11 @@ module _ (d : AdcTable) (fits : FitsAdc d) (u : ℕ) (few : u < 2) (chip : Chip)
 
 -- its line wasn't ready, where its unit is free
 pub off_ready : (d : AdcTable) (w : World) (s : AdcState) (m : ℕ → Bool) (u : ℕ) → u < 2 → round_at s u ≡ None → missed_after (adc_machine d) w s m (24 + u) ≡ true
-off_ready d w s m u few none = or_true (m (24 + u)) (not (ready d w s (24 + u))) (ap (λ q. not q) (by u few none))
+off_ready d w s m u few none = or_right (m (24 + u)) (not (ready d w s (24 + u))) (ap (λ q. not q) (by u few none))
   where
-    or_true : (a b : Bool) → b ≡ true → a || b ≡ true
-    or_true true b e = refl
-    or_true false b e = e
-
-    and_off : (a : Bool) → a && false ≡ false
-    and_off true = refl
-    and_off false = refl
-
     by : (u : ℕ) → u < 2 → round_at s u ≡ None → ready d w s (24 + u) ≡ false
-    by zero lt e = ap (λ r. s.initialised && is_done d w r) e ∙ and_off s.initialised
-    by (suc zero) lt e = ap (λ r. s.initialised && is_done d w r) e ∙ and_off s.initialised
     by (suc (suc u)) lt e = absurd (omega (arith, lt))
+    by _ lt e = ap (λ r. s.initialised && is_done d w r) e ∙ and_false s.initialised
 
 pub may_leave : (d : AdcTable) (w : World) (s : AdcState) (m : ℕ → Bool) (u : ℕ) → u < 2 → round_at s u ≡ None → MayStop (AdcGround d) (Entered (24 + u)) fresh_history (missed_after (adc_machine d) w s m) (done no_answer)
 may_leave d w s m u few none = record { may = (off_ready d w s m u few none, refl); served = false; owed = refl; shown = λ e. absurd (cc); report = refl }

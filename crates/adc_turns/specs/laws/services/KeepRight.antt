@@ -19,6 +19,8 @@ use Rattle.chip_converter.specs.Converters as chips
 use Rattle.adc_groups.specs.declared.making.Continuation.TheVariants as thens
 use Rattle.adc_groups.specs.declared.window.Window.TheVariants as windows
 use Rattle.adc_groups.specs.declared.words.Word.TheVariants as words
+use Rattle.plain_facts.specs.Truths.{and_first}
+use Rattle.std.proofs.lemmas.Bool.{not-true, or_parts}
 
 -- a word that keeps values is of that group, or the claim was lost
 of_group : (v k g : ℕ) → v ≡ 2 + k → (v == 2 + g) || (v == 1) ≡ true → k ≡ g
@@ -47,18 +49,10 @@ module _ (d : AdcTable) (fits : FitsAdc d) (f r : AdcBody → ℕ) (below : Rese
   top = sym (ap (λ q. if q then ((claimed == 2 + g) || (claimed == 1)) && not (some_hold (claims_on u) below) else claim_right below u claimed) (eq_self u)) ∙ (h.settled on).claims u few
 
   fits_claim : (claimed == 2 + g) || (claimed == 1) ≡ true
-  fits_claim = first ((claimed == 2 + g) || (claimed == 1)) (not (some_hold (claims_on u) below)) top
-    where
-      first : (a b : Bool) → a && b ≡ true → a ≡ true
-      first true b e = refl
-      first false b e = absurd (cc)
+  fits_claim = and_first ((claimed == 2 + g) || (claimed == 1)) (not (some_hold (claims_on u) below)) top
 
   none_below : some_hold (claims_on u) below ≡ false
-  none_below = off (some_hold (claims_on u) below) (and_second ((claimed == 2 + g) || (claimed == 1)) (not (some_hold (claims_on u) below)) top)
-    where
-      off : (q : Bool) → not q ≡ true → q ≡ false
-      off true e = absurd (cc)
-      off false e = refl
+  none_below = not-true (some_hold (claims_on u) below) (and_second ((claimed == 2 + g) || (claimed == 1)) (not (some_hold (claims_on u) below)) top)
 
   -- by whether its values are kept
   module _ (q : Bool) (is : (claimed == 2 + g) ≡ q) where
@@ -66,11 +60,9 @@ module _ (d : AdcTable) (fits : FitsAdc d) (f r : AdcBody → ℕ) (below : Rese
     deeds = kept_where q (record { unit = u; group = g; kept = n }) ++ Set (words.Claim u) 0 ∷ []
 
     of_all : AllOf g u deeds
-    of_all = by q
-      where
-        by : (z : Bool) → AllOf g u (kept_where z (record { unit = u; group = g; kept = n }) ++ Set (words.Claim u) 0 ∷ [])
-        by true = (refl, (refl, tt))
-        by false = (refl, tt)
+    of_all =
+        elim q as (λ z. AllOf g u (kept_where z (record { unit = u; group = g; kept = n }) ++ Set (words.Claim u) 0 ∷ []))
+        [ true ↦ (refl, (refl, tt)) | false ↦ (refl, tt) ]
 
     abbrev b : Chip
     b = after_list (deed_move d) chip deeds
@@ -172,12 +164,8 @@ module _ (d : AdcTable) (fits : FitsAdc d) (f r : AdcBody → ℕ) (below : Rese
     spares : (hs : Reservations) → some_hold (claims_on u) hs ≡ false → AllSpare d chip b s s g u hs
     spares [] f = tt
     spares (z ∷ zs) f =
-        let k = none_of (claims_on u z.what) (some_hold (claims_on u) zs) f in
+        let k = or_parts (claims_on u z.what) (some_hold (claims_on u) zs) f in
         (record { rounds = λ claims. absurd (let off = k.0 in cc); unkept = λ claims. absurd (let off = k.0 in cc); lost = λ claims. absurd (let off = k.0 in cc); copies = λ i c j x e same. (ap (λ v. v % 4) (low_one 7 refl), λ i j. refl); reads = λ k n vs e same. ap (λ v. v / 4) (low_one 7 refl) }, spares zs k.1)
-      where
-        none_of : (i j : Bool) → i || j ≡ false → (i ≡ false) × (j ≡ false)
-        none_of true j f = absurd (cc)
-        none_of false j f = (refl, f)
 
     was : GroupAgrees d (word_of chip) s g
     was = (h.settled on).groups g there

@@ -25,6 +25,9 @@ use Rattle.adc_groups.specs.declared.making.WindowWrite.TheVariants as deeds
 use Rattle.adc_groups.specs.declared.making.StructureOp.TheVariants as shapes
 use Rattle.adc_groups.specs.declared.window.Window.TheVariants as windows
 use Rattle.adc_groups.specs.declared.words.Word.TheVariants as words
+use Rattle.std.proofs.lemmas.Bool.{not-false}
+use Rattle.plain_facts.specs.Truths.{and_first}
+use Rattle.plain_facts.specs.Numbers.{eq_self}
 
 some_ahead : (left : ℕ) (c : Bool) → 0 < moves_ahead left c
 some_ahead left true = omega arith
@@ -186,22 +189,11 @@ module _ (d : AdcTable) (fits : FitsAdc d) (f r : AdcBody → ℕ) (below : Rese
     claim_small : word_of chip (word_number d (words.Claim u)) ≢ 2 + g
     claim_small i = by c facts.2 h
       where
-        off : (q : Bool) → not q ≡ false → q ≡ true
-        off true e = refl
-        off false e = absurd (cc)
-
-        first : (a b : Bool) → a && b ≡ true → a ≡ true
-        first true b e = refl
-        first false b e = absurd (cc)
-
-        itself : (n : ℕ) → (n == n) ≡ true
-        itself n = grind (arith, nat_tests)
-
         by : (z : Bool) → (z ≡ false → some_hold (claims_on u) below ≡ false) → Agrees d (with_holds o p.acted (hold_in (windows.Convert u g z)) below) chip w s → ⊥
-        by false none k = let zero_is = eq_is (word_of chip (word_number d (words.Claim u))) 0 (off (word_of chip (word_number d (words.Claim u)) == 0) (sym (unclaimed u (word_of chip (word_number d (words.Claim u))) below ((k.settled facts.0).claims u few)) ∙ none refl)) in omega (arith, zero_is, i)
+        by false none k = let zero_is = eq_is (word_of chip (word_number d (words.Claim u))) 0 (not-false (word_of chip (word_number d (words.Claim u)) == 0) (sym (unclaimed u (word_of chip (word_number d (words.Claim u))) below ((k.settled facts.0).claims u few)) ∙ none refl)) in omega (arith, zero_is, i)
         by true none k =
-            let top : (word_of chip (word_number d (words.Claim u)) == 1) && not (some_hold (claims_on u) below) ≡ true = sym (ap (λ q. if q then (word_of chip (word_number d (words.Claim u)) == 1) && not (some_hold (claims_on u) below) else claim_right below u (word_of chip (word_number d (words.Claim u)))) (itself u)) ∙ (k.settled facts.0).claims u few in
-            let one = eq_is (word_of chip (word_number d (words.Claim u))) 1 (first (word_of chip (word_number d (words.Claim u)) == 1) (not (some_hold (claims_on u) below)) top) in
+            let top : (word_of chip (word_number d (words.Claim u)) == 1) && not (some_hold (claims_on u) below) ≡ true = sym (ap (λ q. if q then (word_of chip (word_number d (words.Claim u)) == 1) && not (some_hold (claims_on u) below) else claim_right below u (word_of chip (word_number d (words.Claim u)))) (eq_self u)) ∙ (k.settled facts.0).claims u few in
+            let one = eq_is (word_of chip (word_number d (words.Claim u))) 1 (and_first (word_of chip (word_number d (words.Claim u)) == 1) (not (some_hold (claims_on u) below)) top) in
             omega (arith, one, i)
 
     kept_is : word_of chip (word_number d (words.Kept g)) ≡ length (kept_in d s g)
@@ -228,13 +220,9 @@ module _ (d : AdcTable) (fits : FitsAdc d) (f r : AdcBody → ℕ) (below : Rese
     made : HasMade d (foot_of chip) u g e left c 0
     made = record { lists = λ i lt small. absurd (omega (arith, lt)); running = λ lt. absurd (omega (arith, lt)); claim = claims }
       where
-        off : (q : Bool) → not q ≡ false → q ≡ true
-        off true e = refl
-        off false e = absurd (cc)
-
         unheld : (z : Bool) → z ≡ false → some_hold (claims_on u) below ≡ false → Agrees d (with_holds o p.acted (hold_in (windows.Convert u g z)) below) chip w s → word_of chip (word_number d (words.Claim u)) ≡ 0
         unheld true i none k = absurd (cc)
-        unheld false i none k = eq_is (word_of chip (word_number d (words.Claim u))) 0 (off (word_of chip (word_number d (words.Claim u)) == 0) (sym (unclaimed u (word_of chip (word_number d (words.Claim u))) below ((k.settled facts.0).claims u few)) ∙ none))
+        unheld false i none k = eq_is (word_of chip (word_number d (words.Claim u))) 0 (not-false (word_of chip (word_number d (words.Claim u)) == 0) (sym (unclaimed u (word_of chip (word_number d (words.Claim u))) below ((k.settled facts.0).claims u few)) ∙ none))
 
         claims : (c ≡ false) ⊎ (lists_for left + 1 < 0) → word_of chip (word_number d (words.Claim u)) ≡ 0
         claims (inl i) = unheld c i (facts.2 i) h

@@ -10,13 +10,13 @@ use Terms.{chosen, claim_words, claims_on, conversion, Converter, ConverterList,
 use Terms.{Ends, ends_claim, Entry, eq_self, false, few_inputs, FitsAdc, foot_of, four_from, FrameHistory, gap_at}
 use Terms.{get_or-map, get_or-set_other, get_or-set_same, group_of, HasMade, HasWords, hold_in, holds-agree, holds_at}
 use Terms.{HoldsOrder, inl, inputs_of, inr, InWindow, is_ahead, is_some, IsFirst, IsOrder, IsStart, IsStarting, length}
-use Terms.{length-set, List, list_any, list_deed, lists_for, Load, Makes, MakesTo, Mask, memories, Memory, missed_after}
+use Terms.{length-set, List, list_any, list_deed, lists_for, Load, Makes, MakesTo, memories, Memory, missed_after}
 use Terms.{Move, moves_ahead, named_of, NamesOwn, nat_le, nat_lt, nat_tests, Next, next_gave, next_left, next_move}
-use Terms.{None, Note, nothing_more, number_of, of_driver, on_there, Option, order_of, order_words, Orders, Origin}
-use Terms.{owed_of, own_of, place_at, PointAssertion, Prepares, ranks_of, Read, refl, Report, Reservations, RightOr}
+use Terms.{None, nothing_more, number_of, of_driver, on_there, Option, order_of, order_words, Orders, Origin}
+use Terms.{owed_of, own_of, place_at, PointAssertion, Prepares, ranks_of, refl, Reservations, RightOr}
 use Terms.{running_words, Set, slice_index, slice_index_or, slice_set, Some, some_hold, spot_or, spot_start}
 use Terms.{start_deeds, STATE, step, steps_so, Store, stored_other, stored_same, StructureOp, subst, suc, sym, true}
-use Terms.{unit_named, unit_set, Unmask, unused, value-same, value_of, waiting, with_holds, word_number, word_of}
+use Terms.{unit_named, unit_set, unused, value-same, value_of, waiting, with_holds, word_number, word_of}
 use Terms.{word_there, words-after, World, Write, WriteBatch, zero, ℕ}
 use Rattle.adc_turns.specs.laws.words.ListedInputs.{list_agrees}
 use Rattle.adc_turns.specs.laws.services.WriteBatchRight.{order_work, deed_work, order_takes, deed_takes, claim_among}
@@ -27,6 +27,7 @@ use Rattle.word_shapes.specs.Playing as playing
 use Rattle.adc_groups.specs.declared.making.StructureOp.TheVariants as shapes
 use Rattle.adc_groups.specs.declared.window.Window.TheVariants as windows
 use Rattle.adc_groups.specs.declared.words.Word.TheVariants as words
+use Rattle.plain_facts.specs.Numbers.{same_or_other}
 
 test_le : (m n : ℕ) → m ≤ n → nat_le m n ≡ true
 test_le m n le = grind (arith, nat_tests)
@@ -88,9 +89,8 @@ module _ (d : AdcTable) (fits : FitsAdc d) (f r : AdcBody → ℕ) (below : Rese
   not_own k own = or_on (k == STATE + 8 + 8 * u) (k == STATE + 9 + 8 * u) (own_of (order_of u) k) own
     where
       or_on : (a b c : Bool) → c ≡ true → a || (b || c) ≡ true
-      or_on true b c e = refl
-      or_on false true c e = refl
       or_on false false c e = e
+      or_on _ _ c e = refl
 
   other_word : (k n : ℕ) → is_ahead u k ≡ false → is_ahead u n ≡ true → k ≢ n
   other_word k n off on e = let same : is_ahead u k ≡ true = ap (λ z. is_ahead u z) e ∙ on in absurd (cc)
@@ -145,12 +145,7 @@ module _ (d : AdcTable) (fits : FitsAdc d) (f r : AdcBody → ℕ) (below : Rese
       tt,
       stored_other chip k v y (word_number d (words.Claim u)) (λ i. off_order (word_number d (words.Claim u)) (omega arith) (ap (λ n. own_of (order_of u) n) i ∙ own)),
     )
-    after_order (Read n) own = absurd own
-    after_order (Write n v) own = absurd own
-    after_order Mask own = absurd own
-    after_order Unmask own = absurd own
-    after_order (Note n) own = absurd own
-    after_order (Report n) own = absurd own
+    after_order _ own = absurd own
 
     none_made : (k : Chip) → word_of k (word_number d (words.Claim u)) ≡ word_of chip (word_number d (words.Claim u)) → HasMade d (foot_of chip) u g e left c 0 → HasMade d (foot_of k) u g e left c 0
     none_made k same made = record { lists = λ i lt less. absurd (omega (arith, lt)); running = λ lt. absurd (omega (arith, lt)); claim = λ i. same ∙ made.claim i }
@@ -243,14 +238,11 @@ module _ (d : AdcTable) (fits : FitsAdc d) (f r : AdcBody → ℕ) (below : Rese
 
           now : HasMade d (foot_of later) u g e left c (j + 1)
           now = record {
-            lists = λ i le less. ap (λ zs. slice_index zs i) is_list ∙ by i le less (same_or i j);
+            lists = λ i le less. ap (λ zs. slice_index zs i) is_list ∙ by i le less (same_or_other i j);
             running = λ le. absurd (omega (arith, le, lt));
             claim = λ i. made.claim (sooner i);
           }
             where
-              same_or : (a b : ℕ) → (a ≡ b) ⊎ (a ≢ b)
-              same_or a b = grind arith
-
               by : (i : ℕ) → i < j + 1 → i < lists_for left → (i ≡ j) ⊎ (i ≢ j) → slice_index (slice_set (slice_index_or (foot_of chip).lists u []) j (four_from (inputs_of (group_of d g)) (e + 4 * j))) i ≡ four_from (inputs_of (group_of d g)) (e + 4 * i)
               by i le less (inl same) = subst (λ n. slice_index (slice_set (slice_index_or (foot_of chip).lists u []) j (four_from (inputs_of (group_of d g)) (e + 4 * j))) n ≡ four_from (inputs_of (group_of d g)) (e + 4 * n)) (sym same) (get_or-set_same (slice_index_or (foot_of chip).lists u []) j (four_from (inputs_of (group_of d g)) (e + 4 * j)) 0 (let n = eight in let l = few_left in omega (arith, n, l, lt)))
               by i le less (inr ne) = get_or-set_other (slice_index_or (foot_of chip).lists u []) j i (four_from (inputs_of (group_of d g)) (e + 4 * j)) 0 ne ∙ made.lists i (omega (arith, le, ne)) less

@@ -21,6 +21,7 @@ use Rattle.chip_converter.specs.Rounds as rounds
 use Rattle.mcal_base.specs.declared.moves.Event.TheVariants as events
 use Rattle.adc_groups.specs.declared.window.Window.TheVariants as windows
 use Rattle.adc_groups.specs.declared.words.Word.TheVariants as words
+use Rattle.std.proofs.lemmas.Bool.{not-false}
 
 -- a number below a limit is left
 limited_same : (v m : ℕ) → v < m → (if nat_lt v m then v else m) ≡ v
@@ -43,11 +44,7 @@ module _ (d : AdcTable) (fits : FitsAdc d) (f r : AdcBody → ℕ) (below : Rese
     at = subst (λ n. is_on u (group_of d n) ≡ true) in_window.4.group (h.sound.runs u in_window.4.round in_window.4.is).1
 
     claim_none : word_of chip (word_number d (words.Claim u)) ≡ 0
-    claim_none = eq_is (word_of chip (word_number d (words.Claim u))) 0 (off (word_of chip (word_number d (words.Claim u)) == 0) (sym (unclaimed u (word_of chip (word_number d (words.Claim u))) below ((h.settled on).claims u few)) ∙ in_window.3))
-      where
-        off : (q : Bool) → not q ≡ false → q ≡ true
-        off true e = refl
-        off false e = absurd (cc)
+    claim_none = eq_is (word_of chip (word_number d (words.Claim u))) 0 (not-false (word_of chip (word_number d (words.Claim u)) == 0) (sym (unclaimed u (word_of chip (word_number d (words.Claim u))) below ((h.settled on).claims u few)) ∙ in_window.3))
 
     kept_word_is : word_of chip (word_number d (words.Kept g)) ≡ length (kept_in d s g)
     kept_word_is = ((h.settled on).groups g (on_there u (group_of d g) at)).kept (round_turn s g u few has_round) (λ i. let none : 0 ≡ 2 + g = sym claim_none ∙ (ap (λ v. word_of chip (word_number d (words.Claim v))) (sym (unit_is d fits u (group_of d g) at)) ∙ i) in omega (arith, none))
@@ -165,10 +162,9 @@ module _ (d : AdcTable) (fits : FitsAdc d) (f r : AdcBody → ℕ) (below : Rese
             running_as (chips.unit_at chip.converters u).round chip.converters.time round.on ∙ ap (λ z. not z) (finished_here d fits (with_holds o p.acted (hold_in (windows.Suspend u x.group)) below) chip w s h u run_was.0 ∙ ap (λ z. is_done d w z) is)
 
         negated : (a b : Bool) → a ≡ not b → b ≡ not a
-        negated true true e = absurd (cc)
         negated true false e = refl
         negated false true e = refl
-        negated false false e = absurd (cc)
+        negated _ _ e = absurd (cc)
 
         finished : (z : Bool) → runs ≡ z → is_finished w (group_of d x.group) x ≡ not z
         finished z e = negated z (is_finished w (group_of d x.group) x) (sym e ∙ runs_as)

@@ -26,6 +26,8 @@ use Rattle.chip_converter.specs.Rounds as rounds
 use Rattle.adc_machine.specs.declared.table.Group as configured
 use Rattle.adc_groups.specs.declared.window.Window.TheVariants as windows
 use Rattle.adc_groups.specs.declared.words.Word.TheVariants as words
+use Rattle.plain_facts.specs.Numbers.{lt_since}
+use Rattle.std.proofs.lemmas.Bool.{not-false, or_parts}
 
 -- a word behind a unit's five isn't one that is stored ahead
 not_ahead : (u k : ℕ) → ((i : ℕ) → i < 5 → k ≢ STATE + 8 + 8 * u + i) → is_ahead u k ≡ false
@@ -57,14 +59,11 @@ module _ (d : AdcTable) (w : World) (s : AdcState) (u g : ℕ) (few : u < 2) (so
   goes_round = round_same (with_waiting s g None) u (begun w g (group_at s g).waiting) few ∙ ap (λ r. begun w g r) asks
 
   none_higher : is_outranked d goes u g ≡ false
-  none_higher = any_off (λ k. waits_for d goes u k && nat_lt (rank_of d g) (rank_of d k)) (λ k less. off (waits_for d goes u k) (nat_lt (rank_of d g) (rank_of d k)) (λ f. not_less (rank_of d g) (rank_of d k) ((first k (before_it k f)).0)))
+  none_higher = any_off (λ k. waits_for d goes u k && nat_lt (rank_of d g) (rank_of d k)) (λ k less. off (waits_for d goes u k) (nat_lt (rank_of d g) (rank_of d k)) (λ f. lt_since (rank_of d g) (rank_of d k) ((first k (before_it k f)).0)))
     where
       off : (i j : Bool) → (i ≡ true → j ≡ false) → i && j ≡ false
       off true j f = f refl
       off false j f = refl
-
-      not_less : (m n : ℕ) → n ≤ m → nat_lt m n ≡ false
-      not_less m n le = grind (arith, nat_tests)
 
       first : (k : ℕ) → waits_for d s u k ≡ true → IsBefore d s g k
       first = (next_is d s u g (sym (ap (λ r. starts_by r (next_group d s u)) free) ∙ next)).first
@@ -206,19 +205,14 @@ module _ (d : AdcTable) (fits : FitsAdc d) (below : Reservations) (z : Chip) (ws
     where
       parts : (i j : Bool) → i && not j ≡ true → (i ≡ true) × (j ≡ false)
       parts true false f = (refl, refl)
-      parts true true f = absurd (cc)
-      parts false j f = absurd (cc)
-
-      off : (r : Bool) → not r ≡ false → r ≡ true
-      off true f = refl
-      off false f = absurd (cc)
+      parts _ _ f = absurd (cc)
 
       by : (v : Bool) → (v ≡ false → some_hold (claims_on u) below ≡ false) → Agrees d (with_holds o p.acted (hold_in (windows.Convert u g v)) below) a w s → (word_of a (word_number d (words.Claim u)) ≡ (if v then 1 else 0)) × (some_hold (claims_on u) below ≡ false)
       by true none k =
           let top : (word_of a (word_number d (words.Claim u)) == 1) && not (some_hold (claims_on u) below) ≡ true = sym (ap (λ r. if r then (word_of a (word_number d (words.Claim u)) == 1) && not (some_hold (claims_on u) below) else claim_right below u (word_of a (word_number d (words.Claim u)))) (eq_self u)) ∙ (k.settled on).claims u few in
           let both = parts (word_of a (word_number d (words.Claim u)) == 1) (some_hold (claims_on u) below) top in
           (eq_is (word_of a (word_number d (words.Claim u))) 1 both.0, both.1)
-      by false none k = (eq_is (word_of a (word_number d (words.Claim u))) 0 (off (word_of a (word_number d (words.Claim u)) == 0) (sym (unclaimed u (word_of a (word_number d (words.Claim u))) below ((k.settled on).claims u few)) ∙ none refl)), none refl)
+      by false none k = (eq_is (word_of a (word_number d (words.Claim u))) 0 (not-false (word_of a (word_number d (words.Claim u)) == 0) (sym (unclaimed u (word_of a (word_number d (words.Claim u))) below ((k.settled on).claims u few)) ∙ none refl)), none refl)
 
   claim_small : (k : ℕ) → word_of a (word_number d (words.Claim u)) ≢ 2 + k
   claim_small k i = by c (sym claim_before.0 ∙ i)
@@ -333,14 +327,10 @@ module _ (d : AdcTable) (fits : FitsAdc d) (below : Reservations) (z : Chip) (ws
   right : AllRight d b w t below
   right = all_changed d fits before below a b w s t h g u at stays below (spare below claim_before.1) right_below
     where
-      none_of : (i j : Bool) → i || j ≡ false → (i ≡ false) × (j ≡ false)
-      none_of true j f = absurd (cc)
-      none_of false j f = (refl, f)
-
       spare : (hs : Reservations) → some_hold (claims_on u) hs ≡ false → AllSpare d a b s t g u hs
       spare [] f = tt
       spare (v ∷ vs) f =
-          let k = none_of (claims_on u v.what) (some_hold (claims_on u) vs) f in
+          let k = or_parts (claims_on u v.what) (some_hold (claims_on u) vs) f in
           (record { rounds = λ i. absurd (let off = k.0 in cc); unkept = λ i. absurd (let off = k.0 in cc); lost = λ i. absurd (let off = k.0 in cc); copies = λ n m j r i same. (ap (λ r. r % 4) (low 7), λ n j. refl); reads = λ k n vs i same. ap (λ r. r / 4) (low 7) }, spare vs k.1)
 
   promised : (v : ℕ) → (v ≡ u) ⊎ (v ≢ u) → Promised d below w t v

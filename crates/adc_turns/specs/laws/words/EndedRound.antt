@@ -35,9 +35,8 @@ length_levels samples time [] = refl
 length_levels samples time (x ∷ xs) = ap suc (length_levels samples (time + 4) xs)
 
 length_taken : (n : ℕ) (xs : List ℕ) → length (take n xs) ≡ min (length xs) n
-length_taken zero xs = omega arith
-length_taken (suc n) [] = omega arith
 length_taken (suc n) (x ∷ xs) = let few = length_taken n xs in omega (arith, few)
+length_taken _ _ = omega arith
 
 got : (xs : List ℕ) (n : ℕ) → n < length xs → (x : ℕ) × (slice_get xs n ≡ Some x)
 got [] n lt = absurd (omega (arith, lt))

@@ -2,7 +2,7 @@ use Rattle.std.proofs.Common.{ℕ, ◌≤◌, List, length, ◌∙◌, ap, arith
 use Rattle.std.specs.Prelude.{map}
 use Rattle.std.proofs.lemmas.List.{take_all}
 use Rattle.bench_report.specs.declared.rows.Value.TheVariants.{Pair}
-use Rattle.mcal_system.specs.declared.wires.Exchange.{Exchange}
+use Rattle.shown_rows.specs.declared.shown.Exchange.{Exchange}
 use Rattle.shown_rows.proofs.Rows.{wire_values}
 use Rattle.shown_rows.proofs.wires.wire_words.Goals as goal
 

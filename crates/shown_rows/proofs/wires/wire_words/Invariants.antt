@@ -1,6 +1,6 @@
 use Rattle.std.proofs.Common.{◌≡◌, take, map}
 use Rattle.bench_report.specs.declared.rows.Value.TheVariants.{Pair}
-use Rattle.mcal_system.specs.declared.wires.Exchange.{Exchange}
+use Rattle.shown_rows.specs.declared.shown.Exchange.{Exchange}
 use Rattle.shown_rows.proofs.wires.wire_words.Given as goal
 
 abbrev pub invariant-loop-place : goal.invariant-loop-place

@@ -1,7 +1,6 @@
 use Rattle.std.proofs.Common.{◌≡◌}
-use Rattle.mcal_system.specs.Runs.{moment_at}
 use Rattle.shown_rows.specs.Words.{words}
 use Rattle.shown_rows.proofs.words.words_of.Given as goal
 
 abbrev pub invariant-loop-number : goal.invariant-loop-number
-invariant-loop-number g l = l.values.items ≡ words (moment_at (g.R.ShownRun.resting l.run)).state l.words l.first l.number
+invariant-loop-number g l = l.values.items ≡ words (g.R.ShownBoard.board l.run).state l.words l.first l.number

@@ -3,7 +3,7 @@
 -- Used by mcal_drivers: proofs/Joining.
 use Rattle.std.proofs.Common.{◌≡◌, ◌+◌, ◌<◌, ◌≤◌, ◌^◌, ◌==◌, ◌&&◌, ◌||◌, [], ◌∷◌, ◌∙◌, if◌then◌else◌}
 use Rattle.spi_driver.specs.Terms
-use Terms.{Adc0, Adc1, All, and_first, and_parts, ap, arith, Asked, basis_right, Bool, Call, Called, Channel}
+use Terms.{All, and_first, and_parts, ap, arith, Asked, basis_right, Bool, Call, Called, Channel}
 use Terms.{Destination, EnableClear, EnableSet, EnablesOthers, EnablesWithin, entering, enumerate_from, false, FitsSpi}
 use Terms.{has_bit, has_lines, inl, inr, is_for_lines, is_line_of, is_number, is_of, is_own_word, is_polling, is_serial, is_some}
 use Terms.{is_used, is_users_place, is_users_word, is_within, is_word_of, IsSome, KeepsTo, length, length_by, List}
@@ -174,23 +174,15 @@ module _ (d : SpiTable) (fits : FitsSpi d) where
       by false f false g = absurd (let none = ap (λ q. is_some (entering {Asked = Asked} (handled_by d l q))) (unused f g) in let no = sym none ∙ h in cc)
 
   polled : (s : SpiState) (c : Call) → list_all (is_line_of (only Spi)) (polls s c) ≡ true
-  polled s calls.MainFunctionHandling = by (is_polling s.mode)
-    where
-      by : (q : Bool) → list_all (is_line_of (only Spi)) (if q then 26 ∷ 27 ∷ [] else []) ≡ true
-      by true = refl
-      by false = refl
-  polled s calls.Init = refl
-  polled s calls.DeInit = refl
-  polled s (calls.SetAsyncMode m) = refl
-  polled s (calls.Channel c call) = refl
-  polled s (calls.Sequence q call) = refl
-  polled s (calls.Get query) = refl
+  polled s calls.MainFunctionHandling =
+      elim (is_polling s.mode) as (λ q. list_all (is_line_of (only Spi)) (if q then 26 ∷ 27 ∷ [] else []) ≡ true)
+      [ true ↦ refl | false ↦ refl ]
+  polled s _ = refl
 
   starts : (w : World) (s : SpiState) (u : units.Unit) (made_by : Option Call) (r : ℕ) → IsSome ((spi_machine d).happens w s (Starts u made_by r)) → only Spi (module_of_unit u) ≡ true
-  starts w s Adc0 by r some = cc
-  starts w s Adc1 by r some = cc
   starts w s Spi0 by r some = refl
   starts w s Spi1 by r some = refl
+  starts w s _ by r some = cc
 
   -- it is the serial units' alone
   pub keeps_serial : KeepsTo (only Spi) (services_driver (joined d))

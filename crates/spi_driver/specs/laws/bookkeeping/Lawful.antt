@@ -8,9 +8,9 @@ use Terms.{AreEnding, AreEndingServices, AreLong, arith, Asked, asks_no, asks_no
 use Terms.{basis_right, begins, Beside, blocks, Bool, both, both_ending, both_right, Call, Called, CanBegin, Cancel}
 use Terms.{cancel_begun, cancel_bodies, cancel_right, CancelBody, cancelled, CaptureCountHigh, CaptureTimeHigh}
 use Terms.{carried-right, carried_at, carried_for, Carrying, Channel, channel_begun, channel_of, ChannelCall}
-use Terms.{ChannelState, Chip, class_of, Cleared, Debt, Decides, Declines, Done, ended_at, ending_gave, Entered}
+use Terms.{ChannelState, Chip, class_of, Decides, Declines, Done, ended_at, ending_gave, Entered}
 use Terms.{entry_carried, error_by, error_of_sending, error_told, ErrorName, false, finds_held, First, first_served}
-use Terms.{FitsSpi, found_none, FrameHistory, fresh_history, Handler, Handling, has_channel, HeldRight}
+use Terms.{FitsSpi, found_none, FrameHistory, fresh_history, Handler, has_channel, HeldRight}
 use Terms.{in_list, init_bodies, inl, inr, init_right, init_within, InitBody, Interrupt, is_busy, is_closed, is_external_channel}
 use Terms.{is_internal_channel, is_number, is_off, is_past, is_pending, is_polling, is_some, is_sync_sequence}
 use Terms.{Is_this_frame, is_used, is_users, is_windowed, is_wrong_length, is_wrong_sequence, IsLawful, job_of}
@@ -19,7 +19,7 @@ use Terms.{may_name, may_store, Mode, mode_word, Move, named, names_there, nat_l
 use Terms.{none_any, NoneBefore, not, not_sent, not_true, Nothing, of_sixteen, Off, Option, Or, or_rest, Origin}
 use Terms.{outcome, own_first, placed_of, Plain, Pointer, Polling, polls, Preparing, Proceeds, PulseCommit, PulseIdle}
 use Terms.{put_by, put_held, Query, query_begun, query_bodies, query_right, QueryBody, Read, read_bodies, read_right}
-use Terms.{ReadBody, ReadIb, Reading, refl, Reservation, Reservations, ReservedBy, same_number, Second, Sending}
+use Terms.{ReadBody, ReadIb, Reading, refl, Reservation, Reservations, ReservedBy, same_number, Second}
 use Terms.{sending_ends, sent, sent_steps, Sequence, sequence_begun, sequence_of, SequenceCall, Services}
 use Terms.{services_driver, services_lawful, set_up_bodies, set_up_right, SetUpBody, SetupEb, short_left, short_move}
 use Terms.{Some, some_of, spi_basis, spi_ends, spi_looked, spi_machine, spi_setting, SpiBody, SpiRepresents, SpiState}
@@ -42,6 +42,7 @@ use Rattle.spi_machine.specs.declared.call.Query.TheVariants as queries
 use Rattle.spi_sequences.specs.declared.service.request.RequestPlace.TheVariants as request
 use Rattle.spi_sequences.specs.declared.service.serve.ServePlace.TheVariants as serves
 use Rattle.spi_sequences.specs.declared.service.unit.UnitPlace.TheVariants as place
+use Rattle.std.proofs.lemmas.Bool.{not-false, not-true}
 
 -- ---- what stands of calls that find no error
 
@@ -50,61 +51,40 @@ clear_one true e h = absurd (cc)
 clear_one false e h = refl
 
 clear_two : (off good : Bool) (e f : ErrorName) → (if off then Some e else if not good then Some f else None) ≡ None → (off ≡ false) × (good ≡ true)
-clear_two true good e f h = absurd (cc)
 clear_two false true e f h = (refl, refl)
-clear_two false false e f h = absurd (cc)
+clear_two _ _ e f h = absurd (cc)
 
 clear_three : (off good bad : Bool) (e f g : ErrorName) → (if off then Some e else if not good then Some f else if bad then Some g else None) ≡ None → (off ≡ false) × (good ≡ true) × (bad ≡ false)
-clear_three true good bad e f g h = absurd (cc)
-clear_three false true true e f g h = absurd (cc)
 clear_three false true false e f g h = (refl, refl, refl)
-clear_three false false bad e f g h = absurd (cc)
+clear_three _ _ _ e f g h = absurd (cc)
 
 clear_sequence : (off wrong : Bool) (e f : ErrorName) → (if off then Some e else if wrong then Some f else None) ≡ None → (off ≡ false) × (wrong ≡ false)
-clear_sequence true wrong e f h = absurd (cc)
-clear_sequence false true e f h = absurd (cc)
 clear_sequence false false e f h = (refl, refl)
+clear_sequence _ _ e f h = absurd (cc)
 
 -- a sequence that is configured, and sent so
 neither : (there otherwise : Bool) → not there || otherwise ≡ false → (there ≡ true) × (otherwise ≡ false)
 neither true false e = (refl, refl)
-neither true true e = absurd (cc)
-neither false otherwise e = absurd (cc)
+neither _ _ e = absurd (cc)
 
 -- an error that is found before a pending sequence is looked for
 found_first : (off wrong held : Bool) (e f g x : ErrorName) → (if off then Some e else if wrong then Some f else None) ≡ Some x → (if off then Some e else if wrong then Some f else if held then Some g else None) ≡ Some x
-found_first true wrong held e f g x h = h
-found_first false true held e f g x h = h
 found_first false false held e f g x h = absurd (cc)
+found_first _ _ held e f g x h = h
 
 refused_so : (d : SpiTable) (s : SpiState) (call : Call) (x : ErrorName) → error_by d call (is_off s.mode) false ≡ Some x → error_by d call (is_off s.mode) (finds_held d s call) ≡ Some x
 refused_so d s (calls.Sequence q AsyncTransmit) x e = found_first (is_off s.mode) (is_wrong_sequence d q AsyncTransmit) (finds_held d s (calls.Sequence q AsyncTransmit)) errors.SpiUninit errors.SpiParamSeq errors.SpiSeqPending x e
 refused_so d s (calls.Sequence q SyncTransmit) x e = found_first (is_off s.mode) (is_wrong_sequence d q SyncTransmit) (finds_held d s (calls.Sequence q SyncTransmit)) errors.SpiUninit errors.SpiParamSeq errors.SpiSeqInProcess x e
-refused_so d s (calls.Sequence q Cancel) x e = e
-refused_so d s calls.Init x e = e
-refused_so d s calls.DeInit x e = e
-refused_so d s (calls.SetAsyncMode m) x e = e
-refused_so d s calls.MainFunctionHandling x e = e
-refused_so d s (calls.Channel c call) x e = e
-refused_so d s (calls.Get query) x e = e
+refused_so d s _ x e = e
 
 -- the main function has no error, and any other call polls nothing
 polls_none : (d : SpiTable) (s : SpiState) (call : Call) (x : ErrorName) → error_by d call (is_off s.mode) false ≡ Some x → polls s call ≡ []
 polls_none d s calls.MainFunctionHandling x e = absurd (cc)
-polls_none d s calls.Init x e = refl
-polls_none d s calls.DeInit x e = refl
-polls_none d s (calls.SetAsyncMode m) x e = refl
-polls_none d s (calls.Channel c call) x e = refl
-polls_none d s (calls.Sequence q call) x e = refl
-polls_none d s (calls.Get query) x e = refl
+polls_none d s _ x e = refl
 
 pub external_channel : (k : Option Channel) → is_external_channel k ≡ true → (x : Channel) × (k ≡ Some x) × (x.internal ≡ false)
 external_channel None e = absurd (cc)
-external_channel (Some x) e = (x, refl, by x.internal e)
-  where
-    by : (b : Bool) → not b ≡ true → b ≡ false
-    by true e = absurd (cc)
-    by false e = refl
+external_channel (Some x) e = (x, refl, not-true x.internal e)
 
 pub internal_channel : (k : Option Channel) → is_internal_channel k ≡ true → (x : Channel) × (k ≡ Some x) × (x.internal ≡ true)
 internal_channel None e = absurd (cc)
@@ -122,9 +102,8 @@ length_right n k e = by (n == 0) refl (nat_lt k.length n) refl e
     positive (suc n) f = omega arith
 
     by : (a : Bool) → (n == 0) ≡ a → (b : Bool) → nat_lt k.length n ≡ b → a || b ≡ false → (0 < n) × (n ≤ k.length)
-    by true f b g h = absurd (cc)
-    by false f true g h = absurd (cc)
     by false f false g h = (positive n f, is_past k.length n g)
+    by _ f _ g h = absurd (cc)
 
 -- ---- what the frames below hold, by what lets the call begin
 
@@ -146,11 +125,6 @@ alone_by d call (h ∷ hs) e lets = absurd (let f = sym (class_module d h.by cal
 module _ (d : SpiTable) (mode : Mode) (cs : List ChannelState) (on : is_off mode ≡ false) (c : ℕ) where
   -- no frame writes the channel
   not_written : (p : Pointer) (sources : ℕ → List ℕ) (h : ReservedBy Call Reservation) (x : Reservation) → HeldRight d mode cs h x → blocks (class_of (calls.Channel c (WriteIb p))) (mark_of (spi_setting d) h.by) ≡ false → put_by d sources c false x ≡ None
-  not_written p sources h (Debt u) right l = refl
-  not_written p sources h (Cleared u) right l = refl
-  not_written p sources h Handling right l = refl
-  not_written p sources h (Reading n b) right l = refl
-  not_written p sources h (Sending u q n at banks failed device) right l = refl
   not_written p sources h (Preparing stored readied x) right l = absurd (let off = right.1 in cc)
   not_written p sources h (Writing n q b i x) right l = by (n == c) refl
     where
@@ -163,6 +137,7 @@ module _ (d : SpiTable) (mode : Mode) (cs : List ChannelState) (on : is_off mode
       by : (a : Bool) → (n == c) ≡ a → put_by d sources c false (Writing n q b i x) ≡ None
       by true e = absurd (let f = same e in let g = other in cc)
       by false e = ap (λ a. if a then Some (record { bank = b; filled = take i (to_write (channel_of d c) q (sources c)) }) else None) e
+  not_written p sources h _ right l = refl
 
   none_writes : (p : Pointer) (sources : ℕ → List ℕ) (below : Reservations) → AllRight d mode cs below → AllLet (spi_setting d) (class_of (calls.Channel c (WriteIb p))) below → put_held d sources c false below ≡ None
   none_writes p sources [] right lets = refl
@@ -170,12 +145,6 @@ module _ (d : SpiTable) (mode : Mode) (cs : List ChannelState) (on : is_off mode
 
   -- or reads it
   not_read : (h : ReservedBy Call Reservation) (x : Reservation) → HeldRight d mode cs h x → blocks (class_of (calls.Channel c ReadIb)) (mark_of (spi_setting d) h.by) ≡ false → take_by c h.acted x ≡ None
-  not_read h (Debt u) right l = refl
-  not_read h (Cleared u) right l = refl
-  not_read h Handling right l = refl
-  not_read h (Writing n q b i x) right l = refl
-  not_read h (Sending u q n at banks failed device) right l = refl
-  not_read h (Preparing stored readied x) right l = refl
   not_read h (Reading n b) right l = by (n == c) refl
     where
       same : (n == c) ≡ true → (c == n) ≡ true
@@ -187,6 +156,7 @@ module _ (d : SpiTable) (mode : Mode) (cs : List ChannelState) (on : is_off mode
       by : (a : Bool) → (n == c) ≡ a → take_by c h.acted (Reading n b) ≡ None
       by true e = absurd (let f = same e in let g = other in cc)
       by false e = ap (λ a. if a then Some (record { bank = b; kept = words_in h.acted }) else None) e
+  not_read h _ right l = refl
 
   none_reads : (below : Reservations) → AllRight d mode cs below → AllLet (spi_setting d) (class_of (calls.Channel c ReadIb)) below → take_held c below ≡ None
   none_reads [] right lets = refl
@@ -266,10 +236,9 @@ module _ (d : SpiTable) (unit_bodies : LongBodies (spi_basis d) UnitBody) (sync_
         refused = ap (not_sent s q) (refused_so d s (calls.Sequence q SyncTransmit) e is)
 
         found : (off there sync : Bool) → off ≡ false → sync ≡ true → (if off then Some errors.SpiUninit else if not there || not sync then Some errors.SpiParamSeq else None) ≡ Some e → there ≡ false
-        found true there sync f g h = absurd (cc)
         found false true true f g h = absurd (cc)
-        found false true false f g h = absurd (cc)
         found false false sync f g h = refl
+        found _ _ _ f g h = absurd (cc)
 
         other : (x : Carrying) → carried_for d s q ≡ Some x → is_of q x.entry ≡ false
         other x f = not_true (is_of q x.entry) (λ own. none (carried-right d s q x f) own)
@@ -392,9 +361,8 @@ module _ (d : SpiTable) (unit_bodies : LongBodies (spi_basis d) UnitBody) (sync_
         subst (λ n. Looks (calls.Channel c call) (channel_begun d n call)) (sym (below_byte c (omega (arith, lt)))) (at_channel c call lets clear)
       where
         known_channel : (c : ℕ) (call : ChannelCall) → error_by d (calls.Channel c call) (is_off s.mode) false ≡ None → c < 16
-        known_channel c (WriteIb p) clear = let there = internal_channel (channel_of d c) (clear_two (is_off s.mode) (is_internal_channel (channel_of d c)) errors.SpiUninit errors.SpiParamChannel clear).1 in of_sixteen d c there.0 fits there.1
-        known_channel c ReadIb clear = let there = internal_channel (channel_of d c) (clear_two (is_off s.mode) (is_internal_channel (channel_of d c)) errors.SpiUninit errors.SpiParamChannel clear).1 in of_sixteen d c there.0 fits there.1
         known_channel c (SetupEb p q n) clear = let there = external_channel (channel_of d c) (clear_three (is_off s.mode) (is_external_channel (channel_of d c)) (is_wrong_length n (channel_of d c)) errors.SpiUninit errors.SpiParamChannel errors.SpiParamLength clear).1 in of_sixteen d c there.0 fits there.1
+        known_channel c _ clear = let there = internal_channel (channel_of d c) (clear_two (is_off s.mode) (is_internal_channel (channel_of d c)) errors.SpiUninit errors.SpiParamChannel clear).1 in of_sixteen d c there.0 fits there.1
 
     -- the sequence is configured
     sequence_small : (q : ℕ) → is_some (sequence_of d q) ≡ true → q < 8
@@ -435,8 +403,6 @@ module _ (d : SpiTable) (unit_bodies : LongBodies (spi_basis d) UnitBody) (sync_
       reset = asks_no (spi_machine d) (calls.Get queries.Status) (Some Act) (Some (outcome s (answers (named SpiUninit)))) refl;
       polls = refl;
     }
-    query_begins queries.Status lets clear Polling e = record { at = (h, ((Is_this_frame, clear, ap is_off e, tt, tt), omega arith, none_before)); closed = refl; fuel = omega arith; room = omega arith }
-    query_begins queries.Status lets clear Interrupt e = record { at = (h, ((Is_this_frame, clear, ap is_off e, tt, tt), omega arith, none_before)); closed = refl; fuel = omega arith; room = omega arith }
     query_begins (queries.JobResult j) lets clear m e = job_begins j clear
     query_begins (queries.SequenceResult q) lets clear m e =
         let facts = clear_two (is_off s.mode) (is_some (sequence_of d q)) errors.SpiUninit errors.SpiParamSeq clear in
@@ -446,6 +412,7 @@ module _ (d : SpiTable) (unit_bodies : LongBodies (spi_basis d) UnitBody) (sync_
         let facts = clear_three (is_off s.mode) true (nat_lt 1 u) errors.SpiUninit errors.SpiUninit errors.SpiParamUnit clear in
         let lt = is_past 1 u facts.2 in
         record { at = (h, (u, (Is_this_frame, clear, facts.0), omega (arith, lt), below_byte u (omega (arith, lt)))); closed = refl; fuel = omega arith; room = omega arith }
+    query_begins _ lets clear _ e = record { at = (h, ((Is_this_frame, clear, ap is_off e, tt, tt), omega arith, none_before)); closed = refl; fuel = omega arith; room = omega arith }
 
     module _ (a : AreRight) where
       sequence_begins : (q : ℕ) (call : SequenceCall) → Beside (spi_setting d) (Called (calls.Sequence q call)) below → error_by d (calls.Sequence q call) (is_off s.mode) false ≡ None → Looks (calls.Sequence q call) (sequence_begun d (q % 256) call)
@@ -459,15 +426,11 @@ module _ (d : SpiTable) (unit_bodies : LongBodies (spi_basis d) UnitBody) (sync_
           let kind = neither (is_some (sequence_of d q)) (not (is_sync_sequence d q)) facts.1 in
           let lt = sequence_small q kind.0 in
           subst (λ n. Looks (calls.Sequence q SyncTransmit) (sequence_begun d n SyncTransmit)) (sym (below_byte q (omega (arith, lt)))) (record {
-            at = a.sends.begins below chip w s q lt kind.0 (sent_so (is_sync_sequence d q) kind.1) facts.0 lets h;
+            at = a.sends.begins below chip w s q lt kind.0 (not-false (is_sync_sequence d q) kind.1) facts.0 lets h;
             closed = a.sends.closed q;
             fuel = a.sends.fuel q lt kind.0;
             room = a.sends.room q;
           })
-        where
-          sent_so : (b : Bool) → not b ≡ false → b ≡ true
-          sent_so true e = refl
-          sent_so false e = absurd (cc)
       sequence_begins q Cancel lets clear =
           let facts = clear_sequence (is_off s.mode) (is_wrong_sequence d q Cancel) errors.SpiUninit errors.SpiParamSeq clear in
           let lt = sequence_small q (neither (is_some (sequence_of d q)) false facts.1).0 in
@@ -542,8 +505,7 @@ module _ (d : SpiTable) (unit_bodies : LongBodies (spi_basis d) UnitBody) (sync_
       -- the state word says whether the module is initialised
       off_word : (m : Mode) → (mode_word m == 0) ≡ is_off m
       off_word Off = refl
-      off_word Polling = refl
-      off_word Interrupt = refl
+      off_word _ = refl
 
       looks : (call : Call) → Beside (spi_setting d) (Called call) below → Looks call (spi_looked (record { call = call; table = d }) (word_of chip STATE))
       looks call lets =
@@ -592,21 +554,11 @@ module _ (d : SpiTable) (unit_bodies : LongBodies (spi_basis d) UnitBody) (sync_
     handled line false = refl
 
     call_steps : (call : Call) → 7 + (steps_of d (Called call) - 7) ≤ steps_of d (Called call)
-    call_steps calls.Init = omega arith
-    call_steps calls.DeInit = omega arith
-    call_steps (calls.SetAsyncMode m) = omega arith
-    call_steps calls.MainFunctionHandling = omega arith
     call_steps (calls.Channel c (WriteIb p)) = omega arith
-    call_steps (calls.Channel c ReadIb) = omega arith
-    call_steps (calls.Channel c (SetupEb p q n)) = omega arith
-    call_steps (calls.Sequence q AsyncTransmit) = omega arith
-    call_steps (calls.Sequence q Cancel) = omega arith
-    call_steps (calls.Sequence q SyncTransmit) = by (sequence_of d q)
-      where
-        by : (o : Option Sequence) → 7 + (sent_steps d o - 7) ≤ sent_steps d o
-        by None = omega arith
-        by (Some k) = omega arith
-    call_steps (calls.Get x) = omega arith
+    call_steps (calls.Sequence q SyncTransmit) =
+        elim (sequence_of d q) as (λ o. 7 + (sent_steps d o - 7) ≤ sent_steps d o)
+        [ None ↦ omega arith | Some k ↦ omega arith ]
+    call_steps _ = omega arith
 
     -- no frame leaves a unit waiting whose line it has served
     abbrev Leaves : World → Chip → SpiState → SpiBody → Origin Call → ℕ → FrameHistory → Done → Type 0
@@ -628,11 +580,8 @@ module _ (d : SpiTable) (unit_bodies : LongBodies (spi_basis d) UnitBody) (sync_
 
     -- a read alone ends its frame itself
     stops : (below : Reservations) (chip : Chip) (w : World) (s : SpiState) (k : SpiBody) (o : Origin Call) (t : FrameHistory) (x : Answer) → AssertedAt (spi_basis d) (both firsts lasts) below chip w s k o t → ended_at (both firsts lasts) spi_ends k (value_of chip ((both firsts lasts).work_of k)) ≡ Some x → LeavesNone (spi_machine d) w s o t.polled t.served
-    stops below chip w s (First k) o t x h e = absurd (cc)
-    stops below chip w s (Second (First (First k))) o t x h e = absurd (cc)
-    stops below chip w s (Second (First (Second (First k)))) o t x h e = absurd (cc)
     stops below chip w s (Second (First (Second (Second k)))) o t x h e = unpolled_left d w s o t.polled t.served (read_unpolled d below chip w s o t k h)
-    stops below chip w s (Second (Second k)) o t x h e = absurd (cc)
+    stops below chip w s _ o t x h e = absurd (cc)
 
     pub spi_right : AreEndingServices spi spi_ends
     spi_right = record {

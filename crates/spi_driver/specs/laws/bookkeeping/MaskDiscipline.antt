@@ -10,7 +10,7 @@ use Terms.{KeepsMask, lets_of, LongBodies, Main, main_over, nat_lt, None, Notice
 use Terms.{plain_turns, Position, refl, releasing, request_looked, requested_by, Reservations, Rest, run_in, Running}
 use Terms.{Sent, sequence_word, serve_finds, serve_more, serve_move, serve_owes, serve_run, serve_takes, ServePlace}
 use Terms.{ServeStep, shares, Some, spi_basis, spi_owing, SpiRepresents, SpiState, SpiTable, spot_or, start_finds}
-use Terms.{start_found, start_looks, start_more, start_move, start_owes, start_takes, Started, StartPlace, suc}
+use Terms.{start_found, start_looks, start_more, start_move, start_owes, start_takes, Started, StartPlace}
 use Terms.{told_first, Transmit, true, TurnsMask, TurnsTo, unit_acts, unit_move, unit_over, unit_owes, unit_takes}
 use Terms.{UnitBody, UnitPlace, Units, Unmask, value_of, where_owed, with_holds, word_of, World, zero, ℕ}
 use Rattle.spi_driver.specs.laws.services.UnitFrames.{IsFor, RequestAt, Transmits, Handles, Mains, Rests, at, holds_by}
@@ -43,9 +43,8 @@ module _ (a : Starting) (b : Serving) (d : SpiTable) (fits : FitsSpi d) (startin
   begins_open x r = by r.served.failed (further_of x r)
     where
       by : (q : Bool) (n : Option Position) → is_shut (if q then serve.Marks r else begins_by r n) ≡ false
-      by true n = refl
       by false None = refl
-      by false (Some n) = refl
+      by _ _ = refl
 
   lets_open : (x : SpiTable) (r : Arrived) (n : Position) → is_shut (lets_of x r n) ≡ false
   lets_open x r n = let c = channel_next x r n in by (c.channel.internal && is_last_place c n.word)
@@ -61,20 +60,16 @@ module _ (a : Starting) (b : Serving) (d : SpiTable) (fits : FitsSpi d) (startin
       by : (q : Bool) → (let r : ServePlace × ServeStep = if q then (serve.State, steps.Over) else (serve.Running (v / 4 % 2 == 1), steps.Goes None) in is_shut r.0) ≡ false
       by true = refl
       by false = refl
-  serve_open x u (serve.Running q) v i = by (run_in v)
-    where
-      by : (o : Option Running) → is_shut (serve_run q o).0 ≡ false
-      by None = refl
-      by (Some r) = refl
+  serve_open x u (serve.Running q) v i =
+      elim (run_in v) as (λ o. is_shut (serve_run q o).0 ≡ false)
+      [ None ↦ refl | Some r ↦ refl ]
   serve_open x u (serve.Position r q) v i = refl
   serve_open x u (serve.Taker r) v i = refl
   serve_open x u (serve.Receive r q) v i = begins_open x (record { served = r; taker = q; word = v })
   serve_open x u (serve.Width r q) v i = refl
-  serve_open x u (serve.Find r q f) v i = by (find_gave f v)
-    where
-      by : (o : Option ℕ) → is_shut (serve_finds r q f v o).0 ≡ false
-      by None = refl
-      by (Some n) = refl
+  serve_open x u (serve.Find r q f) v i =
+      elim (find_gave f v) as (λ o. is_shut (serve_finds r q f v o).0 ≡ false)
+      [ None ↦ refl | Some n ↦ refl ]
   serve_open x u (serve.Begin r q n) v i = lets_open x r q
   serve_open x u (serve.Marks r) v i = refl
   serve_open x u (serve.Nexts r q) v i = refl
@@ -92,18 +87,14 @@ module _ (a : Starting) (b : Serving) (d : SpiTable) (fits : FitsSpi d) (startin
   start_open x u (start.Marks n) v i = refl
   start_open x u (start.Front n m f) v i = by (has_ended (front_gave f v))
     where
-      found : (q : Bool) → is_closing (start_found x n m f v (gave (front_gave f v)) q).0 ≡ false
-      found true = refl
-      found false = refl
-
       by : (q : Bool) → is_closing (start_looks x n m f v (front_gave f v) q).0 ≡ false
-      by true = found (nat_lt (gave (front_gave f v)) 8)
+      by true =
+          elim (nat_lt (gave (front_gave f v)) 8) as (λ q. is_closing (start_found x n m f v (gave (front_gave f v)) q).0 ≡ false)
+          [ true ↦ refl | false ↦ refl ]
       by false = refl
-  start_open x u (start.Find c f) v i = by (find_gave f v)
-    where
-      by : (o : Option ℕ) → is_closing (start_finds c f v o).0 ≡ false
-      by None = refl
-      by (Some n) = refl
+  start_open x u (start.Find c f) v i =
+      elim (find_gave f v) as (λ o. is_closing (start_finds c f v o).0 ≡ false)
+      [ None ↦ refl | Some n ↦ refl ]
   start_open x u (start.Select c n) v i = refl
   start_open x u (start.Width c n) v i = refl
   start_open x u (start.Begin c n) v i = refl
@@ -155,15 +146,10 @@ module _ (a : Starting) (b : Serving) (d : SpiTable) (fits : FitsSpi d) (startin
   KeepsTo n r = KeepsMask true (is_closed (V.assertion r.0)) n (V.room r.0) r.1.event r.1.done
 
   over_keeps : (e : FrameRole) (u n : ℕ) (p q : UnitPlace) → 1 ≤ n → KeepsTo n (unit_over (at d e u p) q e u)
-  over_keeps Main zero n p q le = by (is_sync_unit d 1)
-    where
-      by : (z : Bool) → KeepsTo n (main_over (at d Main 0 p) q z)
-      by true = le
-      by false = (refl, omega (arith, le))
-  over_keeps Main (suc u) n p q le = le
-  over_keeps Rest u n p q le = le
-  over_keeps Handler u n p q le = le
-  over_keeps (Transmit k) u n p q le = le
+  over_keeps Main zero n p q le =
+      elim (is_sync_unit d 1) as (λ z. KeepsTo n (main_over (at d Main 0 p) q z))
+      [ true ↦ le | false ↦ (refl, omega (arith, le)) ]
+  over_keeps _ _ n p q le = le
 
   serve_keeps_mask : (e : FrameRole) (u n : ℕ) (p : ServePlace) (z : ServePlace × ServeStep) → is_shut z.0 ≡ false → ServeLess (serve_room_at b d) n z → KeepsTo n (after_serve (at d e u (place.Serve p)) z)
   serve_keeps_mask e u n p (r, steps.Goes x) i less = (serve_closed d e u r i, serve_room e u n r less)
@@ -209,19 +195,16 @@ module _ (a : Starting) (b : Serving) (d : SpiTable) (fits : FitsSpi d) (startin
       few Rest u _ Rests asked = absurd asked
   turns_at below chip w s e u (place.Request request.Accept) o t i h = (refl, omega arith)
   turns_at below chip w s e u (place.Request _) o t i h = absurd (cc)
-  turns_at below chip w s e u place.Act o t i h = by (is_sync_unit d u)
-    where
-      by : (z : Bool) → KeepsTo 1 (unit_acts (at d e u place.Act) z)
-      by true = omega arith
-      by false = (refl, omega arith)
+  turns_at below chip w s e u place.Act o t i h =
+      elim (is_sync_unit d u) as (λ z. KeepsTo 1 (unit_acts (at d e u place.Act) z))
+      [ true ↦ omega arith | false ↦ (refl, omega arith) ]
   turns_at below chip w s e u (place.Opens after.Serve) o t i h = (refl, refl, refl, refl)
   turns_at below chip w s e u (place.Opens after.Start) o t i h = (refl, refl, refl, refl)
   turns_at below chip w s e u (place.Opens (after.Tell n)) o t i h = by n.job n.sequence
     where
       by : (j k : Option Notice) → TurnsMask 32 true (is_closed (V.assertion (at d e u (told_first j k)))) 0 (V.room (at d e u (told_first j k))) Unmask None None
-      by (Some j) k = (refl, refl, refl, refl)
       by None (Some k) = (refl, refl, refl, refl)
-      by None None = (refl, refl, refl, refl)
+      by _ _ = (refl, refl, refl, refl)
   turns_at below chip w s e u (place.Tell n None) o t i h = (refl, refl, refl, refl)
   turns_at below chip w s e u (place.Tell n (Some k)) o t i h = (refl, refl, refl, refl)
   turns_at below chip w s e u (place.Serve serve.Shut) o t i h = (refl, refl, let le = serving.room_first in omega (arith, le), refl, refl)

@@ -2,12 +2,12 @@
 -- Used by bookkeeping.KeepsToModule, proofs/frames/SpiDriverCaller/call_steps/Answers.
 use Rattle.std.proofs.Common.{◌≡◌, ◌+◌, ◌*◌, ◌≤◌, if◌then◌else◌}
 use Rattle.spi_driver.specs.Terms
-use Terms.{All, ap, arith, AsyncTransmit, Bool, Call, call_steps, Cancel, Channel, channel_of, channels_by}
-use Terms.{channel_steps, ChannelCall, count_by-le-length, DeInit, false, FitsSpi, Get, get_or_default, Init}
+use Terms.{All, ap, arith, Call, call_steps, Channel, channel_of, channels_by}
+use Terms.{channel_steps, ChannelCall, count_by-le-length, DeInit, false, FitsSpi, get_or_default, Init}
 use Terms.{internal_by, internal_words, is_some, Job, job_of, job_steps, jobs_by, length, length-take-le, length_by}
-use Terms.{MainFunctionHandling, None, objects, OfChannel, Option, own_words, ReadIb, refl, sent_steps, sequence_of}
-use Terms.{SetAsyncMode, SetupEb, slice_index_or, Some, SpiTable, subst, sum_by, sum_by-le, SyncTransmit}
-use Terms.{true, whole_steps, WriteIb, ℕ}
+use Terms.{None, objects, OfChannel, Option, own_words, refl, sent_steps, sequence_of}
+use Terms.{SetupEb, slice_index_or, Some, SpiTable, subst, sum_by, sum_by-le, SyncTransmit}
+use Terms.{true, whole_steps, ℕ}
 use Rattle.spi_machine.specs.declared.call.Call.TheVariants.{Sequence}
 use Rattle.spi_machine.specs.declared.table.Sequence.{Sequence as SpiSequenceRow}
 
@@ -18,11 +18,9 @@ module _ (d : SpiTable) (fits : FitsSpi d) where
 
   internal_few : (o : Option Channel) → length_by o ≤ 64 → internal_by o ≤ 64
   internal_few None few = omega arith
-  internal_few (Some k) few = by k.internal
-    where
-      by : (q : Bool) → (if q then k.length else 0) ≤ 64
-      by true = few
-      by false = omega arith
+  internal_few (Some k) few =
+      elim k.internal as (λ q. (if q then k.length else 0) ≤ 64)
+      [ true ↦ few | false ↦ omega arith ]
 
   pub all_few : All (λ (o : Option Channel). length_by o ≤ 64) d.channels
   all_few = λ i o lt. subst (λ x. length_by x ≤ 64) (get_or_default d.channels i None o lt) (length_few (channel_of d i) i refl)
@@ -48,9 +46,8 @@ module _ (d : SpiTable) (fits : FitsSpi d) where
   whole_few = omega (arith, objects_few, internal_words_few)
 
   channel_steps_few : (o : Option Channel) (call : ChannelCall) → length_by o ≤ 64 → channel_steps o call ≤ 304
-  channel_steps_few o (WriteIb p) few = omega (arith, few)
-  channel_steps_few o ReadIb few = omega (arith, few)
   channel_steps_few o (SetupEb p q n) few = omega arith
+  channel_steps_few o _ few = omega (arith, few)
 
   -- of a sequence that is sent at once: each job has at most four channels of 64 words, and a sequence 16 jobs
   job_few : (j : ℕ) → job_steps d j ≤ 4160
@@ -81,10 +78,6 @@ module _ (d : SpiTable) (fits : FitsSpi d) where
   pub steps_few : (call : Call) → call_steps d call ≤ 66656
   steps_few Init = let few = whole_few in omega (arith, few)
   steps_few DeInit = let few = whole_few in omega (arith, few)
-  steps_few (SetAsyncMode m) = omega arith
-  steps_few MainFunctionHandling = omega arith
   steps_few (OfChannel c call) = let few = channel_steps_few (channel_of d c) call (length_few (channel_of d c) c refl) in omega (arith, few)
-  steps_few (Sequence q AsyncTransmit) = omega arith
-  steps_few (Sequence q Cancel) = omega arith
   steps_few (Sequence q SyncTransmit) = sent_few q
-  steps_few (Get x) = omega arith
+  steps_few _ = omega arith

@@ -9,7 +9,7 @@ use Terms.{false, find_gave, FitsSpi, FrameHistory, FrameRole, Front, front_move
 use Terms.{has_line, held_by, holds_at, is_left_waiting, is_owed, is_shared, is_sync_unit, Leaves, LeavesNone, List}
 use Terms.{list_all, Load, Main, main_over, Move, no_answer, None, not, Nothing, Notice, Option, Origin, outcome_of}
 use Terms.{PendingWrites, place_at, polled_by, ReceivedRight, refl, request_takes, Requested, requested_by}
-use Terms.{RequestPlace, Reservations, Rest, run_in, Running, same_number, Search, search_move, serve_finds}
+use Terms.{RequestPlace, Reservations, Rest, run_in, Running, same_number, search_move, serve_finds}
 use Terms.{serve_owes, serve_run, serve_takes, ServePlace, ServeStep, Some, spi_bare, spi_basis, spi_machine}
 use Terms.{spi_owing, SpiRepresents, SpiState, SpiTable, spot_or, start_finds, start_move, start_owes, start_takes}
 use Terms.{Started, StartPlace, STATE, state_by, subst, suc, sym, Transmit, true, unit_acts, unit_over, unit_owes}
@@ -207,12 +207,9 @@ module _ (a : Starting) (b : Serving) (d : SpiTable) (fits : FitsSpi d) where
         by (r1, started.Over) k is = cleared_left later w s (start_move d u p) y n d e u (at d e u (place.Start p)) (place.Start r1) below o t frame done k is
 
     front_received : (f : Front) → ReceivedRight chip w (front_move f) 0
-    front_received f = by f.search
-      where
-        by : (z : Search) → ReceivedRight chip w (search_move z) 0
-        by (search.Tally at) = refl
-        by (search.Low at tally) = refl
-        by (search.High at tally low) = refl
+    front_received f =
+        elim f.search as (λ z. ReceivedRight chip w (search_move z) 0)
+        [ search.Tally at ↦ refl | _ ↦ refl ]
 
     abbrev LeftX : SpiTable → FrameRole → ℕ → UnitPlace → Type 0
     LeftX x e u p = LeftAt (at x e u p) (unit_takes (at x e u p) (value_of chip (unit_work (at x e u p)))).1

@@ -50,15 +50,10 @@ RequestOn (p, requested.Accepted) = Unit {0}
 pub request_on : (d : SpiTable) (q : ℕ) (p : RequestPlace) (v : ℕ) → request_owes p ≡ true → RequestOn (request_takes d q p v)
 request_on d q (request.Look k) v e = absurd (cc)
 request_on d q request.Accept v e = absurd (cc)
-request_on d q request.Nexts v e = refl
-request_on d q (request.First x) v e = refl
-request_on d q request.Marks v e = refl
-request_on d q (request.Unmark x) v e = refl
-request_on d q (request.Add p) v e = by (has_ended (add_gave p v))
-  where
-    by : (b : Bool) → RequestOn (request_adds p v b)
-    by true = tt
-    by false = refl
+request_on d q (request.Add p) v e =
+    elim (has_ended (add_gave p v)) as (λ b. RequestOn (request_adds p v b))
+    [ true ↦ tt | false ↦ refl ]
+request_on d q _ v e = refl
 
 -- ---- a start
 
@@ -75,44 +70,28 @@ prepared_on d r = let x = channel_at_place d r.job 0 in by (x.channel.internal &
     by false = refl
 
 prepare_on : (d : SpiTable) (r : Running) (i : ℕ) → start_owes (prepare_at d r i) ≡ true
-prepare_on d r i = by (channel_number (list_of d r.job) i)
-  where
-    by : (o : Option ℕ) → start_owes (prepare_by d r i o) ≡ true
-    by None = prepared_on d r
-    by (Some c) = refl
+prepare_on d r i =
+    elim (channel_number (list_of d r.job) i) as (λ o. start_owes (prepare_by d r i o) ≡ true)
+    [ None ↦ prepared_on d r | Some c ↦ refl ]
 
 start_on : (d : SpiTable) (u : ℕ) (p : StartPlace) (v : ℕ) → start_owes p ≡ true → StartOn (start_takes d u p v)
-start_on d u start.Shut v e = absurd (cc)
-start_on d u start.Running v e = absurd (cc)
-start_on d u start.Nexts v e = absurd (cc)
-start_on d u (start.Marks x) v e = absurd (cc)
-start_on d u (start.Front x m p) v e = absurd (cc)
-start_on d u (start.Find c p) v e = absurd (cc)
-start_on d u (start.Select c x) v e = absurd (cc)
-start_on d u (start.Width c x) v e = absurd (cc)
-start_on d u (start.Begin c x) v e = absurd (cc)
-start_on d u (start.Choose c p) v e = by (has_ended (next_gave p v))
-  where
-    by : (b : Bool) → StartOn (start_chooses c p v b)
-    by true = refl
-    by false = refl
+start_on d u (start.Choose c p) v e =
+    elim (has_ended (next_gave p v)) as (λ b. StartOn (start_chooses c p v b))
+    [ true ↦ refl | false ↦ refl ]
 start_on d u (start.Mark c) v e = prepare_on d c.run 0
-start_on d u (start.Prepare r i p) v e = by (prepare_ends p v)
+start_on d u (start.Prepare r i p) v e =
+    elim (prepare_ends p v) as (λ b. StartOn (start_prepares d r i p v b))
+    [ true ↦ next (nat_lt i 3) | false ↦ refl ]
   where
     next : (q : Bool) → start_owes (if q then prepare_at d r (i + 1) else prepared d r) ≡ true
     next true = prepare_on d r (i + 1)
     next false = prepared_on d r
-
-    by : (b : Bool) → StartOn (start_prepares d r i p v b)
-    by true = next (nat_lt i 3)
-    by false = refl
-start_on d u (start.Release r p) v e = by (has_ended (take_gave p v))
-  where
-    by : (b : Bool) → StartOn (start_releases r p v b)
-    by true = refl
-    by false = refl
+start_on d u (start.Release r p) v e =
+    elim (has_ended (take_gave p v)) as (λ b. StartOn (start_releases r p v b))
+    [ true ↦ refl | false ↦ refl ]
 start_on d u (start.Run r) v e = refl
 start_on d u start.Stand v e = tt
+start_on d u _ v e = absurd (cc)
 
 -- ---- a serving
 
@@ -176,58 +155,35 @@ goes_on_on d r (courses.Further v) = (refl, refl)
 goes_on_on d r (courses.Ends x) = (refl, refl)
 
 pub serve_on : (d : SpiTable) (u : ℕ) (p : ServePlace) (v : ℕ) → serve_owes p ≡ true → ServeOn d (serve_ahead d p) (serve_takes d u p v)
-serve_on d u serve.Shut v e = absurd (cc)
-serve_on d u serve.State v e = absurd (cc)
-serve_on d u (serve.Running failed) v e = absurd (cc)
-serve_on d u (serve.Position r failed) v e = absurd (cc)
-serve_on d u (serve.Taker r) v e = absurd (cc)
-serve_on d u (serve.Receive r t) v e = absurd (cc)
-serve_on d u (serve.Width r p) v e = absurd (cc)
-serve_on d u (serve.Find r p f) v e = absurd (cc)
-serve_on d u (serve.Begin r p x) v e = absurd (cc)
-serve_on d u (serve.Marks r) v e = absurd (cc)
-serve_on d u (serve.Nexts r c) v e = absurd (cc)
-serve_on d u (serve.Acknowledge r c) v e = absurd (cc)
-serve_on d u (serve.Let r p t) v e = by (has_ended (take_gave t v))
-  where
-    by : (b : Bool) → ServeOn d None (serve_lets d r p t v b)
-    by true = (refl, refl)
-    by false = (refl, refl)
-serve_on d u (serve.Keep k p) v e = by (keep_ends k)
-  where
-    by : (b : Bool) → ServeOn d None (serve_keeps k p b)
-    by true = (refl, refl)
-    by false = (refl, refl)
+serve_on d u (serve.Let r p t) v e =
+    elim (has_ended (take_gave t v)) as (λ b. ServeOn d None (serve_lets d r p t v b))
+    [ true ↦ (refl, refl) | false ↦ (refl, refl) ]
+serve_on d u (serve.Keep k p) v e =
+    elim (keep_ends k) as (λ b. ServeOn d None (serve_keeps k p b))
+    [ true ↦ (refl, refl) | false ↦ (refl, refl) ]
 serve_on d u (serve.Stand p) v e = (refl, refl)
 serve_on d u (serve.Free r c) v e = ends_on d r c
-serve_on d u (serve.Release l i t) v e = by (has_ended (take_gave t v))
-  where
-    by : (b : Bool) → ServeOn d (Some (notices_by d l.served l.course)) (serve_releases d l i t v b)
-    by true = release_on d l (3 - i)
-    by false = (refl, refl)
-serve_on d u (serve.KeepLast l k) v e = by (keep_ends k)
-  where
-    by : (b : Bool) → ServeOn d (Some (notices_by d l.served l.course)) (serve_keeps_last d l k b)
-    by true = commit_on d l 4
-    by false = (refl, refl)
-serve_on d u (serve.Commit l i c) v e = by (commit_ends c v)
-  where
-    by : (b : Bool) → ServeOn d (Some (notices_by d l.served l.course)) (serve_commits d l i c v b)
-    by true = commit_on d l (3 - i)
-    by false = (refl, refl)
+serve_on d u (serve.Release l i t) v e =
+    elim (has_ended (take_gave t v)) as (λ b. ServeOn d (Some (notices_by d l.served l.course)) (serve_releases d l i t v b))
+    [ true ↦ release_on d l (3 - i) | false ↦ (refl, refl) ]
+serve_on d u (serve.KeepLast l k) v e =
+    elim (keep_ends k) as (λ b. ServeOn d (Some (notices_by d l.served l.course)) (serve_keeps_last d l k b))
+    [ true ↦ commit_on d l 4 | false ↦ (refl, refl) ]
+serve_on d u (serve.Commit l i c) v e =
+    elim (commit_ends c v) as (λ b. ServeOn d (Some (notices_by d l.served l.course)) (serve_commits d l i c v b))
+    [ true ↦ commit_on d l (3 - i) | false ↦ (refl, refl) ]
 serve_on d u (serve.Result l) v e = goes_on_on d l.served l.course
 serve_on d u (serve.Further r x) v e = (refl, refl)
-serve_on d u (serve.Again r a) v e = by (has_ended (again_gave a v))
-  where
-    by : (b : Bool) → ServeOn d (Some (job_notice d r.run.job)) (serve_again d r a v b)
-    by true = ap (λ ns. Some ns) (job_told d r.run.job ∙ told_first (job_note d r.run.job))
-    by false = (refl, refl)
+serve_on d u (serve.Again r a) v e =
+    elim (has_ended (again_gave a v)) as (λ b. ServeOn d (Some (job_notice d r.run.job)) (serve_again d r a v b))
+    [ true ↦ ap (λ ns. Some ns) (job_told d r.run.job ∙ told_first (job_note d r.run.job)) | false ↦ (refl, refl) ]
 serve_on d u (serve.End r x) v e = (refl, refl)
 serve_on d u (serve.Drop r p) v e = by (has_ended (drop_gave p v))
   where
     by : (b : Bool) → ServeOn d (Some (job_notice d r.run.job ++ sequence_notice d r.run.sequence)) (serve_drops d r p v b)
     by true = ap (λ ns. Some ns) (ap (λ ns. ns ++ sequence_notice d r.run.sequence) (job_told d r.run.job) ∙ ap (λ ns. and_other (job_note d r.run.job) ++ ns) (sequence_told d r.run.sequence) ∙ told_both (job_note d r.run.job) (sequence_note d r.run.sequence))
     by false = (refl, refl)
+serve_on d u _ v e = absurd (cc)
 
 -- ---- all of them
 
@@ -257,9 +213,7 @@ module _ (a : Starting) (b : Serving) (d : SpiTable) where
   -- no unit comes after the second one
   pub unit_second : (e : FrameRole) → unit_after e 1 ≡ 0
   unit_second Main = refl
-  unit_second Rest = refl
-  unit_second Handler = refl
-  unit_second (Transmit n) = refl
+  unit_second _ = refl
 
   -- the frame is done with the unit
   passes_so : (x : SpiTable) (e : FrameRole) (u : ℕ) (p q : UnitPlace) → GoesSo (about x e u ToPass) (unit_over (at x e u p) q e u)
@@ -268,10 +222,7 @@ module _ (a : Starting) (b : Serving) (d : SpiTable) where
       by : (z : Bool) → GoesSo (about x Main 0 ToPass) (main_over (at x Main 0 p) q z)
       by true = inr (refl, refl, tt)
       by false = inr (refl, refl, (refl, refl, refl, (let last = unit_second (rest_after q) in omega (arith, last)), omega arith))
-  passes_so x Main (suc u) p q = inr (refl, refl, tt)
-  passes_so x Rest u p q = inr (refl, refl, tt)
-  passes_so x Handler u p q = inr (refl, refl, tt)
-  passes_so x (Transmit n) u p q = inr (refl, refl, tt)
+  passes_so x _ _ p q = inr (refl, refl, tt)
 
   goes_so : (x : SpiTable) (e : FrameRole) (u : ℕ) (p : UnitPlace) (v : ℕ) → unit_owes p ≡ true → GoesSo (about x e u (ahead_of x p)) (unit_takes (at x e u p) v)
   goes_so x e u (place.Request r) v i = by (request_takes x (requested_by e) r v) (request_on x (requested_by e) r v i)
@@ -294,9 +245,7 @@ module _ (a : Starting) (b : Serving) (d : SpiTable) where
       by (r1, steps.Goes (Some n)) h = absurd h
       by (r1, steps.Over) h = subst (λ n. GoesSo (about x e u (served_ahead n)) (unit_over (at x e u (place.Serve r)) (place.Serve r1) e u)) (sym h.0) (passes_so x e u (place.Serve r) (place.Serve r1))
       by (r1, steps.JobOver n) h = subst (λ n1. GoesSo (about x e u (served_ahead n1)) (at x e u (place.Opens (after.Tell n)), goes)) (sym h) (inr (refl, refl, (refl, refl, refl, omega arith, omega arith)))
-  goes_so x e u place.Act v i = absurd (cc)
-  goes_so x e u (place.Opens n) v i = absurd (cc)
-  goes_so x e u (place.Tell n m) v i = absurd (cc)
+  goes_so x e u _ v i = absurd (cc)
 
   -- ---- after the last one the frame stands, or may end
 
@@ -307,14 +256,12 @@ module _ (a : Starting) (b : Serving) (d : SpiTable) where
   all_none served missed ls e = ap (list_all (λ l. served l || missed l)) e
 
   still_met : (x y z : Bool) → x || z ≡ true → x || (y || z) ≡ true
-  still_met true y z e = refl
-  still_met false true z e = refl
   still_met false false z e = e
+  still_met _ _ z e = refl
 
   both_met : (x y : Bool) → x ≡ true → y ≡ true → x && (y && true) ≡ true
   both_met true true e f = refl
-  both_met false y e f = absurd (cc)
-  both_met true false e f = absurd (cc)
+  both_met _ _ e f = absurd (cc)
 
   -- the main function ends that has met both lines
   pub main_stops : (t : FrameHistory) (m : ℕ → Bool) → t.acted ≡ Some no_answer → t.polled ≡ 26 ∷ 27 ∷ [] → t.report ≡ None → t.owed ≡ [] → is_met t 26 ≡ true → is_met t 27 ≡ true → MayStop (spi_basis d) (Called calls.MainFunctionHandling) t m (record { answer = no_answer; owed = Nothing })

@@ -3,12 +3,12 @@
 use Rattle.std.proofs.Common.{◌≡◌, ◌&&◌, [], ◌∙◌, if◌then◌else◌}
 use Rattle.spi_driver.specs.Terms
 use Terms.{Abort, Act, ap, AssertedAt, Bool, brought_by, Call, call_by, Called, cancel_bodies, CancelBody}
-use Terms.{Chip, Done, Error, Event, false, FrameHistory, happening_at, init_bodies, InitBody, InitPlace}
+use Terms.{Chip, Done, Event, false, FrameHistory, happening_at, init_bodies, InitBody, InitPlace}
 use Terms.{is_left_waiting, is_off, is_some, Is_this_frame, IsInit, IsThisFrame, Leaves, LeavesNone, List, list_all}
-use Terms.{mode_later, Move, moved, next_at, next_by, next_on, None, not, Nothing, One, Option, Order, Origin}
+use Terms.{mode_later, Move, moved, next_at, next_by, next_on, None, not, Nothing, Option, Order, Origin}
 use Terms.{outcome_of, pending_later, polled_by, polls, query_bodies, QueryBody, read_bodies, ReadBody, ReadPlace}
 use Terms.{refl, Reservations, Run, run_at, runs_later, Serve, served_by, set_up_bodies, SetUpBody, Some, spi_basis}
-use Terms.{spi_machine, SpiState, SpiTable, Start, state_by, subst, sym, true, Two, unit_of, Whole, whole_bodies}
+use Terms.{spi_machine, SpiState, SpiTable, Start, state_by, subst, sym, unit_of, Whole, whole_bodies}
 use Terms.{WholeBody, World, world_after, write_bodies, WriteBody, ℕ}
 use Rattle.service_outline.specs.declared.done.Epilogue as owing
 use Rattle.spi_sequences.specs.declared.service.cancel.CancelBody.TheVariants as cancel
@@ -42,16 +42,12 @@ module _ (d : SpiTable) (w : World) (s : SpiState) where
   unpolled_left _ _ served (Polls_none c none) = refl
 
   pub leaves_unpolled : (o : Origin Call) (t : FrameHistory) (made : Move) (y : ℕ) (e : Option Event) (n : Done) → PollsNone o t.polled → LeavesBy d w s o t made y e n
-  leaves_unpolled o t made y e n none = by n.owed
+  leaves_unpolled o t made y e n none =
+      elim n.owed as (λ x. Leaves (spi_machine d) w s1 o (polled_by (spi_machine d) w s o t.polled e) (served_by t.served e) x)
+      [ Nothing ↦ left_none o t.polled (served_by t.served e) e none w s1 | _ ↦ left_none o t.polled (served_by t.served e) e none ]
     where
       s1 : SpiState
       s1 = state_by s (outcome_of (spi_machine d) w s (happening_at o (brought_by w t.committed made y) e))
-
-      by : (x : owing.Epilogue) → Leaves (spi_machine d) w s1 o (polled_by (spi_machine d) w s o t.polled e) (served_by t.served e) x
-      by Nothing = left_none o t.polled (served_by t.served e) e none w s1
-      by (Error x) = left_none o t.polled (served_by t.served e) e none
-      by (One k) = left_none o t.polled (served_by t.served e) e none
-      by (Two k j) = left_none o t.polled (served_by t.served e) e none
 
 -- ---- the bodies that start and serve no unit
 
@@ -60,8 +56,7 @@ being_none {c} {p} Is_this_frame e none = subst (λ ls. PollsNone (Called c) ls)
 
 whole_polls : (x : Whole) (s : SpiState) → polls s (call_by x) ≡ []
 whole_polls wholes.DeInit s = refl
-whole_polls (wholes.Mode m lines) s = refl
-whole_polls wholes.Status s = refl
+whole_polls _ s = refl
 
 module _ (d : SpiTable) (below : Reservations) (chip : Chip) (w : World) (s : SpiState) (o : Origin Call) (t : FrameHistory) where
   init_is : (x : SpiTable) → IsInit d x below o t → PollsNone o t.polled
@@ -71,19 +66,9 @@ module _ (d : SpiTable) (below : Reservations) (chip : Chip) (w : World) (s : Sp
   init_unpolled k h = by k.place h
     where
       by : (p : InitPlace) → AssertedAt (spi_basis d) (init_bodies d) below chip w s (record k { place = p }) o t → PollsNone o t.polled
-      by init.Opens h = init_is k.table h.1.0
-      by (init.Free u) h = init_is k.table h.1.0
-      by (init.Empty u) h = init_is k.table h.1.0
-      by (init.Job j) h = init_is k.table h.1.0
-      by (init.Sequence q) h = init_is k.table h.1.0
-      by (init.SetUp c) h = init_is k.table h.1.0
-      by (init.Choose c side) h = init_is k.table h.1.0
-      by (init.Fill c side b i) h = init_is k.table h.1.0
-      by (init.Shut c side b) h = init_is k.table h.1.0
-      by (init.Commit c side p) h = init_is k.table h.1.0
-      by (init.Reopen c side) h = init_is k.table h.1.0
       by init.Closes h = init_is k.table h.1
       by init.Store h = init_is k.table h.1
+      by _ h = init_is k.table h.1.0
 
   pub whole_unpolled : (k : WholeBody) → AssertedAt (spi_basis d) (whole_bodies d) below chip w s k o t → PollsNone o t.polled
   whole_unpolled (whole.Look x q) h = being_none h.1.0.0 refl (whole_polls x)
@@ -100,31 +85,20 @@ module _ (d : SpiTable) (below : Reservations) (chip : Chip) (w : World) (s : Sp
 
   pub write_unpolled : (k : WriteBody) → AssertedAt (spi_basis d) (write_bodies d) below chip w s k o t → PollsNone o t.polled
   write_unpolled (write.Choose r) h = being_none h.1.0.2 refl (λ z. refl)
-  write_unpolled (write.Opens r b) h = being_none h.1.0.2 refl (λ z. refl)
-  write_unpolled (write.Load r b i) h = being_none h.1.0.2 refl (λ z. refl)
-  write_unpolled (write.Fill r b i v) h = being_none h.1.0.2 refl (λ z. refl)
-  write_unpolled (write.Shut r b) h = being_none h.1.0.2 refl (λ z. refl)
-  write_unpolled (write.Commit r b p) h = being_none h.1.0.2 refl (λ z. refl)
+  write_unpolled _ h = being_none h.1.0.2 refl (λ z. refl)
 
   pub read_unpolled : (k : ReadBody) → AssertedAt (spi_basis d) (read_bodies d) below chip w s k o t → PollsNone o t.polled
   read_unpolled k h = by k.place h
     where
       by : (p : ReadPlace) → AssertedAt (spi_basis d) (read_bodies d) below chip w s (record k { place = p }) o t → PollsNone o t.polled
       by (read.Pin p) h = being_none h.1.0.2 refl (λ z. refl)
-      by read.Opens h = being_none h.1.3 refl (λ z. refl)
-      by read.Load h = being_none h.1.3 refl (λ z. refl)
-      by read.Shut h = being_none h.1.3 refl (λ z. refl)
       by (read.Release p) h = being_none h.1.0.3 refl (λ z. refl)
-      by read.Leave h = being_none h.1.3 refl (λ z. refl)
       by read.Over h = absurd h.1
+      by _ h = being_none h.1.3 refl (λ z. refl)
 
   pub cancel_unpolled : (k : CancelBody) → AssertedAt (spi_basis d) (cancel_bodies d) below chip w s k o t → PollsNone o t.polled
-  cancel_unpolled (cancel.Result r) h = being_none h.1.1.0 refl (λ z. refl)
-  cancel_unpolled (cancel.Running r) h = being_none h.1.1.0 refl (λ z. refl)
-  cancel_unpolled (cancel.Marks r) h = being_none h.1.1.0 refl (λ z. refl)
-  cancel_unpolled (cancel.Mark v) h = being_none h.1.1.0 refl (λ z. refl)
-  cancel_unpolled (cancel.Store r) h = being_none h.1.1.0 refl (λ z. refl)
   cancel_unpolled (cancel.Drop r p) h = being_none h.1.1 refl (λ z. refl)
+  cancel_unpolled _ h = being_none h.1.1.0 refl (λ z. refl)
 
 -- ---- the hardware
 
@@ -136,9 +110,8 @@ module _ (d : SpiTable) (w : World) (s : SpiState) (order : Order) where
   waits_is z u = by (is_off z.mode) (run_at z u)
     where
       by : (q : Bool) (r : Option Run) → is_some (if q then None else next_by d z u r) ≡ not q && (not (is_some r) && is_some (next_on d u z.pending))
-      by true r = refl
       by false None = refl
-      by false (Some r) = refl
+      by _ _ = refl
 
   same_waits : (u : Option ℕ) → is_some (next_at d s1 u) ≡ is_some (next_at d s u)
   same_waits None = refl

@@ -20,6 +20,7 @@ use Rattle.spi_machine.specs.declared.call.Call.TheVariants as calls
 use Rattle.spi_sequences.specs.declared.service.request.RequestPlace.TheVariants as request
 use Rattle.spi_sequences.specs.declared.service.request.Requested.TheVariants as requested
 use Rattle.spi_sequences.specs.declared.service.unit.UnitPlace.TheVariants as place
+use Rattle.plain_facts.specs.Numbers.{lt_is}
 
 -- ---- two sequences have a job in common, as the frame finds it
 
@@ -48,15 +49,12 @@ shares_none l xs (suc n) i e lt = by (is_some (place_in l (slice_index_or xs n 0
     at_last : (i n : ℕ) → i < suc n → nat_lt i n ≡ false → n ≡ i
     at_last i n lt f = grind (arith, nat_tests)
 
-    before : (i n : ℕ) → nat_lt i n ≡ true → i < n
-    before i n f = grind (arith, nat_tests)
-
     by : (q : Bool) → is_some (place_in l (slice_index_or xs n 0)) ≡ q → q || shares_before l xs n ≡ false → (shares_before l xs n ≡ false → i < n → is_some (place_in l (slice_index_or xs i 0)) ≡ false) → is_some (place_in l (slice_index_or xs i 0)) ≡ false
     by true f g rest = absurd (cc)
     by false f g rest = by_place (nat_lt i n) refl
       where
         by_place : (b : Bool) → nat_lt i n ≡ b → is_some (place_in l (slice_index_or xs i 0)) ≡ false
-        by_place true h = rest g (before i n h)
+        by_place true h = rest g (lt_is i n h)
         by_place false h = subst (λ k. is_some (place_in l (slice_index_or xs k 0)) ≡ false) (at_last i n lt h) f
 
 pub shares_of : (d : SpiTable) → FitsSpi d → (q other : ℕ) → shares d q other ≡ shares_job d q other

@@ -30,10 +30,6 @@ ahead_is d (serve.Release l i t) = ap (λ ns. Some ns) (notices_are d l.served l
 ahead_is d (serve.KeepLast l k) = ap (λ ns. Some ns) (notices_are d l.served l.course)
 ahead_is d (serve.Commit l i c) = ap (λ ns. Some ns) (notices_are d l.served l.course)
 ahead_is d (serve.Result l) = ap (λ ns. Some ns) (notices_are d l.served l.course)
-ahead_is d (serve.Further r v) = refl
-ahead_is d (serve.Again r a) = refl
-ahead_is d (serve.End r x) = refl
-ahead_is d (serve.Drop r p) = refl
 ahead_is d _ = refl
 
 -- what a step leaves, as a frame takes it

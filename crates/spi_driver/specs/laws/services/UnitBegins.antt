@@ -70,9 +70,8 @@ module _ (a : Starting) (b : Serving) (d : SpiTable) (c : LongBodies (spi_basis 
         is = named (is_used d line) e
 
         started : (used sync : Bool) → used && not sync ≡ true → sync ≡ false
-        started true true f = absurd (cc)
         started true false f = refl
-        started false sync f = absurd (cc)
+        started _ _ f = absurd (cc)
 
         async : (u : ℕ) → unit_of line ≡ Some u → is_sync_unit d u ≡ false
         async u f = started (uses_unit d u) (is_sync_unit d u) (sym (ap (uses_by d) f) ∙ is.0)

@@ -4,14 +4,14 @@
 use Rattle.std.proofs.Common.{◌≡◌, ◌+◌, ◌-◌, ◌<◌, ◌≤◌, ◌==◌, ◌&&◌, ◌||◌, ◌∙◌, if◌then◌else◌}
 use Rattle.spi_driver.specs.Terms
 use Terms.{after_request, after_serve, after_start, ap, AreFree, AreLong, arith, AssertedAt, begins_word, BodyTaken}
-use Terms.{Bool, Call, Chip, false, FitsSpi, FrameHistory, FrameRole, Handler, happened, holds_at, is_below, is_closed}
+use Terms.{Bool, Call, Chip, false, FitsSpi, FrameHistory, FrameRole, happened, holds_at, is_below, is_closed}
 use Terms.{is_fill, is_masked, is_quiet, is_shared, is_sync_unit, IsFree, KeepsClean, Load, LongBodies, Main}
 use Terms.{main_over, may, MayCome, Move, moved, nat_lt, None, not_filled, Notice, Option, or_owed, Order, Origin}
-use Terms.{owed_right, PENDING, place_at, refl, request_looked, requested_by, Reservations, resets_chip, Rest}
+use Terms.{owed_right, PENDING, place_at, refl, request_looked, requested_by, Reservations, resets_chip}
 use Terms.{rest_after, same_chip, sequence_word, serve_more, serve_move, serve_owes, serve_takes, ServePlace}
 use Terms.{ServeStep, shares, ShortensTo, Some, spi_bare, spi_basis, spi_owing, spi_setting, SpiState, SpiTable}
-use Terms.{spot_or, start_more, start_move, start_owes, start_takes, Started, StartPlace, STATE, subst, suc, sym}
-use Terms.{told_first, Transmit, true, TurnsTo, unit_acts, unit_move, unit_over, unit_owed, unit_owes, unit_takes}
+use Terms.{spot_or, start_more, start_move, start_owes, start_takes, Started, StartPlace, STATE, subst, sym}
+use Terms.{told_first, true, TurnsTo, unit_acts, unit_move, unit_over, unit_owed, unit_owes, unit_takes}
 use Terms.{unit_work, UnitBody, UnitPlace, Units, Unmask, value_of, where_owed, windows_right, with_holds, World}
 use Terms.{world_after, zero, ℕ}
 use Terms.{frame_may}
@@ -41,19 +41,13 @@ module _ (a : Starting) (b : Serving) (d : SpiTable) (fits : FitsSpi d) (startin
 
   ahead_few : (e : FrameRole) (u : ℕ) (n : Ahead) → ahead_steps e u n ≤ 33 + unit_after e u
   ahead_few e u ToStart = omega arith
-  ahead_few e u ToPass = omega arith
-  ahead_few e u (ToTell ns) = omega arith
+  ahead_few e u _ = omega arith
 
   over_short : (x : SpiTable) (e : FrameRole) (u n : ℕ) (p q : UnitPlace) → unit_after e u < n → ShortTo n (unit_over (at x e u p) q e u)
-  over_short x Main zero n p q lt = by (is_sync_unit x 1)
-    where
-      by : (z : Bool) → ShortTo n (main_over (at x Main 0 p) q z)
-      by true = omega (arith, lt)
-      by false = let last = unit_second a b d (rest_after q) in omega (arith, lt, last)
-  over_short x Main (suc u) n p q lt = omega (arith, lt)
-  over_short x Rest u n p q lt = omega (arith, lt)
-  over_short x Handler u n p q lt = omega (arith, lt)
-  over_short x (Transmit k) u n p q lt = omega (arith, lt)
+  over_short x Main zero n p q lt =
+      elim (is_sync_unit x 1) as (λ z. ShortTo n (main_over (at x Main 0 p) q z))
+      [ true ↦ omega (arith, lt) | false ↦ (let last = unit_second a b d (rest_after q) in omega (arith, lt, last)) ]
+  over_short x _ _ n p q lt = omega (arith, lt)
 
   serve_fuel : (x : SpiTable) (e : FrameRole) (u n : ℕ) (p : ServePlace) → serve_fuel_at b x p < n → V.fuel (at x e u (place.Serve p)) < n + (34 + unit_after e u)
   serve_fuel x e u n p = by (serve_owes p)
@@ -90,20 +84,17 @@ module _ (a : Starting) (b : Serving) (d : SpiTable) (fits : FitsSpi d) (startin
   short_at x e u (place.Request (request.Look k)) v i = looked_short x e u k (v == PENDING && (k == requested_by e || shares x (requested_by e) k))
   short_at x e u (place.Request request.Accept) v i = omega arith
   short_at x e u (place.Request _) v i = absurd (cc)
-  short_at x e u place.Act v i = by (is_sync_unit x u)
-    where
-      by : (z : Bool) → ShortTo (69 + unit_after e u) (unit_acts (at x e u place.Act) z)
-      by true = omega arith
-      by false = omega arith
+  short_at x e u place.Act v i =
+      elim (is_sync_unit x u) as (λ z. ShortTo (69 + unit_after e u) (unit_acts (at x e u place.Act) z))
+      [ true ↦ omega arith | false ↦ omega arith ]
   short_at x e u (place.Opens after.Serve) v i = let le = serving.shut in omega (arith, le)
   short_at x e u (place.Opens after.Start) v i = let le = starting.shut in omega (arith, le)
   short_at x e u (place.Opens (after.Tell n)) v i = by n.job n.sequence
     where
       by : (j k : Option Notice) → V.fuel (at x e u (told_first j k)) < 33 + unit_after e u
       by (Some j) (Some k) = omega arith
-      by (Some j) None = omega arith
-      by None (Some k) = omega arith
       by None None = let le = starting.shut in omega (arith, le)
+      by _ _ = omega arith
   short_at x e u (place.Tell n None) v i = let le = starting.shut in omega (arith, le)
   short_at x e u (place.Tell n (Some k)) v i = omega arith
   short_at x e u (place.Serve p) v i = serve_short x e u (b.fuel p) p (serve_takes x u p v) (serving.less_fuel x u p v i)
@@ -122,15 +113,10 @@ module _ (a : Starting) (b : Serving) (d : SpiTable) (fits : FitsSpi d) (startin
   never was made k e f = absurd (let g = sym e ∙ f in cc)
 
   over_clean : (x : SpiTable) (e : FrameRole) (u : ℕ) (was : Bool) (made : Move) (p q : UnitPlace) → CleanTo was made (unit_over (at x e u p) q e u)
-  over_clean x Main zero was made p q = by (is_sync_unit x 1)
-    where
-      by : (z : Bool) → CleanTo was made (main_over (at x Main 0 p) q z)
-      by true = tt
-      by false = λ f. absurd (cc)
-  over_clean x Main (suc u) was made p q = tt
-  over_clean x Rest u was made p q = tt
-  over_clean x Handler u was made p q = tt
-  over_clean x (Transmit k) u was made p q = tt
+  over_clean x Main zero was made p q =
+      elim (is_sync_unit x 1) as (λ z. CleanTo was made (main_over (at x Main 0 p) q z))
+      [ true ↦ tt | false ↦ (λ f. absurd (cc)) ]
+  over_clean x _ _ was made p q = tt
 
   serve_clean : (x : SpiTable) (e : FrameRole) (u : ℕ) (was : Bool) (made : Move) (p : ServePlace) (z : ServePlace × ServeStep) → CleanTo was made (after_serve (at x e u (place.Serve p)) z)
   serve_clean x e u was made p (r, steps.Goes k) = never was made (at x e u (place.Serve r)) (soiled (serve_owes r) (at x e u (place.Serve r)))
@@ -153,19 +139,16 @@ module _ (a : Starting) (b : Serving) (d : SpiTable) (fits : FitsSpi d) (startin
   clean_at x e u (place.Request (request.Look k)) v i = looked_clean x e u k (v == PENDING && (k == requested_by e || shares x (requested_by e) k))
   clean_at x e u (place.Request request.Accept) v i = λ f. absurd (cc)
   clean_at x e u (place.Request _) v i = absurd (cc)
-  clean_at x e u place.Act v i = by (is_sync_unit x u)
-    where
-      by : (z : Bool) → CleanTo false (Load STATE) (unit_acts (at x e u place.Act) z)
-      by true = tt
-      by false = λ f. absurd (cc)
+  clean_at x e u place.Act v i =
+      elim (is_sync_unit x u) as (λ z. CleanTo false (Load STATE) (unit_acts (at x e u place.Act) z))
+      [ true ↦ tt | false ↦ (λ f. absurd (cc)) ]
   clean_at x e u (place.Opens after.Serve) v i = λ f. absurd (cc)
   clean_at x e u (place.Opens after.Start) v i = λ f. absurd (cc)
   clean_at x e u (place.Opens (after.Tell n)) v i = by n.job n.sequence
     where
       by : (j k : Option Notice) → V.clean (at x e u (told_first j k)) ≡ true → (false ≡ true) × (is_quiet Unmask ≡ true)
-      by (Some j) k = λ f. absurd (cc)
       by None (Some k) = λ f. absurd (cc)
-      by None None = λ f. absurd (cc)
+      by _ _ = λ f. absurd (cc)
   clean_at x e u (place.Tell n None) v i = λ f. absurd (cc)
   clean_at x e u (place.Tell n (Some k)) v i = λ f. absurd (cc)
   clean_at x e u (place.Serve p) v i = serve_clean x e u false (serve_move x u p) p (serve_takes x u p v)

@@ -30,27 +30,19 @@ use Rattle.spi_sequences.specs.declared.service.unit.UnitPlace.TheVariants as pl
 
 search_plain : (x : Search) → is_shared (search_move x) ≡ false
 search_plain (search.Tally at) = refl
-search_plain (search.Low at tally) = refl
-search_plain (search.High at tally low) = refl
+search_plain _ = refl
 
 pub front_plain : (f : Front) → is_shared (front_move f) ≡ false
 front_plain f = search_plain f.search
 
 pub find_plain : (f : Find) → is_shared (find_move f) ≡ false
 find_plain (finds.Newest x) = refl
-find_plain (finds.SetUp x) = refl
-find_plain (finds.Pinned x i) = refl
-find_plain (finds.Held x i) = refl
-find_plain (finds.Bank x i n) = refl
-find_plain (finds.Source x i) = refl
-find_plain (finds.Default x) = refl
+find_plain _ = refl
 
 pub asking_plain : (x : Placed) (i : ℕ) → is_shared (asking x i) ≡ false
-asking_plain x i = by (x.channel.internal && i == 0)
-  where
-    by : (q : Bool) → is_shared (if q then Load (control_word x Received) else Load (held_word x)) ≡ false
-    by true = refl
-    by false = refl
+asking_plain x i =
+    elim (x.channel.internal && i == 0) as (λ q. is_shared (if q then Load (control_word x Received) else Load (held_word x)) ≡ false)
+    [ true ↦ refl | false ↦ refl ]
 
 free_when : (q : Bool) (k : UnitBody) → where_owed q (Units k) ≡ None → q ≡ false
 free_when true k e = absurd (cc)
@@ -68,7 +60,6 @@ module _ (a : Starting) (b : Serving) (d : SpiTable) (fits : FitsSpi d) (startin
   pub unit_table : (below : Reservations) (chip : Chip) (w : World) (s : SpiState) (x : SpiTable) (e : FrameRole) (u : ℕ) (p : UnitPlace) (o : Origin Call) (t : FrameHistory) → unit_owes p ≡ false → StandX below chip w s x e u p o t → x ≡ d
   unit_table below chip w s x e u (place.Request (request.Look k)) o t i h = h.1.0.table
   unit_table below chip w s x e u (place.Request request.Accept) o t i h = h.1.0.table
-  unit_table below chip w s x e u (place.Request _) o t i h = absurd (cc)
   unit_table below chip w s x e u place.Act o t i h = h.1.0
   unit_table below chip w s x e u (place.Opens y) o t i h = h.1.0.table
   unit_table below chip w s x e u (place.Tell n m) o t i h = h.1.0.table
@@ -84,7 +75,6 @@ module _ (a : Starting) (b : Serving) (d : SpiTable) (fits : FitsSpi d) (startin
   unit_table below chip w s x e u (place.Serve (serve.Marks r)) o t i h = h.1.1.table
   unit_table below chip w s x e u (place.Serve (serve.Nexts r q)) o t i h = h.1.1.table
   unit_table below chip w s x e u (place.Serve (serve.Acknowledge r q)) o t i h = h.1.1.table
-  unit_table below chip w s x e u (place.Serve _) o t i h = absurd (cc)
   unit_table below chip w s x e u (place.Start start.Shut) o t i h = h.1.0.table
   unit_table below chip w s x e u (place.Start start.Running) o t i h = h.1.1.table
   unit_table below chip w s x e u (place.Start start.Nexts) o t i h = h.1.1.table
@@ -94,7 +84,7 @@ module _ (a : Starting) (b : Serving) (d : SpiTable) (fits : FitsSpi d) (startin
   unit_table below chip w s x e u (place.Start (start.Select c v)) o t i h = h.1.1.table
   unit_table below chip w s x e u (place.Start (start.Width c v)) o t i h = h.1.1.table
   unit_table below chip w s x e u (place.Start (start.Begin c v)) o t i h = h.1.1.table
-  unit_table below chip w s x e u (place.Start _) o t i h = absurd (cc)
+  unit_table below chip w s x e u _ o t i h = absurd (cc)
 
   -- ---- the steps
 
@@ -182,7 +172,6 @@ module _ (a : Starting) (b : Serving) (d : SpiTable) (fits : FitsSpi d) (startin
       by Handler u _ Handles asked = absurd asked
       by Main u _ Mains asked = absurd asked
       by Rest u _ Rests asked = absurd asked
-  own_at below chip w s e u (place.Request _) o t i h = absurd (cc)
   own_at below chip w s e u place.Act o t i h = may_first d fits STATE (omega arith) (omega arith)
   own_at below chip w s e u (place.Opens n) o t i h = refl
   own_at below chip w s e u (place.Tell n n1) o t i h = refl
@@ -198,7 +187,6 @@ module _ (a : Starting) (b : Serving) (d : SpiTable) (fits : FitsSpi d) (startin
   own_at below chip w s e u (place.Serve (serve.Marks r)) o t i h = serving.may u h.1.1.small (with_holds o t.acted (holds_by e) below) chip w s (serve.Marks r) refl h.0 h.1.0
   own_at below chip w s e u (place.Serve (serve.Nexts r q)) o t i h = serving.may u h.1.1.small (with_holds o t.acted (holds_by e) below) chip w s (serve.Nexts r q) refl h.0 h.1.0
   own_at below chip w s e u (place.Serve (serve.Acknowledge r q)) o t i h = serving.may u h.1.1.small (with_holds o t.acted (holds_by e) below) chip w s (serve.Acknowledge r q) refl h.0 h.1.0
-  own_at below chip w s e u (place.Serve _) o t i h = absurd (cc)
   own_at below chip w s e u (place.Start start.Shut) o t i h = refl
   own_at below chip w s e u (place.Start start.Running) o t i h = starting.may u (with_holds o t.acted (holds_by e) below) o t.acted chip w s start.Running refl h.0 h.1.0
   own_at below chip w s e u (place.Start start.Nexts) o t i h = starting.may u (with_holds o t.acted (holds_by e) below) o t.acted chip w s start.Nexts refl h.0 h.1.0
@@ -208,7 +196,7 @@ module _ (a : Starting) (b : Serving) (d : SpiTable) (fits : FitsSpi d) (startin
   own_at below chip w s e u (place.Start (start.Select c v)) o t i h = starting.may u (with_holds o t.acted (holds_by e) below) o t.acted chip w s (start.Select c v) refl h.0 h.1.0
   own_at below chip w s e u (place.Start (start.Width c v)) o t i h = starting.may u (with_holds o t.acted (holds_by e) below) o t.acted chip w s (start.Width c v) refl h.0 h.1.0
   own_at below chip w s e u (place.Start (start.Begin c v)) o t i h = starting.may u (with_holds o t.acted (holds_by e) below) o t.acted chip w s (start.Begin c v) refl h.0 h.1.0
-  own_at below chip w s e u (place.Start _) o t i h = absurd (cc)
+  own_at below chip w s e u _ o t i h = absurd (cc)
 
   -- ---- what comes to pass meanwhile
 

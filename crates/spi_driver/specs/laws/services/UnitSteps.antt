@@ -51,7 +51,6 @@ met_too t t1 s m h = ap (λ ls. has_line ls 26 || has_line t1.missed 26) s ∙ a
 
 -- with its line served, the frame is done with the unit
 served_now : (d : SpiTable) (e : FrameRole) (u : ℕ) → u < 2 → (t t1 : FrameHistory) → t1.served ≡ (26 + u) ∷ t.served → t1.missed ≡ t.missed → Progress d e u false t → Progress d e u true t1
-served_now d (Transmit q) u lt t t1 s m h = absurd h
 served_now d Handler u lt t t1 s m h = s ∙ ap (λ ls. (26 + u) ∷ ls) h
 served_now d Main zero lt t t1 s m h = (
   ap (λ ls. has_line ls 26 || has_line t1.missed 26) s,
@@ -60,9 +59,9 @@ served_now d Main zero lt t t1 s m h = (
 )
 served_now d Main (suc zero) lt t t1 s m h = (met_too t t1 s m h.0, ap (λ ls. has_line ls 27 || has_line t1.missed 27) s, ap (λ ls. has_line ls 26) (s ∙ ap (λ ls. 27 ∷ ls) h.1))
 served_now d Main (suc (suc u)) lt t t1 s m h = absurd (omega (arith, lt))
-served_now d Rest zero lt t t1 s m h = absurd h
 served_now d Rest (suc zero) lt t t1 s m h = (met_too t t1 s m h.0, ap (λ ls. has_line ls 27 || has_line t1.missed 27) s)
 served_now d Rest (suc (suc u)) lt t t1 s m h = absurd (omega (arith, lt))
+served_now d _ _ lt t t1 s m h = absurd h
 
 -- a line is met that was missed now
 just_missed : (t : FrameHistory) (l : ℕ) → is_met (record t { missed = l ∷ t.missed }) l ≡ true
@@ -130,7 +129,6 @@ module _ (d : SpiTable) (w : World) (s : SpiState) (t : FrameHistory) where
 
 -- what was served and missed stays so where nothing is added
 same_progress : (d : SpiTable) (e : FrameRole) (u : ℕ) (q : Bool) (t t1 : FrameHistory) → t1.served ≡ t.served → t1.missed ≡ t.missed → Progress d e u q t → Progress d e u q t1
-same_progress d (Transmit n) u false t t1 s m h = absurd h
 same_progress d (Transmit n) u true t t1 s m h = tt
 same_progress d Handler u false t t1 s m h = s ∙ h
 same_progress d Handler u true t t1 s m h = s ∙ h
@@ -138,9 +136,9 @@ same_progress d Main zero false t t1 s m h = (s ∙ h.0, λ sync. met_still t t1
 same_progress d Main zero true t t1 s m h = (met_still t t1 26 s m h.0, ap (λ ls. has_line ls 27) s ∙ h.1, λ sync. met_still t t1 27 s m (h.2 sync))
 same_progress d Main (suc u) false t t1 s m h = (met_still t t1 26 s m h.0, s ∙ h.1)
 same_progress d Main (suc u) true t t1 s m h = (met_still t t1 26 s m h.0, met_still t t1 27 s m h.1, ap (λ ls. has_line ls 26) s ∙ h.2)
-same_progress d Rest zero q t t1 s m h = absurd h
 same_progress d Rest (suc u) false t t1 s m h = (met_still t t1 26 s m h.0, ap (λ ls. has_line ls 27) s ∙ h.1)
 same_progress d Rest (suc u) true t t1 s m h = (met_still t t1 26 s m h.0, met_still t t1 27 s m h.1)
+same_progress d _ _ _ t t1 s m h = absurd h
 
 -- so does what a frame has done, with other notices owed
 same_done : (d : SpiTable) (e : FrameRole) (u : ℕ) (q : Bool) (t t1 : FrameHistory) (owed owed1 : List Owing) → t1.acted ≡ t.acted → t1.polled ≡ t.polled → t1.report ≡ t.report → t1.served ≡ t.served → t1.missed ≡ t.missed → t1.owed ≡ owed1 → HasDone d e u q owed t → HasDone d e u q owed1 t1
@@ -208,10 +206,7 @@ module _ (a : Starting) (b : Serving) (d : SpiTable) (fits : FitsSpi d) where
         by : (z : Bool) → let r = main_over (at d Main 0 p) q z in Continues (spi_basis d) (unit_bodies a b d) below (chip_after chip made y) w s o (past_wrote w made t) m r.0 r.1.done → Work o t made value r
         by true h = h
         by false h = h
-    over_works Main (suc u) p q made value o t h = h
-    over_works Rest u p q made value o t h = h
-    over_works Handler u p q made value o t h = h
-    over_works (Transmit k) u p q made value o t h = h
+    over_works _ _ p q made value o t h = h
 
     -- the first word of a job begins
     begins_so : (e : FrameRole) (u : ℕ) (q : StartPlace) (x : Event) (made : Move) (value : ℕ) (o : Origin Call) (t : FrameHistory) → Frame d d e u o → HasDone d e u true [] t → resets_chip made ≡ false → StartBegins d e (with_holds o t.acted (with_cleared e u) below) u chip (chip_after chip made y) w s made value y q x
@@ -380,8 +375,7 @@ module _ (a : Starting) (b : Serving) (d : SpiTable) (fits : FitsSpi d) where
           where
             both_or : (x y : Bool) → x ≡ true → y ≡ true → (x || false) && ((y || false) && true) ≡ true
             both_or true true e f = refl
-            both_or false y e f = absurd (cc)
-            both_or true false e f = absurd (cc)
+            both_or _ _ e f = absurd (cc)
 
         -- the first unit is served first where it starts jobs alone
         first_async : (z : Bool) → is_sync_unit d 0 ≡ z → ◌≡◌ {A = ℕ} 0 (if z then 1 else 0) → is_sync_unit d 0 ≡ false
@@ -406,12 +400,10 @@ module _ (a : Starting) (b : Serving) (d : SpiTable) (fits : FitsSpi d) where
 
         by : (e : FrameRole) (u : ℕ) (o : Origin Call) → IsFor u e o → e ≡ Main → u ≡ first_served d
             → let r = unit_acts (at d e u place.Act) (is_sync_unit d u) in Work o fresh_history (Load STATE) (word_of chip STATE) r ⊎ ((l : ℕ) × (ready w s l ≡ false) × Work o (record fresh_history { missed = l ∷ [] }) (Load STATE) (word_of chip STATE) r)
-        by (Transmit q) u o for is first = absurd (cc)
-        by Handler u o for is first = absurd (cc)
-        by Rest u o for is first = absurd (cc)
         by Main zero _ Mains is first = let async = first_async (is_sync_unit d 0) refl first in subst (λ z. Either_acts 0 z) (sym async) (at_first (is_sync_unit d 1) refl async)
         by Main (suc zero) _ Mains is first = at_second (is_sync_unit d 1) refl (first_sync (is_sync_unit d 0) refl first)
         by Main (suc (suc u)) _ Mains is first = absurd (none_past (is_sync_unit d 0) u first)
+        by _ u o for is first = absurd (cc)
 
     -- after the opening it tells the notices, or starts
     pub opens_so : (e : FrameRole) (u : ℕ) (x : After) (o : Origin Call) (t : FrameHistory) → Frame d d e u o → OpensAt d e u x t → SpiRepresents d (with_holds o t.acted (opens_holds e u x) below) chip w s → StandAt below chip w s (at d e u (opened x)) o t
@@ -420,9 +412,8 @@ module _ (a : Starting) (b : Serving) (d : SpiTable) (fits : FitsSpi d) where
     opens_so e u (after.Tell x) o t frame done h = by x.job x.sequence done
       where
         by : (i j : Option Notice) → HasDone d e u true (owing true (told_list i j)) t → StandAt below chip w s (at d e u (told_first i j)) o t
-        by (Some i) j done = (h, (frame, done))
         by None (Some j) done = (h, (frame, done))
-        by None None done = (h, (frame, done))
+        by _ _ done = (h, (frame, done))
 
     pub tells_so : (e : FrameRole) (u : ℕ) (n : Notice) (other : Option Notice) (o : Origin Call) (t : FrameHistory) → Frame d d e u o → HasDone d e u true (owing true (n ∷ and_other other)) t → SpiRepresents d (with_holds o t.acted (with_debt e u) below) chip w s → Notes (spi_basis d) (unit_bodies a b d) below chip w s o n (at d e u (told_next other)) t
     tells_so e u n other o t frame done h = record {

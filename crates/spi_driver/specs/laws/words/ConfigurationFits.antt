@@ -9,6 +9,7 @@ use Terms.{Job, job_in, job_list, job_of, job_row, jobs_by, jobs_by_number, jobs
 use Terms.{Option, refl, rows, Sequence, sequence_in, sequence_of, sequence_row, sequences_by_number, slice_index_or}
 use Terms.{so_at, Some, some_of, SpiChannel, SpiConfig, SpiJob, SpiSequence, SpiTable, subst, suc, sum_by, sum_by-cons}
 use Terms.{sym, table_of, take, taken_channel, taken_job, taken_sequence, true, uses_channel, words_of, zero, ℕ}
+use Rattle.plain_facts.specs.Options.{some_is}
 
 -- ---- the words of channels
 
@@ -34,11 +35,9 @@ AreSmall ks = (c : ℕ) (k : Channel) → slice_index_or ks c None ≡ Some k �
 
 cost_few : (o : Option Channel) → ((k : Channel) → o ≡ Some k → k.length ≤ 64) → cost o ≤ 388
 cost_few None small = omega arith
-cost_few (Some k) small = by k.internal
-  where
-    by : (q : Bool) → 4 + (if q then 6 * k.length else 0) ≤ 388
-    by true = let few = small k refl in omega (arith, few)
-    by false = omega arith
+cost_few (Some k) small =
+    elim k.internal as (λ q. 4 + (if q then 6 * k.length else 0) ≤ 388)
+    [ true ↦ (let few = small k refl in omega (arith, few)) | false ↦ omega arith ]
 
 costs_few : (ks : List (Option Channel)) → AreSmall ks → (n : ℕ) → costs ks n ≤ 388 * n
 costs_few ks small zero = omega arith
@@ -64,10 +63,9 @@ before_is ks small (suc n) le = by (before_is ks small n (omega (arith, le))) (s
 -- later ones stand after them
 costs_up : (ks : List (Option Channel)) (b c : ℕ) → b ≤ c → costs ks b ≤ costs ks c
 costs_up ks zero c le = omega arith
-costs_up [] (suc b) zero le = absurd (omega (arith, le))
 costs_up [] (suc b) (suc c) le = omega arith
-costs_up (k ∷ ks) (suc b) zero le = absurd (omega (arith, le))
 costs_up (k ∷ ks) (suc b) (suc c) le = let rest = costs_up ks b c (omega (arith, le)) in omega (arith, rest)
+costs_up _ _ _ le = absurd (omega (arith, le))
 
 -- and all of them are among the module's: 32 for each object, and six for each word of an internal channel
 costs_within : (ks : List (Option Channel)) (n : ℕ) → costs ks n ≤ 32 * count_by is_some ks + 6 * sum_by internal_by ks
@@ -82,11 +80,9 @@ costs_within (k ∷ ks) (suc n) =
   where
     by : (o : Option Channel) → cost o ≤ 32 * cond (is_some o) 1 0 + 6 * internal_by o
     by None = omega arith
-    by (Some x) = by_kind x.internal
-      where
-        by_kind : (q : Bool) → 4 + (if q then 6 * x.length else 0) ≤ 32 * 1 + 6 * (if q then x.length else 0)
-        by_kind true = omega arith
-        by_kind false = omega arith
+    by (Some x) =
+        elim x.internal as (λ q. 4 + (if q then 6 * x.length else 0) ≤ 32 * 1 + 6 * (if q then x.length else 0))
+        [ true ↦ omega arith | false ↦ omega arith ]
 
 -- ---- a sound configuration
 
@@ -99,9 +95,6 @@ found_channel : (xs : List SpiChannel) → All IsSoundChannel xs → (c : ℕ) (
 found_channel [] all c k e = absurd (cc)
 found_channel (x ∷ xs) all c k e = by (found_channel xs (λ i y lt. all (suc i) y (omega (arith, lt))) c k) (x.id == c) e
   where
-    some_is : (a b : Channel) → Some a ≡ Some b → a ≡ b
-    some_is a b e = cc
-
     by : (channel_in xs c ≡ Some k → (x : SpiChannel) × IsSoundChannel x × (taken_channel x ≡ k)) → (q : Bool) → (if q then Some (taken_channel x) else channel_in xs c) ≡ Some k → (x : SpiChannel) × IsSoundChannel x × (taken_channel x ≡ k)
     by rest true f = (x, all 0 x (omega arith), some_is (taken_channel x) k f)
     by rest false f = rest f
@@ -111,80 +104,20 @@ abbrev IsTaken : Channel → Type 0
 IsTaken k = (x : SpiChannel) × IsSoundChannel x × (taken_channel x ≡ k)
 
 block_is : (xs : List (Option Channel)) (c : ℕ) → c < 16 → slice_index_or (blocks_of xs) c 0 ≡ before xs c
-block_is xs zero lt = refl
-block_is xs (suc zero) lt = refl
-block_is xs (suc (suc zero)) lt = refl
-block_is xs (suc (suc (suc zero))) lt = refl
-block_is xs (suc (suc (suc (suc zero)))) lt = refl
-block_is xs (suc (suc (suc (suc (suc zero))))) lt = refl
-block_is xs (suc (suc (suc (suc (suc (suc zero)))))) lt = refl
-block_is xs (suc (suc (suc (suc (suc (suc (suc zero))))))) lt = refl
-block_is xs (suc (suc (suc (suc (suc (suc (suc (suc zero)))))))) lt = refl
-block_is xs (suc (suc (suc (suc (suc (suc (suc (suc (suc zero))))))))) lt = refl
-block_is xs (suc (suc (suc (suc (suc (suc (suc (suc (suc (suc zero)))))))))) lt = refl
-block_is xs (suc (suc (suc (suc (suc (suc (suc (suc (suc (suc (suc zero))))))))))) lt = refl
-block_is xs (suc (suc (suc (suc (suc (suc (suc (suc (suc (suc (suc (suc zero)))))))))))) lt = refl
-block_is xs (suc (suc (suc (suc (suc (suc (suc (suc (suc (suc (suc (suc (suc zero))))))))))))) lt = refl
-block_is xs (suc (suc (suc (suc (suc (suc (suc (suc (suc (suc (suc (suc (suc (suc zero)))))))))))))) lt = refl
-block_is xs (suc (suc (suc (suc (suc (suc (suc (suc (suc (suc (suc (suc (suc (suc (suc zero))))))))))))))) lt = refl
 block_is xs (suc (suc (suc (suc (suc (suc (suc (suc (suc (suc (suc (suc (suc (suc (suc (suc i)))))))))))))))) lt = absurd (omega (arith, lt))
+block_is xs _ lt = refl
 
 pub channel_is : (xs : List SpiChannel) (c : ℕ) → c < 16 → slice_index_or (channels_by_number xs) c None ≡ channel_in xs c
-channel_is xs zero lt = refl
-channel_is xs (suc zero) lt = refl
-channel_is xs (suc (suc zero)) lt = refl
-channel_is xs (suc (suc (suc zero))) lt = refl
-channel_is xs (suc (suc (suc (suc zero)))) lt = refl
-channel_is xs (suc (suc (suc (suc (suc zero))))) lt = refl
-channel_is xs (suc (suc (suc (suc (suc (suc zero)))))) lt = refl
-channel_is xs (suc (suc (suc (suc (suc (suc (suc zero))))))) lt = refl
-channel_is xs (suc (suc (suc (suc (suc (suc (suc (suc zero)))))))) lt = refl
-channel_is xs (suc (suc (suc (suc (suc (suc (suc (suc (suc zero))))))))) lt = refl
-channel_is xs (suc (suc (suc (suc (suc (suc (suc (suc (suc (suc zero)))))))))) lt = refl
-channel_is xs (suc (suc (suc (suc (suc (suc (suc (suc (suc (suc (suc zero))))))))))) lt = refl
-channel_is xs (suc (suc (suc (suc (suc (suc (suc (suc (suc (suc (suc (suc zero)))))))))))) lt = refl
-channel_is xs (suc (suc (suc (suc (suc (suc (suc (suc (suc (suc (suc (suc (suc zero))))))))))))) lt = refl
-channel_is xs (suc (suc (suc (suc (suc (suc (suc (suc (suc (suc (suc (suc (suc (suc zero)))))))))))))) lt = refl
-channel_is xs (suc (suc (suc (suc (suc (suc (suc (suc (suc (suc (suc (suc (suc (suc (suc zero))))))))))))))) lt = refl
 channel_is xs (suc (suc (suc (suc (suc (suc (suc (suc (suc (suc (suc (suc (suc (suc (suc (suc i)))))))))))))))) lt = absurd (omega (arith, lt))
+channel_is xs _ lt = refl
 
 job_is : (xs : List SpiJob) (j : ℕ) → j < 16 → slice_index_or (jobs_by_number xs) j None ≡ job_in xs j
-job_is xs zero lt = refl
-job_is xs (suc zero) lt = refl
-job_is xs (suc (suc zero)) lt = refl
-job_is xs (suc (suc (suc zero))) lt = refl
-job_is xs (suc (suc (suc (suc zero)))) lt = refl
-job_is xs (suc (suc (suc (suc (suc zero))))) lt = refl
-job_is xs (suc (suc (suc (suc (suc (suc zero)))))) lt = refl
-job_is xs (suc (suc (suc (suc (suc (suc (suc zero))))))) lt = refl
-job_is xs (suc (suc (suc (suc (suc (suc (suc (suc zero)))))))) lt = refl
-job_is xs (suc (suc (suc (suc (suc (suc (suc (suc (suc zero))))))))) lt = refl
-job_is xs (suc (suc (suc (suc (suc (suc (suc (suc (suc (suc zero)))))))))) lt = refl
-job_is xs (suc (suc (suc (suc (suc (suc (suc (suc (suc (suc (suc zero))))))))))) lt = refl
-job_is xs (suc (suc (suc (suc (suc (suc (suc (suc (suc (suc (suc (suc zero)))))))))))) lt = refl
-job_is xs (suc (suc (suc (suc (suc (suc (suc (suc (suc (suc (suc (suc (suc zero))))))))))))) lt = refl
-job_is xs (suc (suc (suc (suc (suc (suc (suc (suc (suc (suc (suc (suc (suc (suc zero)))))))))))))) lt = refl
-job_is xs (suc (suc (suc (suc (suc (suc (suc (suc (suc (suc (suc (suc (suc (suc (suc zero))))))))))))))) lt = refl
 job_is xs (suc (suc (suc (suc (suc (suc (suc (suc (suc (suc (suc (suc (suc (suc (suc (suc i)))))))))))))))) lt = absurd (omega (arith, lt))
+job_is xs _ lt = refl
 
 number_is : (xs : List ℕ) (i : ℕ) → i < 16 → slice_index_or (job_list xs).numbers i 0 ≡ byte_at xs i
-number_is xs zero lt = refl
-number_is xs (suc zero) lt = refl
-number_is xs (suc (suc zero)) lt = refl
-number_is xs (suc (suc (suc zero))) lt = refl
-number_is xs (suc (suc (suc (suc zero)))) lt = refl
-number_is xs (suc (suc (suc (suc (suc zero))))) lt = refl
-number_is xs (suc (suc (suc (suc (suc (suc zero)))))) lt = refl
-number_is xs (suc (suc (suc (suc (suc (suc (suc zero))))))) lt = refl
-number_is xs (suc (suc (suc (suc (suc (suc (suc (suc zero)))))))) lt = refl
-number_is xs (suc (suc (suc (suc (suc (suc (suc (suc (suc zero))))))))) lt = refl
-number_is xs (suc (suc (suc (suc (suc (suc (suc (suc (suc (suc zero)))))))))) lt = refl
-number_is xs (suc (suc (suc (suc (suc (suc (suc (suc (suc (suc (suc zero))))))))))) lt = refl
-number_is xs (suc (suc (suc (suc (suc (suc (suc (suc (suc (suc (suc (suc zero)))))))))))) lt = refl
-number_is xs (suc (suc (suc (suc (suc (suc (suc (suc (suc (suc (suc (suc (suc zero))))))))))))) lt = refl
-number_is xs (suc (suc (suc (suc (suc (suc (suc (suc (suc (suc (suc (suc (suc (suc zero)))))))))))))) lt = refl
-number_is xs (suc (suc (suc (suc (suc (suc (suc (suc (suc (suc (suc (suc (suc (suc (suc zero))))))))))))))) lt = refl
 number_is xs (suc (suc (suc (suc (suc (suc (suc (suc (suc (suc (suc (suc (suc (suc (suc (suc i)))))))))))))))) lt = absurd (omega (arith, lt))
+number_is xs _ lt = refl
 
 module _ (g : SpiConfig) (sound : All IsSoundChannel g.channels) where
   abbrev d : SpiTable
@@ -249,11 +182,8 @@ pub channels_kept : (xs : List ℕ) → length xs ≤ 4 → AreNumbers xs → ta
 channels_kept xs le few = same_first xs (channel_list xs).numbers le (λ i lt. by i (omega (arith, lt, le)) ∙ kept_byte xs few i lt)
   where
     by : (i : ℕ) → i < 4 → slice_index_or (channel_list xs).numbers i 0 ≡ byte_at xs i
-    by zero lt = refl
-    by (suc zero) lt = refl
-    by (suc (suc zero)) lt = refl
-    by (suc (suc (suc zero))) lt = refl
     by (suc (suc (suc (suc i)))) lt = absurd (omega (arith, lt))
+    by _ lt = refl
 
 pub record IsSoundJob (g : SpiConfig) (x : SpiJob) : Type 0 where
   pub some : 0 < length x.channel_list
@@ -283,9 +213,6 @@ found_job : (P : SpiJob → Type 0) (xs : List SpiJob) → All P xs → (j : ℕ
 found_job P [] all j k e = absurd (cc)
 found_job P (x ∷ xs) all j k e = by (found_job P xs (λ i y lt. all (suc i) y (omega (arith, lt))) j k) (x.id == j) e
   where
-    some_is : (a b : Job) → Some a ≡ Some b → a ≡ b
-    some_is a b e = cc
-
     by : (job_in xs j ≡ Some k → (x : SpiJob) × P x × (taken_job x ≡ k)) → (q : Bool) → (if q then Some (taken_job x) else job_in xs j) ≡ Some k → (x : SpiJob) × P x × (taken_job x ≡ k)
     by rest true f = (x, all 0 x (omega arith), some_is (taken_job x) k f)
     by rest false f = rest f
@@ -294,9 +221,6 @@ found_sequence : (P : SpiSequence → Type 0) (xs : List SpiSequence) → All P 
 found_sequence P [] all q k e = absurd (cc)
 found_sequence P (x ∷ xs) all q k e = by (found_sequence P xs (λ i y lt. all (suc i) y (omega (arith, lt))) q k) (x.id == q) e
   where
-    some_is : (a b : Sequence) → Some a ≡ Some b → a ≡ b
-    some_is a b e = cc
-
     by : (sequence_in xs q ≡ Some k → (x : SpiSequence) × P x × (taken_sequence x ≡ k)) → (z : Bool) → (if z then Some (taken_sequence x) else sequence_in xs q) ≡ Some k → (x : SpiSequence) × P x × (taken_sequence x ≡ k)
     by rest true f = (x, all 0 x (omega arith), some_is (taken_sequence x) k f)
     by rest false f = rest f
@@ -313,15 +237,8 @@ module _ (g : SpiConfig) (sound : IsSound g) where
   job_at j lt = job_is g.jobs j lt
 
   sequence_at : (q : ℕ) → q < 8 → sequence_of t q ≡ sequence_in g.sequences q
-  sequence_at zero lt = refl
-  sequence_at (suc zero) lt = refl
-  sequence_at (suc (suc zero)) lt = refl
-  sequence_at (suc (suc (suc zero))) lt = refl
-  sequence_at (suc (suc (suc (suc zero)))) lt = refl
-  sequence_at (suc (suc (suc (suc (suc zero))))) lt = refl
-  sequence_at (suc (suc (suc (suc (suc (suc zero)))))) lt = refl
-  sequence_at (suc (suc (suc (suc (suc (suc (suc zero))))))) lt = refl
   sequence_at (suc (suc (suc (suc (suc (suc (suc (suc q)))))))) lt = absurd (omega (arith, lt))
+  sequence_at _ lt = refl
 
   jobs_fit : (j : ℕ) (k : Job) → job_of t j ≡ Some k → FitsJob t j k
   jobs_fit j k e = by (found_job (IsSoundJob g) g.jobs sound.jobs j k (sym (job_at j low) ∙ e))

@@ -6,10 +6,10 @@ use Rattle.spi_driver.specs.Terms
 use Terms.{all_carried, all_cases, all_of, all_pending, and_parts, any_in, ap, arith, bank_of, bank_word, Banks}
 use Terms.{BanksAgree, Bool, carried_at, carries_channel, Carrying, Channel, channel_at, channel_number, channel_of}
 use Terms.{ChannelList, channels_by, channels_of, Chip, Contains, control_word, entry_carried, false, first-at}
-use Terms.{FitsSpi, get_contained, get_or_default, has_channel, inl, inr, internal_word, Interrupt, is_in_use, is_off}
+use Terms.{FitsSpi, get_contained, get_or_default, has_channel, inl, inr, internal_word, is_in_use, is_off}
 use Terms.{Job, job_number, job_of, JobList, jobs_by, jobs_list, jobs_of, length, length-take-le, List, list_any}
 use Terms.{list_by, list_of, Memory, Mode, mode_word, nat_lt, nat_tests, None, none_under_way, not, number_there}
-use Terms.{of_sixteen, Off, Option, PENDING, Pending, Placed, placed_of, Polling, Received, refl, Reservations, Sent}
+use Terms.{of_sixteen, Off, Option, PENDING, Pending, Placed, placed_of, Received, refl, Reservations, Sent}
 use Terms.{Sequence, sequence_of, sequence_word, Side, slice_get, slice_index_or, Some, some_is, SpiRepresents}
 use Terms.{SpiState, SpiTable, STATE, subst, suc, sym, trio_fits, trio_of, true, uses_channel, view, word_of, WORDS}
 use Terms.{World, zero, ℕ}
@@ -105,11 +105,9 @@ upto_is p n b there back = both_ways (any_upto p n) b (λ e. let r = upto_some p
 
 module _ (d : SpiTable) (fits : FitsSpi d) (c : ℕ) where
   number_of : (j i : ℕ) → channel_number (list_of d j) i ≡ slice_get (channels_of d j) i
-  number_of j i = by (job_of d j)
-    where
-      by : (o : Option Job) → channel_number (list_by o) i ≡ slice_get (channels_by o) i
-      by None = refl
-      by (Some k) = refl
+  number_of j i =
+      elim (job_of d j) as (λ o. channel_number (list_by o) i ≡ slice_get (channels_by o) i)
+      [ None ↦ refl | Some k ↦ refl ]
 
   channels_few : (j : ℕ) → length (channels_of d j) ≤ 4
   channels_few j = by (job_of d j) refl
@@ -226,8 +224,7 @@ module _ (d : SpiTable) (fits : FitsSpi d) (c : ℕ) where
       where
         by : (m : Mode) → s.mode ≡ m → not (word_of chip STATE == 0) && among d (word_of chip) c 8 ≡ is_in_use d c (all_of (view s))
         by Off e = ap (λ v. not (v == 0) && among d (word_of chip) c 8) (h.words.state ∙ ap mode_word e) ∙ sym (off_none (ap is_off e))
-        by Polling e = ap (λ v. not (v == 0) && among d (word_of chip) c 8) (h.words.state ∙ ap mode_word e) ∙ among_is (ap is_off e)
-        by Interrupt e = ap (λ v. not (v == 0) && among d (word_of chip) c 8) (h.words.state ∙ ap mode_word e) ∙ among_is (ap is_off e)
+        by _ e = ap (λ v. not (v == 0) && among d (word_of chip) c 8) (h.words.state ∙ ap mode_word e) ∙ among_is (ap is_off e)
 
 -- ---- the words of an internal channel
 
@@ -302,10 +299,8 @@ told_internal d fits chip w s h c k known internal received i lt =
         subst (λ n. bank_word (placed_of d c) side n i < WORDS) (sym is) (bank_low x.0.bank below)
       where
         bank_low : (n : ℕ) → n < 3 → bank_word (placed_of d c) side n i < WORDS
-        bank_low zero l = let f = (trio_fits d fits c k known internal side).banks in omega (arith, f, less)
-        bank_low (suc zero) l = let f = (trio_fits d fits c k known internal side).banks in omega (arith, f, less)
-        bank_low (suc (suc zero)) l = let f = (trio_fits d fits c k known internal side).banks in omega (arith, f, less)
         bank_low (suc (suc (suc n))) l = absurd (omega (arith, l))
+        bank_low _ l = let f = (trio_fits d fits c k known internal side).banks in omega (arith, f, less)
 
     by : (q : Bool) → m (bank_word (placed_of d c) (side_of q) (bank_of (m (control_word (placed_of d c) (side_of q)))) i) ≡ internal_word s c q i
     by true = newest_get (placed_of d c) Received m b.received i b.receives less ∙ ap (λ xs. slice_index_or xs i 0) (b.readable refl) ∙ first-at k.length (channel_at s c).received i lt

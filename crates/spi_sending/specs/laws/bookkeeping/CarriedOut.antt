@@ -6,7 +6,7 @@ use Rattle.spi_sending.specs.Terms
 use Terms.{ap, Bool, Called, carried_at, carried_for, Carrying, Chip, entry_carried, false, FitsSpi, fresh_history}
 use Terms.{Going, is_off, is_sync_sequence, IsSending, List, None, not, Option, Pending, Position, Reservations, Run}
 use Terms.{run_carried, RunsBy, Some, SpiRepresents, SpiState, SpiTable, subst, sym, UnderWay, unit_of_sequence}
-use Terms.{unit_run, view, World, ℕ}
+use Terms.{some_is, unit_run, view, World, ℕ}
 use Rattle.spi_sending.specs.Sending.{IsSender}
 use Rattle.spi_sending.specs.laws.bookkeeping.HeldWord as held_word_laws
 use Rattle.spi_sending.specs.laws.{bookkeeping.HeldWord.{sending_of}}
@@ -15,10 +15,7 @@ use Rattle.spi_sending.specs.laws.{services.SendWindows.{asks}}
 -- what a unit carries out with a run that it has
 pub carrying_of : (o : Option Carrying) (r : Run) → run_carried o ≡ Some r → (e : Pending) × (o ≡ Some (record { entry = e; run = r }))
 carrying_of None r f = absurd (cc)
-carrying_of (Some x) r f = (x.entry, ap (λ z. Some (record { entry = x.entry; run = z })) (same x.run r f))
-  where
-    same : (a b : Run) → Some a ≡ Some b → a ≡ b
-    same a b e = cc
+carrying_of (Some x) r f = (x.entry, ap (λ z. Some (record { entry = x.entry; run = z })) (some_is x.run r f))
 
 module _ (d : SpiTable) (fits : FitsSpi d) (below : Reservations) (chip : Chip) (w : World) (s : SpiState) (u q n : ℕ) (at : Position) (bs : List ℕ) (failed : Option Bool) (device : ℕ) (h : SpiRepresents d (sending_of u q n at bs failed device ∷ below) chip w s)
     (run : Run) (runs : unit_run d s u ≡ Some run) (under : UnderWay d (sending_of u q n at bs failed device ∷ below) chip w s h u run) where
@@ -29,10 +26,7 @@ module _ (d : SpiTable) (fits : FitsSpi d) (below : Reservations) (chip : Chip) 
   its = under.job.pending
 
   pub going_same : under.job ≡ says.job
-  going_same = same under.job says.job (sym under.is ∙ says.is)
-    where
-      same : (a b : Going) → Some a ≡ Some b → a ≡ b
-      same a b e = cc
+  going_same = some_is under.job says.job (sym under.is ∙ says.is)
 
   pub sequence_is : its.sequence ≡ q
   sequence_is = ap (λ (g : Going). g.pending.sequence) going_same ∙ says.sequence
@@ -47,11 +41,8 @@ module _ (d : SpiTable) (fits : FitsSpi d) (below : Reservations) (chip : Chip) 
   carrying = record { entry = its; run = run }
 
   pub carried_is : carried_at s u ≡ Some carrying
-  carried_is = there.1 ∙ ap (λ z. Some (record { entry = z; run = run })) (same there.0 its (sym (ap entry_carried there.1) ∙ begun_is))
+  carried_is = there.1 ∙ ap (λ z. Some (record { entry = z; run = run })) (some_is there.0 its (sym (ap entry_carried there.1) ∙ begun_is))
     where
-      same : (a b : Pending) → Some a ≡ Some b → a ≡ b
-      same a b e = cc
-
       there : (e : Pending) × (carried_at s u ≡ Some (record { entry = e; run = run }))
       there = carrying_of (carried_at s u) run (sym (held_word_laws.runs_sent d fits below chip w s u q n at bs failed device h) ∙ runs)
 

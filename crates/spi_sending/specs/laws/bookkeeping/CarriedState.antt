@@ -14,6 +14,7 @@ use Terms.{started_bit, subst, sym, true, unit_of_sequence, View, ℕ}
 use Rattle.spi_sending.specs.laws.{bookkeeping.HeldWord.{sending_of}}
 use Rattle.spi_sequences.specs.Refinement.{IsLast as IsLastResult}
 use Rattle.word_shapes.specs.PriorityQueue as ranked
+use Rattle.std.proofs.lemmas.Bool.{or_right}
 
 -- a unit of this kind carries out no sequence, or this one
 pub record MayTake (d : SpiTable) (v : View) (u q : ℕ) : Type 0 where
@@ -114,26 +115,22 @@ module _ (d : SpiTable) (fits : FitsSpi d) (v : View) (h : IsSoundState d v) (u 
   taken_view = record v { begun = begun; job_results = jobs; sequence_results = sequences }
 
   all_back : (x : Pending) → Contains (all_of taken_view) x → (Contains (all_of v) x × (x.sequence ≢ p.sequence)) ⊎ (p ≡ x)
-  all_back x there = by (all_cases taken_view x there)
+  all_back x there =
+      elim (all_cases taken_view x there)
+      [ inl is ↦ inl (all_pending v x is, pending_other d fits v h u p.sequence t.may x is) | inr (n, e) ↦ unit n e (same_or_other n u) ]
     where
       unit : (n : ℕ) → begun n ≡ Some x → (n ≡ u) ⊎ (n ≢ u) → (Contains (all_of v) x × (x.sequence ≢ p.sequence)) ⊎ (p ≡ x)
       unit n e (inl f) = inr (same_Some p x (sym t.here ∙ ap begun (sym f) ∙ e))
       unit n e (inr ne) = let was = sym (t.others n ne) ∙ e in inl (all_carried v n x (h.carries.unit n x was).0 was, begun_other d fits v h u p.sequence t.may n x ne was)
 
-      by : Contains v.pending x ⊎ ((n : ℕ) × (begun n ≡ Some x)) → (Contains (all_of v) x × (x.sequence ≢ p.sequence)) ⊎ (p ≡ x)
-      by (inl is) = inl (all_pending v x is, pending_other d fits v h u p.sequence t.may x is)
-      by (inr (n, e)) = unit n e (same_or_other n u)
-
   pub all_there : (x : Pending) → Contains (all_of v) x → x.sequence ≢ p.sequence → Contains (all_of taken_view) x
-  all_there x there ne = by (all_cases v x there)
+  all_there x there ne =
+      elim (all_cases v x there)
+      [ inl is ↦ all_pending taken_view x is | inr (n, e) ↦ unit n e (same_or_other n u) ]
     where
       unit : (n : ℕ) → v.begun n ≡ Some x → (n ≡ u) ⊎ (n ≢ u) → Contains (all_of taken_view) x
       unit n e (inl f) = absurd (ne (t.may.same x (ap v.begun (sym f) ∙ e)))
       unit n e (inr other) = all_carried taken_view n x (h.carries.unit n x e).0 (t.others n other ∙ e)
-
-      by : Contains v.pending x ⊎ ((n : ℕ) × (v.begun n ≡ Some x)) → Contains (all_of taken_view) x
-      by (inl is) = all_pending taken_view x is
-      by (inr (n, e)) = unit n e (same_or_other n u)
 
   all_own : Contains (all_of taken_view) p
   all_own = all_carried taken_view u p t.may.few t.here
@@ -250,13 +247,9 @@ module _ (d : SpiTable) (fits : FitsSpi d) (v : View) (h : IsSoundState d v) (u 
   pub taken_carriers : (held : Reservations) (at : Position) (bs : List ℕ) (failed : Option Bool) (device : ℕ) → ((n : ℕ) (x : Pending) → n ≢ u → v.begun n ≡ Some x → list_any (λ z. is_sent x.sequence z.what) held ≡ true) → AreCarried taken_view (sending_of u p.sequence p.next at bs failed device ∷ held)
   taken_carriers held at bs failed device below n x e = by (same_or_other n u)
     where
-      either : (a b : Bool) → b ≡ true → a || b ≡ true
-      either true b f = refl
-      either false b f = f
-
       by : (n ≡ u) ⊎ (n ≢ u) → list_any (λ z. is_sent x.sequence z.what) (sending_of u p.sequence p.next at bs failed device ∷ held) ≡ true
       by (inl f) = ap (λ b. b || list_any (λ z. is_sent x.sequence z.what) held) (ap (λ (z : Pending). p.sequence == z.sequence) (sym (same_Some p x (sym t.here ∙ ap begun (sym f) ∙ e))) ∙ same_number p.sequence)
-      by (inr ne) = either (p.sequence == x.sequence) (list_any (λ z. is_sent x.sequence z.what) held) (below n x ne (sym (t.others n ne) ∙ e))
+      by (inr ne) = or_right (p.sequence == x.sequence) (list_any (λ z. is_sent x.sequence z.what) held) (below n x ne (sym (t.others n ne) ∙ e))
 
   -- ---- the words
 

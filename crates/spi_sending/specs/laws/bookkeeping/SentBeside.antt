@@ -1,16 +1,13 @@
 -- The frames below one that waits wait for words of other units; their reservations stay where those units' words and
 -- registers do.
 -- Used by bookkeeping.SelectsNext, services.SendFurther.
-use Rattle.std.proofs.Common.{◌≡◌, ◌≢◌, ◌<◌, ◌==◌, ◌||◌, [], ◌∷◌, ◌∙◌}
+use Rattle.std.proofs.Common.{◌≡◌, ◌≢◌, ◌<◌, ◌==◌, [], ◌∷◌, ◌∙◌}
 use Rattle.spi_sending.specs.Terms
-use Terms.{AllSend, ap, Bool, carried_at, Channel, channel_of, Chip, Cleared, Debt, false, Going, Handling, held_word}
-use Terms.{is_sent, KnowsEnd, list_any, Option, Part, placed_of, Preparing, Reading, refl, Reservation, Reservations}
-use Terms.{run_carried, same_number, selects, Sending, SendingRight, slice_get, Some, SpiState, SpiTable, stored}
-use Terms.{subst, sym, true, unit_at, word_of, World, Writing, ℕ}
-
-or_parts : (a b : Bool) → a || b ≡ false → (a ≡ false) × (b ≡ false)
-or_parts true b e = absurd (cc)
-or_parts false b e = (refl, e)
+use Terms.{AllSend, ap, carried_at, Channel, channel_of, Chip, false, Going, held_word}
+use Terms.{is_sent, KnowsEnd, list_any, Option, Part, placed_of, Reservation, Reservations}
+use Terms.{run_carried, same_number, selects, Sending, SendingRight, slice_get, Some, SpiState, SpiTable}
+use Terms.{some_is, subst, sym, unit_at, word_of, World, ℕ}
+use Rattle.std.proofs.lemmas.Bool.{or_parts}
 
 -- the units of other sequences go on as they were, and what they have selected and what is held of their jobs stays
 pub sends_beside : (d : SpiTable) (q u : ℕ) (g : Going) (chip chip1 : Chip) (w : World) (going going1 : ℕ → Option Going) (s s1 : SpiState) → going u ≡ Some g → g.pending.sequence ≡ q → ((n : ℕ) → n ≢ u → going1 n ≡ going n) → ((n : ℕ) → n ≢ u → (unit_at chip1.serials n).select ≡ (unit_at chip.serials n).select)
@@ -35,14 +32,6 @@ sends_beside d q u g chip chip1 w going going1 s s1 own of same selects banks ca
       end = subst (λ o. KnowsEnd w.now (run_carried o) failed) (sym (carried v ne)) r.end;
     }
       where
-        going_is : (a b : Going) → Some a ≡ Some b → a ≡ b
-        going_is a b e = cc
-
         ne : v ≢ u
-        ne e = let job : r.job ≡ g = going_is r.job g (sym r.is ∙ ap going e ∙ own) in let same : p ≡ q = sym r.sequence ∙ ap (λ (k : Going). k.pending.sequence) job ∙ of in absurd (let f = sym other ∙ ap (λ i. i == q) same ∙ same_number q in cc)
-    one (Debt v) other r = tt
-    one (Cleared v) other r = tt
-    one Handling other r = tt
-    one (Writing c p b i y) other r = tt
-    one (Reading c b) other r = tt
-    one (Preparing stored readied y) other r = tt
+        ne e = let job : r.job ≡ g = some_is r.job g (sym r.is ∙ ap going e ∙ own) in let same : p ≡ q = sym r.sequence ∙ ap (λ (k : Going). k.pending.sequence) job ∙ of in absurd (let f = sym other ∙ ap (λ i. i == q) same ∙ same_number q in cc)
+    one _ other r = tt

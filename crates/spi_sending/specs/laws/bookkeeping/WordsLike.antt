@@ -33,7 +33,9 @@ words_after_job d s x j = words_like d s (after_last s x.run false).channels (la
 
 -- what is sent of a channel stays, and where goes what comes in
 pub part_like : (d : SpiTable) (s : SpiState) (cs : List ChannelState) → IsFilled cs s → (c : ℕ) → part_by c (channel_of d c) (slice_index_or cs c untouched) ≡ part_at d s c
-part_like d s cs like c = by (channel_of d c)
+part_like d s cs like c =
+    elim (channel_of d c) as (λ o. part_by c o now ≡ part_by c o (channel_at s c))
+    [ None ↦ refl | Some k ↦ of k k.internal ]
   where
     now : ChannelState
     now = slice_index_or cs c untouched
@@ -47,7 +49,3 @@ part_like d s cs like c = by (channel_of d c)
     of k false =
         ap (λ o. record { channel = c; values = words_from (set_up_or k o).source (set_up_or k o).words k now; goes = goes_to (set_up_or k o).destination }) (like.set_up c)
         ∙ ap (λ xs. record { channel = c; values = xs; goes = goes_to (set_up_or k (channel_at s c).set_up).destination }) (from k (set_up_or k (channel_at s c).set_up).source (set_up_or k (channel_at s c).set_up).words)
-
-    by : (o : Option Channel) → part_by c o now ≡ part_by c o (channel_at s c)
-    by None = refl
-    by (Some k) = of k k.internal

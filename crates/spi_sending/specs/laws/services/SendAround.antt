@@ -39,19 +39,12 @@ foot d chip = (spi_bare d).foot chip
 
 pub find_plain : (f : Find) → is_shared (find_move f) ≡ false
 find_plain (finds.Newest x) = refl
-find_plain (finds.SetUp x) = refl
-find_plain (finds.Pinned x i) = refl
-find_plain (finds.Held x i) = refl
-find_plain (finds.Bank x i b) = refl
-find_plain (finds.Source x i) = refl
-find_plain (finds.Default x) = refl
+find_plain _ = refl
 
 pub asking_plain : (x : Placed) (i : ℕ) → is_shared (asking x i) ≡ false
-asking_plain x i = by (x.channel.internal && i == 0)
-  where
-    by : (q : Bool) → is_shared (if q then Load (control_word x Received) else Load (held_word x)) ≡ false
-    by true = refl
-    by false = refl
+asking_plain x i =
+    elim (x.channel.internal && i == 0) as (λ q. is_shared (if q then Load (control_word x Received) else Load (held_word x)) ≡ false)
+    [ true ↦ refl | false ↦ refl ]
 
 calm_asking : (x : Placed) (i : ℕ) → (resets_chip (asking x i) ≡ false) × (begins_word (asking x i) ≡ false)
 calm_asking x i = by (x.channel.internal && i == 0)
@@ -62,12 +55,7 @@ calm_asking x i = by (x.channel.internal && i == 0)
 
 calm_find : (f : Find) → (resets_chip (find_move f) ≡ false) × (begins_word (find_move f) ≡ false)
 calm_find (finds.Newest x) = (refl, refl)
-calm_find (finds.SetUp x) = (refl, refl)
-calm_find (finds.Pinned x i) = (refl, refl)
-calm_find (finds.Held x i) = (refl, refl)
-calm_find (finds.Bank x i b) = (refl, refl)
-calm_find (finds.Source x i) = (refl, refl)
-calm_find (finds.Default x) = (refl, refl)
+calm_find _ = (refl, refl)
 
 module _ (d : SpiTable) where
   abbrev pub V : LongBodies (spi_basis d) SyncBody
@@ -89,7 +77,6 @@ module _ (d : SpiTable) where
     calm_at (place.Find b f) v e h i = calm_find f
     calm_at (place.Select b x) v e h i = (refl, refl)
     calm_at (place.Width b x) v e h i = (refl, refl)
-    calm_at (place.Begin b x) v e h i = absurd (cc)
     calm_at place.Opens v e h i = (refl, refl)
     calm_at place.Wait v e h i = (refl, refl)
     calm_at (place.Shut failed) v e h i = (refl, refl)
@@ -97,8 +84,6 @@ module _ (d : SpiTable) where
     calm_at (place.Receive r x) v e h i = (refl, refl)
     calm_at (place.Serve (serve.Width a p)) v e h i = (refl, refl)
     calm_at (place.Serve (serve.Find a p f)) v e h i = calm_find f
-    calm_at (place.Serve (serve.Begin a p x)) v e h i = absurd (cc)
-    calm_at (place.Serve (serve.Acknowledge a c)) v e h i = absurd (cc)
     calm_at (place.Serve serve.Shut) v e h i = absurd h.1
     calm_at (place.Serve serve.State) v e h i = absurd h.1
     calm_at (place.Serve (serve.Running failed)) v e h i = absurd h.1
@@ -174,22 +159,19 @@ module _ (d : SpiTable) where
           where
             by : (order : Order) → is_fill order ≡ false → (moved d w s order).channels ≡ s.channels
             by (Fill c ws) e = absurd (cc)
-            by (SpiFault i) e = refl
             by _ e = refl
 
         first_same : (j : ℕ) → first_of d s1 j ≡ first_of d s j
         first_same j = ap (λ xs. slice_index_or (flat_map (λ c. channel_words c (channel_of d c) (slice_index_or xs c untouched)) (channels_of d j)) 0 no_word) channels_same
 
         free_still : carried_at s u ≡ None → carried_at s1 u ≡ None
-        free_still free = by order
+        free_still free =
+            elim order as (λ order. carried_at (moved d w s order) u ≡ None)
+            [ SpiFault i ↦ faulted i (same_or_other u i) | _ ↦ free ]
           where
             faulted : (i : ℕ) → (u ≡ i) ⊎ (u ≢ i) → carried_at (moved d w s (SpiFault i)) u ≡ None
             faulted i (inl e) = subst (λ z. carried_at (moved d w s (SpiFault z)) u ≡ None) e (item-same None s.carried u (faulted_carrying w.now (carried_at s u)) ∙ ap (faulted_carrying w.now) free)
             faulted i (inr ne) = item-other None s.carried i u (faulted_carrying w.now (carried_at s i)) ne ∙ free
-
-            by : (order : Order) → carried_at (moved d w s order) u ≡ None
-            by (SpiFault i) = faulted i (same_or_other u i)
-            by _ = free
 
         words_same : word_of chip1 ≡ word_of chip
         words_same = words_kept d u chip order calm

@@ -6,7 +6,7 @@ use Rattle.spi_sending.specs.Terms
 use Terms.{ap, arith, Arrived, as_begun, as_requested, Bool, Called, carried_at, carried_for, carries_job, Carrying}
 use Terms.{Chip, ends_here, false, FitsSpi, fresh_history, goes_on, goes_to_next, happens, has_further, is_done}
 use Terms.{is_of, is_off, is_some, is_sync_unit, IsLast, IsServed, job_at_place, job_done, job_of, job_place, jobs_of}
-use Terms.{JobWord, length, List, may_go_on, min, nat_lt, nat_tests, next_at, next_job, None, not, Pending, Position}
+use Terms.{JobWord, length, List, may_go_on, min, nat_lt, next_at, next_job, None, not, Pending, Position}
 use Terms.{refl, Reservations, Run, same_number, select_by, select_of, sends_on, SendsRight, sent_at, sent_first}
 use Terms.{sent_from, sent_on, sequence_begun, SerialData, slice_index_or, Some, SpiRepresents, SpiState, SpiTable}
 use Terms.{start_by, start_of, Starts, subst, sym, true, UnderWay, unit_at, unit_few, unit_named, unit_of_sequence}
@@ -18,6 +18,7 @@ use Rattle.spi_sending.specs.laws.{bookkeeping.HeldWord.{sending_of}}
 use Rattle.spi_serving.specs.laws.services.JobLeft as left
 use Rattle.spi_sending.specs.laws.{services.SendFurther.{number_named}, services.SendWindows.{asks}}
 use Rattle.mcal_base.specs.declared.error_name.ErrorName.TheVariants as errors
+use Rattle.plain_facts.specs.Numbers.{lt_from}
 
 -- ---- the word on the wire
 
@@ -87,10 +88,7 @@ module _ (d : SpiTable) (fits : FitsSpi d) (below : Reservations) (chip : Chip) 
   further =
       ap (λ z. nat_lt (z + 1) (length (jobs_of d its.sequence))) (carried_out.next_is d fits below chip w s u q (n - 1) r.served.at bs (Some false) (device_at d q n) h run by.done.is under)
       ∙ ap (λ z. nat_lt (n - 1 + 1) (length (jobs_of d z))) (carried_out.sequence_is d fits below chip w s u q (n - 1) r.served.at bs (Some false) (device_at d q n) h run by.done.is under)
-      ∙ less (n - 1 + 1) (length (jobs_of d q)) (omega (arith, some, lt))
-    where
-      less : (a b : ℕ) → a < b → nat_lt a b ≡ true
-      less a b e = grind (arith, nat_tests)
+      ∙ lt_from (n - 1 + 1) (length (jobs_of d q)) (omega (arith, some, lt))
 
   may_go : may_go_on d w carrying q ≡ true
   may_go =
@@ -99,9 +97,7 @@ module _ (d : SpiTable) (fits : FitsSpi d) (below : Reservations) (chip : Chip) 
     where
       all_three : (x y z : Bool) → x ≡ true → y ≡ true → z ≡ true → (x && y && z) ≡ true
       all_three true true true e f g = refl
-      all_three true true false e f g = absurd (cc)
-      all_three true false z e f g = absurd (cc)
-      all_three false y z e f g = absurd (cc)
+      all_three _ _ _ e f g = absurd (cc)
 
   pub further_is : happens d w s (Starts (unit_named u) (Some (asks q)) y) ≡ Some (carries_job d w (job_done d s carrying false) u y (goes_to_next its))
   further_is =

@@ -96,11 +96,9 @@ further_job k e = by (nat_lt k.job 15) refl (nat_lt (k.job + 1) (jobs_list k.tab
 -- ---- a step leaves fewer
 
 few_first : (x : Placed) → find_more (finding_first x) ≤ 1
-few_first x = by x.channel.internal
-  where
-    by : (q : Bool) → find_more (if q then finds.Newest x else finds.SetUp x) ≤ 1
-    by true = omega arith
-    by false = omega arith
+few_first x =
+    elim x.channel.internal as (λ q. find_more (if q then finds.Newest x else finds.SetUp x) ≤ 1)
+    [ true ↦ omega arith | false ↦ omega arith ]
 
 module _ (d : SpiTable) where
   abbrev V : LongBodies (spi_basis d) SyncBody
@@ -121,17 +119,9 @@ module _ (d : SpiTable) where
 
       by : (b : Option Arrived) (f : Find) → ShortTo (4 + find_more f + job_fuel k b) (sync_at k (sync_found b f v (find_gave f v)), goes)
       by None (finds.Newest x) = omega arith
-      by (Some r) (finds.Newest x) = omega arith
       by b (finds.SetUp x) = found_in_few b x 0 (or_none v x.channel).source
-      by None (finds.Pinned x i) = omega arith
-      by (Some r) (finds.Pinned x i) = omega arith
       by b (finds.Held x i) = found_in_few b x i (unpacked v).source
-      by None (finds.Bank x i c) = omega arith
-      by (Some r) (finds.Bank x i c) = omega arith
-      by None (finds.Source x i) = omega arith
-      by (Some r) (finds.Source x i) = omega arith
-      by None (finds.Default x) = omega arith
-      by (Some r) (finds.Default x) = omega arith
+      by _ _ = omega arith
 
   short_begin : (k : SyncBody) (b : Option Arrived) → ShortTo (1 + job_fuel k b) (sync_at k (sync_begun k b), sync_starts k.unit)
   short_begin k None = omega arith
@@ -147,22 +137,20 @@ module _ (d : SpiTable) where
       fewer = subst (λ (z : Running). LeavesFewer k.table z.job k.at (further_of k.table a)) run (subst (λ p. LeavesFewer k.table a.served.run.job p (further_of k.table a)) at (further_fewer k.table a))
 
       by : (q : Bool) (o : Option Position) → LeavesFewer k.table (run_sent k).job k.at o → arrives_fuel k (if q then serve.Marks a else begins_by a o) ≤ 15 * words_left k.table (run_sent k).job k.at + after_job k.table k.sequence k.job
-      by true o less = omega arith
-      by false None less = omega arith
       by false (Some p) less = omega (arith, less)
+      by _ _ less = omega arith
 
   short_taker : (k : SyncBody) (failed : Bool) (t : Taker) → ShortTo (2 + 15 * words_left k.table (run_sent k).job k.at + after_job k.table k.sequence k.job) (sync_at (with_taken k t) (sync_comes k failed t), goes)
   short_taker k failed (takers.Bank b) = let few = arrives_few k (record { served = record { run = run_sent k; at = k.at; failed = failed }; taker = takers.Bank b; word = 0 }) refl refl in omega (arith, few)
   short_taker k failed (takers.SetUp by) = let few = arrives_few k (record { served = record { run = run_sent k; at = k.at; failed = failed }; taker = takers.SetUp by; word = 0 }) refl refl in omega (arith, few)
 
   short_over : (k : SyncBody) (a : Arrived) (failed more : Bool) → has_further_job k ≡ more → ShortTo (1 + after_job k.table k.sequence k.job) (sync_goes_to (sync_job_over k a failed more))
-  short_over k a true more e = let least = jobs_least k.table k.sequence k.job (15 - k.job) in omega (arith, least)
   short_over k a false true e =
       let further = further_job k e in
       let same = job_further k.table k.sequence k.job further.0 further.1 in
       let few = few_first (channel_sent (next_job_of k) 0) in
       omega (arith, same, few)
-  short_over k a false false e = let least = jobs_least k.table k.sequence k.job (15 - k.job) in omega (arith, least)
+  short_over k a _ _ e = let least = jobs_least k.table k.sequence k.job (15 - k.job) in omega (arith, least)
 
   short_receive : (k : SyncBody) (r : Served) (t : Taker) (v : ℕ)
       → ShortTo (1 + arrives_fuel k (begins_of k.table (record { served = r; taker = t; word = 0 }))) (sync_goes_to (sync_arrives k (record { served = r; taker = t; word = v }) (begins_of k.table (record { served = r; taker = t; word = v }))))
@@ -175,9 +163,8 @@ module _ (d : SpiTable) where
       before = record { served = r; taker = t; word = 0 }
 
       by : (q : Bool) (o : Option Position) → ShortTo (1 + arrives_fuel k (if q then serve.Marks before else begins_by before o)) (sync_goes_to (sync_arrives k a (if q then serve.Marks a else begins_by a o)))
-      by true o = short_over k a r.failed (has_further_job k) refl
-      by false None = short_over k a r.failed (has_further_job k) refl
       by false (Some p) = omega arith
+      by _ _ = short_over k a r.failed (has_further_job k) refl
 
   -- ---- the windows of a further word, and of the end
 
@@ -198,17 +185,6 @@ module _ (d : SpiTable) where
       by : (c : SequenceNext) → Fewer (fuel_at k.table) 24 (serve.Free a c, steps.Goes None) → ShortTo (window_fuel k (serve.Acknowledge a c)) (sync_at k (place.Serve (serve.Free a c)), record { event = Some Act; done = None })
       by (courses.Ends x) less = omega (arith, less)
       by (courses.Further x) less = omega (arith, less)
-  short_serve k serve.Shut v e = omega arith
-  short_serve k serve.State v e = omega arith
-  short_serve k (serve.Running failed) v e = omega arith
-  short_serve k (serve.Position r failed) v e = omega arith
-  short_serve k (serve.Taker r) v e = omega arith
-  short_serve k (serve.Receive r t) v e = omega arith
-  short_serve k (serve.Marks a) v e = omega arith
-  short_serve k (serve.Nexts a c) v e = omega arith
-  short_serve k (serve.Further r x) v e = omega arith
-  short_serve k (serve.Again r x) v e = omega arith
-  short_serve k (serve.Drop r x) v e = omega arith
   short_serve k (serve.Let a p t) v e = absurd (cc)
   short_serve k (serve.Keep x p) v e = absurd (cc)
   short_serve k (serve.Stand p) v e = absurd (cc)
@@ -218,26 +194,21 @@ module _ (d : SpiTable) where
   short_serve k (serve.Commit l i c) v e = absurd (cc)
   short_serve k (serve.Result l) v e = absurd (cc)
   short_serve k (serve.End r x) v e = absurd (cc)
+  short_serve k _ v e = omega arith
 
   -- ---- all of them
 
   pub short_at : (k : SyncBody) (p : SyncPlace) (v : ℕ) → sync_owes p ≡ false → ShortTo (sync_fuel k p) (sync_took k p v)
-  short_at k place.Free v e = by (v == 0)
-    where
-      by : (q : Bool) → ShortTo (sync_fuel k place.Free) (sync_frees k q)
-      by true = let few = few_first (channel_sent k 0) in omega (arith, few)
-      by false = omega arith
+  short_at k place.Free v e =
+      elim (v == 0) as (λ q. ShortTo (sync_fuel k place.Free) (sync_frees k q))
+      [ true ↦ (let few = few_first (channel_sent k 0) in omega (arith, few)) | false ↦ omega arith ]
   short_at k (place.Find b f) v e = short_find k b f v
-  short_at k (place.Select b x) v e = by b
-    where
-      by : (b : Option Arrived) → ShortTo (3 + job_fuel k b) (sync_at k (place.Width b x), goes)
-      by None = omega arith
-      by (Some r) = omega arith
-  short_at k (place.Width b x) v e = by b
-    where
-      by : (b : Option Arrived) → ShortTo (2 + job_fuel k b) (sync_at k (place.Begin b x), goes)
-      by None = omega arith
-      by (Some r) = omega arith
+  short_at k (place.Select b x) v e =
+      elim b as (λ b. ShortTo (3 + job_fuel k b) (sync_at k (place.Width b x), goes))
+      [ None ↦ omega arith | Some r ↦ omega arith ]
+  short_at k (place.Width b x) v e =
+      elim b as (λ b. ShortTo (2 + job_fuel k b) (sync_at k (place.Begin b x), goes))
+      [ None ↦ omega arith | Some r ↦ omega arith ]
   short_at k (place.Begin b x) v e = short_begin k b
   short_at k place.Opens v e = omega arith
   short_at k place.Wait v e = omega arith
@@ -245,12 +216,4 @@ module _ (d : SpiTable) where
   short_at k (place.Taker failed) v e = short_taker k failed (taker_sent k v)
   short_at k (place.Receive r t) v e = short_receive k r t v
   short_at k (place.Serve p) v e = short_serve k p v e
-  short_at k place.Pend v e = absurd (cc)
-  short_at k (place.Keep r p) v e = absurd (cc)
-  short_at k (place.Commit r i p) v e = absurd (cc)
-  short_at k (place.Result r) v e = absurd (cc)
-  short_at k (place.Prepare i p) v e = absurd (cc)
-  short_at k place.Run v e = absurd (cc)
-  short_at k place.Stand v e = absurd (cc)
-  short_at k place.Nexts v e = absurd (cc)
-  short_at k (place.Next n) v e = absurd (cc)
+  short_at k _ v e = absurd (cc)

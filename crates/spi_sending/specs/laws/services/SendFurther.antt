@@ -19,7 +19,7 @@ use Terms.{serve_lets, served_is, ServePlace, slice_get, slice_index_or, Some, S
 use Terms.{stands-move, start_by, start_of, Starts, Store, stored, stored_is, stored_like, stored_other, subst, sym}
 use Terms.{sync_owed, Take, take_gave, taken_before, taken_of, taken_same, taker_of, tells_nothing, ToServe, true}
 use Terms.{UnderWay, unit_at, unit_named, unit_of_sequence, unit_other, unit_run, UnitAgrees, unpacked, view, wire_at}
-use Terms.{with_carried, with_item, word_after, word_of, words_after, WordsAfter, World, Write, ℕ}
+use Terms.{some_is, with_carried, with_item, word_after, word_of, words_after, WordsAfter, World, Write, ℕ}
 use Rattle.spi_sending.specs.Sending.{device_at, HasBank, IsAt, IsSender}
 use Rattle.spi_sending.specs.laws.bookkeeping.CarriedOut as carried_out
 use Rattle.spi_sending.specs.laws.bookkeeping.HeldWord as held_word_laws
@@ -196,9 +196,7 @@ module _ (d : SpiTable) (fits : FitsSpi d) (below : Reservations) (chip : Chip) 
     where
       all_three : (x y z : Bool) → x ≡ true → y ≡ true → z ≡ true → (x && y && z) ≡ true
       all_three true true true e f g = refl
-      all_three true true false e f g = absurd (cc)
-      all_three true false z e f g = absurd (cc)
-      all_three false y z e f g = absurd (cc)
+      all_three _ _ _ e f g = absurd (cc)
 
   pub further_is : happens d w s (Starts (unit_named u) (Some (asks q)) y) ≡ Some (outcome_with state1 tells_nothing (Some word1))
   further_is =
@@ -265,11 +263,8 @@ module _ (d : SpiTable) (fits : FitsSpi d) (below : Reservations) (chip : Chip) 
             ∙ before (subst (λ z. 0 < z) (sym (taken_same d fits u (word_of chip) under.job for represents first p second follows came j x there ne)) some)
         by_place (inl e) = subst (λ z. word_of final (held_word (placed_of d z.channel)) ≡ slice_index_or bs j 0) (sym part_is) (here_kept (under.job.at.word == 0) refl)
           where
-            same : (a b : Part) → Some a ≡ Some b → a ≡ b
-            same a b f = cc
-
             part_is : x ≡ first.part
-            part_is = same x first.part (sym there ∙ ap (slice_get under.job.parts) e ∙ first.there)
+            part_is = some_is x first.part (sym there ∙ ap (slice_get under.job.parts) e ∙ first.there)
 
             here : Placed
             here = placed_of d first.part.channel

@@ -1,7 +1,7 @@
 -- The job before has ended as the next one begins: its last word is kept, what came in becomes readable, and it has its result.
 -- From bookkeeping.CarriedOut, services.SendReady, spi_serving: services.JobLeft, spi_serving: words.CommitWords.
 -- Used by services.SendGoesOn.
-use Rattle.std.proofs.Common.{◌≡◌, ◌≢◌, ◌+◌, ◌-◌, ◌<◌, ◌≤◌, ◌==◌, ◌∷◌, ◌∙◌, ◌⊎◌, if◌then◌else◌}
+use Rattle.std.proofs.Common.{◌≡◌, ◌≢◌, ◌+◌, ◌-◌, ◌<◌, ◌≤◌, ◌==◌, ◌∷◌, ◌∙◌, if◌then◌else◌}
 use Rattle.spi_sending.specs.Terms
 use Terms.{agrees_at, AllKept, ap, arith, Arrived, At, begins_whole, Bool, Channel, channel_at_place, channel_of, channel_there, Chip, chip_after}
 use Terms.{CommitsTo, committing_of, false, first_internal, FitsSpi, for_at, Going, going_next, has_ended, held_word, inl, inr}
@@ -24,20 +24,18 @@ use Rattle.spi_serving.specs.laws.words.AllKept.{lt_else, put_owed}
 use Rattle.spi_serving.specs.laws.words.CommitWords.{commits_owed, held_kept}
 use Rattle.spi_serving.specs.laws.words.LastKept as kept_laws
 use Rattle.spi_sequences.specs.declared.service.sync.SyncPlace.TheVariants as place
+use Rattle.plain_facts.specs.Numbers.{lt_is}
 
 -- of two places that aren't the same, where the second isn't before the first
 less_so : (a c : ℕ) → a ≢ c → (c < a → ⊥) → a < c
 less_so a c ne never = split (nat_lt a c) refl (nat_lt c a) refl
   where
-    below_it : (a c : ℕ) → nat_lt a c ≡ true → a < c
-    below_it a c e = grind (arith, nat_tests)
-
     alike : (a c : ℕ) → nat_lt a c ≡ false → nat_lt c a ≡ false → a ≡ c
     alike a c e f = grind (arith, nat_tests)
 
     split : (p : Bool) → nat_lt a c ≡ p → (t : Bool) → nat_lt c a ≡ t → a < c
-    split true e t f = below_it a c e
-    split false e true f = absurd (never (below_it c a f))
+    split true e t f = lt_is a c e
+    split false e true f = absurd (never (lt_is c a f))
     split false e false f = absurd (ne (alike a c e f))
 
 taken_whole : (a m i k : ℕ) → i < a → (if nat_lt i a then k else if i == a then m else 0) ≡ k
@@ -142,11 +140,7 @@ module _ (d : SpiTable) (fits : FitsSpi d) (below : Reservations) (chip : Chip) 
             (of_held d fits z.channel known.0 known.1) (of_held d fits its.part.channel own.0 own.1)
 
     bank_at : word_of b (held_word (placed_of d z.channel)) ≡ slice_index_or bs i 0
-    bank_at = split (same_or_other i r.served.at.channel)
-      where
-        split : (i ≡ r.served.at.channel) ⊎ (i ≢ r.served.at.channel) → word_of b (held_word (placed_of d z.channel)) ≡ slice_index_or bs i 0
-        split (inl e) = bank_here e
-        split (inr ne) = bank_before ne
+    bank_at = elim (same_or_other i r.served.at.channel) [ inl e ↦ bank_here e | inr ne ↦ bank_before ne ]
 
   -- ---- the moves, as the frame owes them
 

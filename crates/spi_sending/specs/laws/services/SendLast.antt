@@ -14,7 +14,7 @@ use Terms.{has_further, held_word, holds_debt, HoldsLike, inl, inr, is_below, is
 use Terms.{is_sync_unit, is_told, IsAside, IsEnding, IsFilled, IsLast, IsOfSequence, IsSending, IsServed}
 use Terms.{IsSoundState, IsTold, item-other, item-same, job_code, job_result, job_word, jobs_in, jobs_list, jobs_of}
 use Terms.{keep_ends, keep_of, last_is, last_like, last_stored, Leaves, leaves_begun, Leaving, left_at, LeftAt}
-use Terms.{length, List, list_any, MARKS, may_end, may_store, named, nat_lt, nat_tests, next_job, next_small, NEXTS}
+use Terms.{length, List, list_any, MARKS, may_end, may_store, named, nat_lt, next_job, next_small, NEXTS}
 use Terms.{None, not, not_order, not_sent, not_true, of_held, one_job, one_owed, one_place, Option, order_before}
 use Terms.{order_left, order_word, Origin, other_free, other_number, others_differ, outcome, owed_left, OwesEnds}
 use Terms.{own_first, past_the_first, Pending, placed_of, Position, refl, release_by, release_last, Reservations}
@@ -39,6 +39,7 @@ use Rattle.spi_sequences.specs.Refinement.{IsLast as IsLastResult}
 use Rattle.spi_sequences.specs.declared.service.serve.SequenceNext.TheVariants as courses
 use Rattle.spi_sequences.specs.declared.service.serve.ServePlace.TheVariants as serve
 use Rattle.spi_sequences.specs.declared.service.sync.SyncPlace.TheVariants as place
+use Rattle.plain_facts.specs.Numbers.{lt_from}
 
 -- ---- the moves of the end, as the frame owes them
 
@@ -58,29 +59,21 @@ sent_ends d q u n at bs = record { moves = λ z. refl; lefts = lefts }
     commits l (Some i) = refl
 
     lefts : (z : ServePlace) (v : ℕ) → IsEnding z → serve_owes (serve_takes d u z v).0 ≡ true → owed_left (Sends (body d q u n at bs (place.Serve z))) v ≡ Some (Sends (body d q u n at bs (place.Serve (serve_takes d u z v).0)))
-    lefts (serve.Free r c) v i o = by r.served.failed
+    lefts (serve.Free r c) v i o =
+        elim r.served.failed as (λ b. Left (if b then release_last d l (4 - r.served.at.channel) else serve.KeepLast l (keep_of d r)))
+        [ true ↦ releases l (first_pinned d r.served (4 - r.served.at.channel)) | false ↦ refl ]
       where
         l : Leaving
         l = record { served = r.served; taker = r.taker; course = c }
-
-        by : (b : Bool) → Left (if b then release_last d l (4 - r.served.at.channel) else serve.KeepLast l (keep_of d r))
-        by true = releases l (first_pinned d r.served (4 - r.served.at.channel))
-        by false = refl
-    lefts (serve.Release l m t) v i o = by (has_ended (take_gave t v))
-      where
-        by : (b : Bool) → Left (serve_releases d l m t v b).0
-        by true = releases l (first_pinned d l.served (3 - m))
-        by false = refl
-    lefts (serve.KeepLast l k) v i o = by (keep_ends k)
-      where
-        by : (b : Bool) → Left (serve_keeps_last d l k b).0
-        by true = commits l (first_internal d l.served 4)
-        by false = refl
-    lefts (serve.Commit l m c) v i o = by (commit_ends c v)
-      where
-        by : (b : Bool) → Left (serve_commits d l m c v b).0
-        by true = commits l (first_internal d l.served (3 - m))
-        by false = refl
+    lefts (serve.Release l m t) v i o =
+        elim (has_ended (take_gave t v)) as (λ b. Left (serve_releases d l m t v b).0)
+        [ true ↦ releases l (first_pinned d l.served (3 - m)) | false ↦ refl ]
+    lefts (serve.KeepLast l k) v i o =
+        elim (keep_ends k) as (λ b. Left (serve_keeps_last d l k b).0)
+        [ true ↦ commits l (first_internal d l.served 4) | false ↦ refl ]
+    lefts (serve.Commit l m c) v i o =
+        elim (commit_ends c v) as (λ b. Left (serve_commits d l m c v b).0)
+        [ true ↦ commits l (first_internal d l.served (3 - m)) | false ↦ refl ]
     lefts _ v i o = absurd i
 
 -- the result of a job, and of a sequence that ends with it
@@ -103,9 +96,6 @@ ends_over false e = cc
 ends_code : (b : Bool) → (if b then FAILED else 0) ≡ sequence_code (sequence_result_by b)
 ends_code true = refl
 ends_code false = refl
-
-below_so : (a b : ℕ) → a < b → nat_lt a b ≡ true
-below_so a b lt = grind (arith, nat_tests)
 
 module _ (d : SpiTable) (fits : FitsSpi d) (below : Reservations) (chip : Chip) (w : World) (s : SpiState) (q u n : ℕ) (at : Position) (bs : List ℕ) (a : Arrived) (x y : ℕ) (is : IsSender d d q u bs below (Called (asks q)) fresh_history)
     (h : SpiRepresents d (sending_of u q n at bs (Some a.served.failed) (device_at d q n) ∷ below) chip w s)
@@ -179,7 +169,7 @@ module _ (d : SpiTable) (fits : FitsSpi d) (below : Reservations) (chip : Chip) 
       by_count true e =
           let more = is_below (n + 1) (jobs_list d q).count e in
           let most = few_jobs (sequence_of d q) refl in
-          let small = below_so n 15 (omega (arith, more, most)) in
+          let small = lt_from n 15 (omega (arith, more, most)) in
           absurd (let f = sym ended ∙ ap (λ z. z && nat_lt (n + 1) (jobs_list d q).count) small ∙ e in cc)
       by_count false e = ap (λ z. nat_lt (z + 1) (length (jobs_of d its.sequence))) next_is ∙ ap (λ z. nat_lt (n + 1) (length (jobs_of d z))) sequence_is ∙ ap (nat_lt (n + 1)) (sym (jobs_count d fits q)) ∙ e
 

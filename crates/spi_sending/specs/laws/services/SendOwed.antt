@@ -41,11 +41,9 @@ prepares_on k i = by (channel_number (list_of k.table (run_sent k).job) i)
 
 -- and the received words of those of the job before become readable
 commits_on : (k : SyncBody) (r : Served) (n : ℕ) → Owing (about_at k place.Run) (sync_at k (sync_commits k r (first_internal k.table r n)), goes)
-commits_on k r n = by (first_internal k.table r n)
-  where
-    by : (o : Option ℕ) → Owing (about_at k place.Run) (sync_at k (sync_commits k r o), goes)
-    by None = (refl, refl, refl)
-    by (Some i) = (refl, refl, refl)
+commits_on k r n =
+    elim (first_internal k.table r n) as (λ o. Owing (about_at k place.Run) (sync_at k (sync_commits k r o), goes))
+    [ None ↦ (refl, refl, refl) | Some i ↦ (refl, refl, refl) ]
 
 -- the pins of a failed job end, and the received words of one that ended well become readable
 release_on : (k : SyncBody) (l : Leaving) (n : ℕ) → Owing (about_at k (place.Serve (serve.Result l))) (sync_at k (place.Serve (release_last k.table l n)), goes)
@@ -94,11 +92,9 @@ serve_more_on k (serve.Let r x t) v e m = by (has_ended (take_gave t v))
     by : (q : Bool) → Owing (about_at k (place.Serve (serve.Let r x t))) (sync_at k (place.Serve (serve_lets k.table r x t v q).0), goes)
     by true = (refl, refl, refl)
     by false = (refl, refl, refl)
-serve_more_on k (serve.Keep y x) v e m = by (keep_ends y)
-  where
-    by : (q : Bool) → Owing (about_at k (place.Serve (serve.Keep y x))) (sync_at k (place.Serve (serve_keeps y x q).0), goes)
-    by true = (refl, refl, refl)
-    by false = (refl, refl, refl)
+serve_more_on k (serve.Keep y x) v e m =
+    elim (keep_ends y) as (λ q. Owing (about_at k (place.Serve (serve.Keep y x))) (sync_at k (place.Serve (serve_keeps y x q).0), goes))
+    [ true ↦ (refl, refl, refl) | false ↦ (refl, refl, refl) ]
 serve_more_on k (serve.Free r c) v e m = ends_on k r c
 serve_more_on k (serve.Release l i t) v e m = by (has_ended (take_gave t v))
   where
@@ -126,26 +122,20 @@ serve_more_on k _ v e m = absurd (cc)
 
 more_on : (k : SyncBody) (p : SyncPlace) (v : ℕ) → sync_owes p ≡ true → More p → Owing (about_at k p) (sync_took k p v)
 more_on k place.Pend v e m = prepares_on k (if begins_whole (channel_sent k 0) then 1 else 0)
-more_on k (place.Keep r p) v e m = by (keep_ends p)
-  where
-    by : (q : Bool) → Owing (about_at k (place.Keep r p)) (sync_at k (sync_keeps k r p q), goes)
-    by true = commits_on k r 4
-    by false = (refl, refl, refl)
-more_on k (place.Commit r i p) v e m = by (has_ended (put_gave p v))
-  where
-    by : (q : Bool) → Owing (about_at k (place.Commit r i p)) (sync_at k (sync_committed k r i p v q), goes)
-    by true = commits_on k r (3 - i)
-    by false = (refl, refl, refl)
+more_on k (place.Keep r p) v e m =
+    elim (keep_ends p) as (λ q. Owing (about_at k (place.Keep r p)) (sync_at k (sync_keeps k r p q), goes))
+    [ true ↦ commits_on k r 4 | false ↦ (refl, refl, refl) ]
+more_on k (place.Commit r i p) v e m =
+    elim (has_ended (put_gave p v)) as (λ q. Owing (about_at k (place.Commit r i p)) (sync_at k (sync_committed k r i p v q), goes))
+    [ true ↦ commits_on k r (3 - i) | false ↦ (refl, refl, refl) ]
 more_on k (place.Result r) v e m = prepares_on k (if begins_whole (channel_sent k 0) then 1 else 0)
-more_on k (place.Prepare i p) v e m = by (prepare_ends p v)
+more_on k (place.Prepare i p) v e m =
+    elim (prepare_ends p v) as (λ q. Owing (about_at k (place.Prepare i p)) (sync_at k (sync_prepared k i p v q), goes))
+    [ true ↦ next (nat_lt i 3) | false ↦ (refl, refl, refl) ]
   where
     next : (q : Bool) → Owing (about_at k (place.Prepare i p)) (sync_at k (if q then sync_prepares_at k (i + 1) else place.Run), goes)
     next true = prepares_on k (i + 1)
     next false = (refl, refl, refl)
-
-    by : (q : Bool) → Owing (about_at k (place.Prepare i p)) (sync_at k (sync_prepared k i p v q), goes)
-    by true = next (nat_lt i 3)
-    by false = (refl, refl, refl)
 more_on k place.Run v e m = (refl, refl, refl)
 more_on k place.Stand v e m = (refl, refl, refl)
 more_on k place.Nexts v e m = (refl, refl, refl)
@@ -204,7 +194,6 @@ module _ (d : SpiTable) where
   goes_so k (place.Serve (serve.Release l i t)) v e = inl (more_on k (place.Serve (serve.Release l i t)) v e tt)
   goes_so k (place.Serve (serve.KeepLast l y)) v e = inl (more_on k (place.Serve (serve.KeepLast l y)) v e tt)
   goes_so k (place.Serve (serve.Commit l i c)) v e = inl (more_on k (place.Serve (serve.Commit l i c)) v e tt)
-  goes_so k (place.Serve _) v e = absurd (cc)
   goes_so k _ v e = absurd (cc)
 
   -- ---- after the last one the frame stands, or may end
@@ -235,7 +224,6 @@ module _ (d : SpiTable) where
   stands_at k (place.Serve (serve.Release l i y)) v below chip w s o t m e none at h = absurd (not_last (about_at k (place.Serve (serve.Release l i y))) (sync_took k (place.Serve (serve.Release l i y)) v) (more_on k (place.Serve (serve.Release l i y)) v e tt) none)
   stands_at k (place.Serve (serve.KeepLast l y)) v below chip w s o t m e none at h = absurd (not_last (about_at k (place.Serve (serve.KeepLast l y))) (sync_took k (place.Serve (serve.KeepLast l y)) v) (more_on k (place.Serve (serve.KeepLast l y)) v e tt) none)
   stands_at k (place.Serve (serve.Commit l i c)) v below chip w s o t m e none at h = absurd (not_last (about_at k (place.Serve (serve.Commit l i c))) (sync_took k (place.Serve (serve.Commit l i c)) v) (more_on k (place.Serve (serve.Commit l i c)) v e tt) none)
-  stands_at k (place.Serve _) v below chip w s o t m e none at h = absurd (cc)
   stands_at k place.Pend v below chip w s o t m e none at h = absurd (not_last (about_at k place.Pend) (sync_took k place.Pend v) (more_on k place.Pend v e tt) none)
   stands_at k (place.Keep r p) v below chip w s o t m e none at h = absurd (not_last (about_at k (place.Keep r p)) (sync_took k (place.Keep r p) v) (more_on k (place.Keep r p) v e tt) none)
   stands_at k (place.Commit r i p) v below chip w s o t m e none at h = absurd (not_last (about_at k (place.Commit r i p)) (sync_took k (place.Commit r i p) v) (more_on k (place.Commit r i p) v e tt) none)

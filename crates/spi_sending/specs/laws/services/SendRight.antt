@@ -63,16 +63,14 @@ module _ (d : SpiTable) where
   begun_dirty k (Some r) = refl
 
   arrives_dirty : (k : SyncBody) (a : Arrived) (p : ServePlace) (made : Move) → CleanTo false made (sync_goes_to (sync_arrives k a p))
-  arrives_dirty k a p made = by p
+  arrives_dirty k a p made =
+      elim p as (λ p. CleanTo false made (sync_goes_to (sync_arrives k a p)))
+      [ serve.Width x z ↦ goes_dirty false made k (place.Serve (serve.Width x z)) None refl | _ ↦ over a.served.failed (has_further_job k) ]
     where
       over : (b c : Bool) → CleanTo false made (sync_goes_to (sync_job_over k a b c))
       over true c = goes_dirty false made k (sync_ends a FAILED) None refl
       over false true = goes_dirty false made (next_job_of k) (sync_finds (next_job_of k) (Some a)) None refl
       over false false = goes_dirty false made k (sync_ends a 0) None refl
-
-      by : (p : ServePlace) → CleanTo false made (sync_goes_to (sync_arrives k a p))
-      by (serve.Width x z) = goes_dirty false made k (place.Serve (serve.Width x z)) None refl
-      by _ = over a.served.failed (has_further_job k)
 
   serves_dirty : (k : SyncBody) (p : ServePlace) (v : ℕ) (made : Move) → CleanTo false made (sync_serves k p v)
   serves_dirty k (serve.Width a p) v made = goes_dirty false made k (place.Serve (serve_takes k.table k.unit (serve.Width a p) v).0) None refl
@@ -87,15 +85,12 @@ module _ (d : SpiTable) where
   serves_dirty k (serve.KeepLast l x) v made = goes_dirty false made k (place.Serve (serve_takes k.table k.unit (serve.KeepLast l x) v).0) None refl
   serves_dirty k (serve.Commit l i c) v made = goes_dirty false made k (place.Serve (serve_takes k.table k.unit (serve.Commit l i c) v).0) None refl
   serves_dirty k (serve.Result l) v made = goes_dirty false made k (place.Serve (serve_takes k.table k.unit (serve.Result l) v).0) None refl
-  serves_dirty k (serve.End r x) v made = tt
   serves_dirty k _ v made = tt
 
   clean_at : (k : SyncBody) (p : SyncPlace) (v : ℕ) → sync_owes p ≡ false → CleanTo (sync_clean p) (sync_move k p) (sync_took k p v)
-  clean_at k place.Free v e = by (v == 0)
-    where
-      by : (q : Bool) → CleanTo true (sync_move k place.Free) (sync_frees k q)
-      by true = goes_dirty true (sync_move k place.Free) k (sync_finds k None) None refl
-      by false = tt
+  clean_at k place.Free v e =
+      elim (v == 0) as (λ q. CleanTo true (sync_move k place.Free) (sync_frees k q))
+      [ true ↦ goes_dirty true (sync_move k place.Free) k (sync_finds k None) None refl | false ↦ tt ]
   clean_at k (place.Find b f) v e = goes_dirty false (sync_move k (place.Find b f)) k (sync_found b f v (find_gave f v)) None (found_dirty b f v (find_gave f v))
   clean_at k (place.Select b x) v e = λ f. absurd (cc)
   clean_at k (place.Width b x) v e = λ f. absurd (cc)
@@ -114,11 +109,9 @@ module _ (d : SpiTable) where
   TurnTo k v r = TurnsTo (V d) 32 k r
 
   few_first : (x : Placed) → find_more (finding_first x) ≤ 1
-  few_first x = by x.channel.internal
-    where
-      by : (q : Bool) → find_more (if q then finds.Newest x else finds.SetUp x) ≤ 1
-      by true = omega arith
-      by false = omega arith
+  few_first x =
+      elim x.channel.internal as (λ q. find_more (if q then finds.Newest x else finds.SetUp x) ≤ 1)
+      [ true ↦ omega arith | false ↦ omega arith ]
 
   module _ (q u n : ℕ) (at : Position) (bs : List ℕ) (below : Reservations) (chip : Chip) (w : World) (s : SpiState) (o : Origin Call) (t : FrameHistory) where
     abbrev k : SyncPlace → SyncBody
@@ -128,21 +121,17 @@ module _ (d : SpiTable) where
     Turn p v = TurnsTo (V d) 32 (k p) (sync_took (k p) p v)
 
     turn_found : (b : Option Arrived) (f : Find) (v : ℕ) → KeepsMask true (is_closed ((V d).assertion (sync_at (k (place.Find b f)) (sync_found b f v (find_gave f v))))) (sync_room (place.Find b f)) ((V d).room (sync_at (k (place.Find b f)) (sync_found b f v (find_gave f v)))) None None
-    turn_found b (finds.Newest x) v = (refl, omega arith)
     turn_found b (finds.SetUp x) v = by (or_none v x.channel).source
       where
         by : (z : Bool) → let p = place.Find b (if z then finds.Source x 0 else finds.Default x) in KeepsMask true (is_closed ((V d).assertion (k p))) (sync_room (place.Find b (finds.SetUp x))) ((V d).room (k p)) None None
         by true = (refl, omega arith)
         by false = (refl, omega arith)
-    turn_found b (finds.Pinned x i) v = (refl, omega arith)
     turn_found b (finds.Held x i) v = by (unpacked v).source
       where
         by : (z : Bool) → let p = place.Find b (if z then finds.Source x i else finds.Default x) in KeepsMask true (is_closed ((V d).assertion (k p))) (sync_room (place.Find b (finds.Held x i))) ((V d).room (k p)) None None
         by true = (refl, omega arith)
         by false = (refl, omega arith)
-    turn_found b (finds.Bank x i c) v = (refl, omega arith)
-    turn_found b (finds.Source x i) v = (refl, omega arith)
-    turn_found b (finds.Default x) v = (refl, omega arith)
+    turn_found b _ v = (refl, omega arith)
 
     turn_begin : (b : Option Arrived) (x v : ℕ) → Turn (place.Begin b x) v
     turn_begin None x v = (refl, omega arith)
@@ -165,14 +154,12 @@ module _ (d : SpiTable) where
         To z = TurnsTo (V d) 32 kr z
 
         over : (b c : Bool) → To (sync_goes_to (sync_job_over kr a b c))
-        over true c = (refl, omega arith)
         over false true = let few = few_first (channel_sent (next_job_of kr) 0) in (refl, omega (arith, few))
-        over false false = (refl, omega arith)
+        over _ _ = (refl, omega arith)
 
         by : (b : Bool) (z : Option Position) → To (sync_goes_to (sync_arrives kr a (if b then serve.Marks a else begins_by a z)))
-        by true z = over r.failed (has_further_job kr)
-        by false None = over r.failed (has_further_job kr)
         by false (Some p) = (refl, omega arith)
+        by _ _ = over r.failed (has_further_job kr)
 
     turn_finds : (a : Arrived) (p : Position) (f : Find) (v : ℕ) (z : Option ℕ) → Fewer (room_at d) (serve_room (serve.Find a p f)) (serve_finds a p f v z) → let g = place.Serve (serve_finds a p f v z).0 in KeepsMask true (is_closed ((V d).assertion (k g))) (serve_room (serve.Find a p f)) ((V d).room (k g)) None None
     turn_finds a p f v None less = (refl, less)
@@ -206,11 +193,9 @@ module _ (d : SpiTable) where
     turn_serve _ v e h = absurd (cc)
 
     turns_at : (p : SyncPlace) (v : ℕ) → sync_owes p ≡ false → StandAt d below chip w s (k p) o t → Turn p v
-    turns_at place.Free v e h = by (v == 0)
-      where
-        by : (z : Bool) → TurnsTo (V d) 32 (k place.Free) (sync_frees (k place.Free) z)
-        by true = let few = few_first (channel_sent (k place.Free) 0) in (refl, omega (arith, few))
-        by false = omega arith
+    turns_at place.Free v e h =
+        elim (v == 0) as (λ z. TurnsTo (V d) 32 (k place.Free) (sync_frees (k place.Free) z))
+        [ true ↦ (let few = few_first (channel_sent (k place.Free) 0) in (refl, omega (arith, few))) | false ↦ omega arith ]
     turns_at (place.Find b f) v e h = plain_turns 32 true _ (sync_room (place.Find b f)) _ (find_move f) None None (find_plain f) (turn_found b f v)
     turns_at (place.Select b x) v e h = (refl, omega arith)
     turns_at (place.Width b x) v e h = (refl, omega arith)

@@ -390,8 +390,7 @@ module _ (d : SpiTable) (fits : FitsSpi d) (windows : AreWindowsRight d) (q u n 
       found (finds.Bank x j b) z = let r = decided (finds.Bank x j b) z in (r.0, (is, here, r.1))
       found (finds.Source x j) z = let r = decided (finds.Source x j) z in (r.0, (is, here, r.1))
       found (finds.Default x) z = let r = decided (finds.Default x) z in (r.0, (is, here, r.1))
-      found (finds.Newest x) z = absurd z
-      found (finds.SetUp x) z = absurd z
+      found _ z = absurd z
   serve_right (serve.Begin a p x) e (h, (is, here, i)) =
       lets_so (channel_next d a p) ((channel_next d a p).channel.internal && is_last_place (channel_next d a p) p.word) (word_begins d fits below chip w s q u n at bs a p x y is h here i.0 i.1 i.2)
     where

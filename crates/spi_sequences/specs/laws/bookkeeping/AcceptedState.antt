@@ -22,6 +22,7 @@ use Rattle.spi_sequences.specs.laws.{words.WordsToState.{any_none, any_some, at_
 use Rattle.spi_sequences.specs.laws.{words.WordsToState.{not_true, one_unit, other_number, same_number}}
 use Rattle.word_shapes.specs.Order as order
 use Rattle.word_shapes.specs.PriorityQueue as ranked
+use Rattle.plain_facts.specs.Truths.{and_false}
 
 -- ---- lists with one more
 
@@ -29,11 +30,9 @@ get_push : {A : Type 0} (xs : List A) (y : A) (i : ℕ) (z : A) → slice_get (x
 get_push [] y zero z e = inr (refl, let same : y ≡ z = cc in same)
 get_push [] y (suc i) z e = absurd (cc)
 get_push (x ∷ xs) y zero z e = inl (e, omega arith)
-get_push (x ∷ xs) y (suc i) z e = by (get_push xs y i z e)
-  where
-    by : ((slice_get xs i ≡ Some z) × (i < length xs)) ⊎ ((i ≡ length xs) × (y ≡ z)) → ((slice_get xs i ≡ Some z) × (suc i < suc (length xs))) ⊎ ((suc i ≡ suc (length xs)) × (y ≡ z))
-    by (inl (f, lt)) = inl (f, omega (arith, lt))
-    by (inr (f, g)) = inr (ap suc f, g)
+get_push (x ∷ xs) y (suc i) z e =
+    elim (get_push xs y i z e) as (λ _. ((slice_get xs i ≡ Some z) × (suc i < suc (length xs))) ⊎ ((suc i ≡ suc (length xs)) × (y ≡ z)))
+    [ inl (f, lt) ↦ inl (f, omega (arith, lt)) | inr (f, g) ↦ inr (ap suc f, g) ]
 
 pub map_get : {A B : Type 0} (f : A → B) (xs : List A) (i : ℕ) (x : A) → slice_get xs i ≡ Some x → slice_get (map f xs) i ≡ Some (f x)
 map_get f xs i x e = slice_get-map f xs i ∙ ap (option_map f) e
@@ -124,15 +123,13 @@ module _ (d : SpiTable) (fits : FitsSpi d) (v : View) (h : IsSoundState d v) (q 
 
   -- all sequences under way are those that were, and it
   all_push : (p : Pending) → Contains (all_of accepted_view) p → Contains (all_of v) p ⊎ (new ≡ p)
-  all_push p there = by (all_cases accepted_view p there)
+  all_push p there =
+      elim (all_cases accepted_view p there)
+      [ inl is ↦ pushed (Contains-push_cases v.pending new p is) | inr (u, e) ↦ inl (all_carried v u p (h.carries.unit u p e).0 e) ]
     where
       pushed : Contains v.pending p ⊎ (new ≡ p) → Contains (all_of v) p ⊎ (new ≡ p)
       pushed (inl is) = inl (all_pending v p is)
       pushed (inr e) = inr e
-
-      by : Contains (v.pending ++ new ∷ []) p ⊎ ((u : ℕ) × (v.begun u ≡ Some p)) → Contains (all_of v) p ⊎ (new ≡ p)
-      by (inl is) = pushed (Contains-push_cases v.pending new p is)
-      by (inr (u, e)) = inl (all_carried v u p (h.carries.unit u p e).0 e)
 
   pub all_kept : (p : Pending) → Contains (all_of v) p → Contains (all_of accepted_view) p
   all_kept p there = by (all_cases v p there)
@@ -197,10 +194,6 @@ module _ (d : SpiTable) (fits : FitsSpi d) (v : View) (h : IsSoundState d v) (q 
       queued p i (inl there) le lt = others_now (slice_index_or (jobs_of d p.sequence) i 0) (not_job p (slice_index_or (jobs_of d p.sequence) i 0) (all_pending v p there) (Contains-get_or (jobs_of d p.sequence) i 0 lt)) ∙ h.results.queued p i there le lt
       queued p i (inr e) le lt = subst (λ z. i < length (jobs_of d z.sequence) → job_result (all_get SpiJobQueued jobs v.job_results) (slice_index_or (jobs_of d z.sequence) i 0) ≡ (if i == z.next && v.running z.sequence then SpiJobPending else SpiJobQueued)) e
           (λ less. queued_now i less ∙ sym (ap (λ b. if i == 0 && b then SpiJobPending else SpiJobQueued) rests ∙ ap (λ b. if b then SpiJobPending else SpiJobQueued) (and_false (i == 0)))) lt
-        where
-          and_false : (b : Bool) → b && false ≡ false
-          and_false true = refl
-          and_false false = refl
 
       last : (j : ℕ) → (list_any (is_left d j) (all_of v) ≡ false) × (is_left d j new ≡ false) → IsLast (job_result (all_get SpiJobQueued jobs v.job_results) j)
       last j (none, own) = subst (λ a. IsLast a) (sym (others_now j own)) (h.results.last j none)

@@ -2,11 +2,12 @@
 -- From words.PendingWords, words.WordsToState.
 use Rattle.std.proofs.Common.{◌≡◌, ◌≢◌, ◌==◌, ◌&&◌, ◌∷◌, ◌∙◌, ◌⊎◌}
 use Rattle.spi_sequences.specs.Terms
-use Terms.{Answer, ap, AreOwed, Bool, Call, Chip, Cleared, Contains, false, FitsSpi, flat_map-cons, inl, inr, is_for}
+use Terms.{Answer, ap, AreOwed, Call, Chip, Cleared, Contains, FitsSpi, flat_map-cons, inl, inr, is_for}
 use Terms.{is_owed, None, not, Option, Origin, Pending, readied_by, refl, Reservation, Reservations, ReservedBy}
 use Terms.{run_at, same_or_other, SpiRepresents, SpiState, SpiTable, stored_by, subst, sym, true, World, ℕ}
 use Rattle.spi_sequences.specs.laws.words.PendingWords.{HoldsLike, holds_back, holds_changed}
 use Rattle.spi_sequences.specs.laws.words.WordsToState.{going_free, other_number}
+use Rattle.plain_facts.specs.Truths.{and_second}
 
 -- what a frame of this origin holds that acted so and has cleared the unit
 abbrev pub cleared_of : (number : ℕ) → Origin Call → Option Answer → ReservedBy Call Reservation
@@ -36,8 +37,4 @@ module _ (d : SpiTable) (held : Reservations) (chip : Chip) (w : World) (s : Spi
 
   -- a frame that ends, or goes on, holds it no more
   pub clear_over : SpiRepresents d (cleared_of u by acted ∷ held) chip w s → SpiRepresents d held chip w s
-  clear_over h = holds_changed d (cleared_of u by acted ∷ held) held chip w s h (holds_back d held (cleared_of u by acted ∷ held) (like d u by acted held)) h.right.1 h.sending.1 h.carriers (λ n p lt free there for. last (not (u == n)) (is_owed n held) (h.owed n p lt free there for))
-    where
-      last : (a b : Bool) → a && b ≡ true → b ≡ true
-      last true b e = e
-      last false b e = absurd (cc)
+  clear_over h = holds_changed d (cleared_of u by acted ∷ held) held chip w s h (holds_back d held (cleared_of u by acted ∷ held) (like d u by acted held)) h.right.1 h.sending.1 h.carriers (λ n p lt free there for. and_second (not (u == n)) (is_owed n held) (h.owed n p lt free there for))

@@ -47,11 +47,7 @@ module _ (q : ℕ) (f : Pending → Pending) where
   item p = if is_of q p then f p else p
 
   same_by : {A : Type 0} (see : Pending → A) → ((p : Pending) → see (f p) ≡ see p) → (p : Pending) → see (item p) ≡ see p
-  same_by see e p = by (is_of q p)
-    where
-      by : (b : Bool) → see (if b then f p else p) ≡ see p
-      by true = e p
-      by false = refl
+  same_by see e p = elim (is_of q p) as (λ b. see (if b then f p else p) ≡ see p) [ true ↦ e p | false ↦ refl ]
 
   -- what runs of it is its entry as it was changed
   abbrev pub going_with : Option Going → Option Going
@@ -180,9 +176,8 @@ module _ (q : ℕ) (f : Pending → Pending) where
           by : (a b : Bool) → a ≡ b → map entry_of (filter (is_for d u) (changed q f ps)) ≡ map entry_of (filter (is_for d u) ps)
               → map entry_of (if a then item p ∷ filter (is_for d u) (changed q f ps) else filter (is_for d u) (changed q f ps)) ≡ map entry_of (if b then p ∷ filter (is_for d u) ps else filter (is_for d u) ps)
           by true true e rest = ap (λ z. record { number = z; waits = not (v.running z) } ∷ map entry_of (filter (is_for d u) (changed q f ps))) (item_sequence p) ∙ ap (λ xs. entry_of p ∷ xs) rest
-          by true false e rest = absurd (cc)
-          by false true e rest = absurd (cc)
           by false false e rest = rest
+          by _ _ e rest = absurd (cc)
 
       pub entries_same : (u : ℕ) → entries_of d after u ≡ entries_of d v u
       entries_same u = order_same u v.pending
@@ -241,11 +236,9 @@ module _ (q : ℕ) (f : Pending → Pending) where
           all_there (inr (n, e)) = all_carried after n (item g.pending) (aside n g.pending e).0 (e ∙ ap (λ z. Some z) (sym (item_begun n g.pending e)))
 
           started : g.pending.started ≡ true → (item g.pending).started ≡ true
-          started i = by (is_of q g.pending)
-            where
-              by : (b : Bool) → (if b then f g.pending else g.pending).started ≡ true
-              by true = starts g.pending i
-              by false = i
+          started i =
+              elim (is_of q g.pending) as (λ b. (if b then f g.pending else g.pending).started ≡ true)
+              [ true ↦ starts g.pending i | false ↦ i ]
 
           runs : (b : Bool) → RunsBy b v u g.pending → RunsBy b after u (item g.pending)
           runs true r = r ∙ ap (λ z. Some z) (sym (item_begun u g.pending r))

@@ -7,7 +7,7 @@ use Terms.{ap, arith, best, better, Bool, Chip, choice, Contains, entries_of, En
 use Terms.{is_interruptible, is_off, is_running, job_at_place, job_of, keeps_unit, List, map, MARKS, nat_lt, nat_tests}
 use Terms.{next_in, next_job, next_on, NEXTS, None, none, not, Option, over, Pending, PendingAgrees, precedes}
 use Terms.{priority_by, rank, rank_in, ranks_in, refl, Reservations, sequence_of, slice_get, Some, SpiRepresents}
-use Terms.{SpiState, SpiTable, subst, suc, sym, true, view, word_of, World, zero, ℕ}
+use Terms.{SpiState, SpiTable, subst, suc, sym, true, view, word_of, World, ℕ}
 use Rattle.spi_sequences.specs.laws.{services.InitPrepared.{in_first, in_later}}
 use Rattle.spi_sequences.specs.laws.{bookkeeping.SequenceEnded.{filter_back}, words.JobPlaces.{job_place}}
 use Rattle.spi_sequences.specs.laws.{words.WordsToState.{RunsOn, at_contained, going_asked, not_true, one_pending}}
@@ -54,9 +54,8 @@ chosen_of d ranks p b few before e f =
     later i j lt = grind (arith, nat_tests)
 
     by : (x y : Bool) → (if not x then p.sequence else b.sequence) ≡ (if x || (y && false) then b else p).sequence
-    by true y = refl
     by false true = refl
-    by false false = refl
+    by _ _ = refl
 
 pub chosen_best : (d : SpiTable) (ranks : List ℕ) (ps : List Pending) → IsSorted ps → ((p : Pending) → Contains ps p → (p.sequence < 8) × (order.rank ranks p.sequence ≡ rank d p)) → choice ranks (waiting_entries ps) ≡ number_of (best d ps)
 chosen_best d ranks [] sorted all = refl
@@ -81,15 +80,8 @@ sorted_kept t (p ∷ ps) h = by (t p) (λ q there. h.0 q (filter_back t ps q the
     by false before rest = rest
 
 rank_there : (d : SpiTable) (v m q : ℕ) → q < 8 → order.rank (ranks_in d v m) q ≡ rank_in d v m q
-rank_there d v m zero lt = refl
-rank_there d v m (suc zero) lt = refl
-rank_there d v m (suc (suc zero)) lt = refl
-rank_there d v m (suc (suc (suc zero))) lt = refl
-rank_there d v m (suc (suc (suc (suc zero)))) lt = refl
-rank_there d v m (suc (suc (suc (suc (suc zero))))) lt = refl
-rank_there d v m (suc (suc (suc (suc (suc (suc zero)))))) lt = refl
-rank_there d v m (suc (suc (suc (suc (suc (suc (suc zero))))))) lt = refl
 rank_there d v m (suc (suc (suc (suc (suc (suc (suc (suc q)))))))) lt = absurd (omega (arith, lt))
+rank_there d v m _ lt = refl
 
 module _ (d : SpiTable) (fits : FitsSpi d) (below : Reservations) (chip : Chip) (w : World) (s : SpiState) (h : SpiRepresents d below chip w s) (on : is_off s.mode ≡ false) where
   abbrev ranks : List ℕ

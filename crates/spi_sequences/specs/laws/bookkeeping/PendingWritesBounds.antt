@@ -12,11 +12,11 @@ use Terms.{is_simple, is_sync_unit, IsBasis, Keep, keep_ends, keep_left, keep_mo
 use Terms.{Main, may, meets_at, More, more_owed, nat_le, nat_lt, nat_tests, Next, next_after, next_gave, next_gives}
 use Terms.{next_left, next_more, None, none, Option, owed_left, owing_basis, PendingWrites, pinning, Placed, placed_of}
 use Terms.{Places, Prepare, prepare_at, prepare_by, prepare_ends, prepare_left, prepare_more, prepared, preparing}
-use Terms.{put_gave, put_more, refl, release_by, release_last, releasing, RequestPlace, Rest, Running, same_chip}
-use Terms.{Search, search_more, Sent, SequenceNext, serve_commits, serve_drops, serve_keeps, serve_keeps_last}
+use Terms.{put_gave, put_more, refl, release_by, release_last, releasing, RequestPlace, Running, same_chip}
+use Terms.{Search, search_more, Sent, serve_commits, serve_drops, serve_keeps, serve_keeps_last}
 use Terms.{serve_lets, serve_releases, Served, ServePlace, ServeStep, simple_owed, Some, Sought, sought, spi_bare}
 use Terms.{spi_basis, spi_owing, SpiTable, start_chooses, start_prepares, start_releases, Started, StartPlace, subst}
-use Terms.{suc, Take, take_gave, take_left, take_more, Taker, tally_cleared, tally_less, Transmit, true, unit_more}
+use Terms.{suc, Take, take_gave, take_left, take_more, Taker, tally_cleared, tally_less, true, unit_more}
 use Terms.{unit_over, unit_owed, unit_owes, unit_took, UnitBody, UnitPlace, Units, unless_done, Wholes, zero, ℕ}
 use Rattle.word_shapes.specs.Playing.{goes}
 use Rattle.service_outline.specs.DeferredWrites.{AreOwed}
@@ -69,10 +69,8 @@ search_less (search.High at tally low) v = tt
 
 pub take_less : (p : Take) (v : ℕ) → has_ended (take_gave p v) ≡ false → take_more (take_left p v) < take_more p
 take_less (take.Pin c) v e = omega arith
-take_less (take.Hold c x b) v e = absurd (cc)
-take_less (take.Word k) v e = absurd (cc)
 take_less (take.Release c) v e = omega arith
-take_less (take.Free c x) v e = absurd (cc)
+take_less _ v e = absurd (cc)
 
 pub next_less : (p : Next) (v : ℕ) → has_ended (next_gave p v) ≡ false → next_more (next_left p v) < next_more p
 next_less (next.Tell at tally n) v e = absurd (cc)
@@ -92,38 +90,28 @@ drop_less (drops.Look s n) v e = by (sought s v) (search_less s v)
     by : (t : Sought) → SoughtLess (search_more s) t → drop_more (drop_after n t) < 3 + search_more s
     by (More r) lt = omega (arith, lt)
     by (All at p) lt = omega arith
-drop_less (drops.Low at p) v e = by (nat_le (count_in p.tally) 8)
-  where
-    by : (q : Bool) → drop_more (if q then drops.Tell at (tally_less p.tally) else drops.High at p) < 2
-    by true = omega arith
-    by false = omega arith
+drop_less (drops.Low at p) v e =
+    elim (nat_le (count_in p.tally) 8) as (λ q. drop_more (if q then drops.Tell at (tally_less p.tally) else drops.High at p) < 2)
+    [ true ↦ omega arith | false ↦ omega arith ]
 drop_less (drops.High at p) v e = omega arith
 drop_less (drops.Tell at tally) v e = absurd (cc)
 
 keep_few : (x : Placed) (i : ℕ) (t : Taker) (w : ℕ) → keep_more (keeping x i t w) ≤ 1
-keep_few x i (takers.Bank b) w = by (i == 0)
-  where
-    by : (q : Bool) → keep_more (if q then keeps.Hold x b w else keeps.Fill x i b w) ≤ 1
-    by true = omega arith
-    by false = omega arith
-keep_few x i (takers.SetUp by) w = split by.destination
-  where
-    split : (q : Bool) → keep_more (if q then keeps.Store x i w else keeps.Drop x) ≤ 1
-    split true = omega arith
-    split false = omega arith
+keep_few x i (takers.Bank b) w =
+    elim (i == 0) as (λ q. keep_more (if q then keeps.Hold x b w else keeps.Fill x i b w) ≤ 1)
+    [ true ↦ omega arith | false ↦ omega arith ]
+keep_few x i (takers.SetUp by) w =
+    elim by.destination as (λ q. keep_more (if q then keeps.Store x i w else keeps.Drop x) ≤ 1)
+    [ true ↦ omega arith | false ↦ omega arith ]
 
 keep_less : (k : Keep) → keep_ends k ≡ false → keep_more (keep_left k) < keep_more k
 keep_less (keeps.Hold x b w) e = omega arith
-keep_less (keeps.Fill x i b w) e = absurd (cc)
-keep_less (keeps.Store x i w) e = absurd (cc)
-keep_less (keeps.Drop x) e = absurd (cc)
+keep_less _ e = absurd (cc)
 
 commit_less : (c : Commit) (v : ℕ) → commit_ends c v ≡ false → commit_more (commit_left c v) < commit_more c
 commit_less (commits.Held x) v e = omega arith
-commit_less (commits.Put (puts.Choose c)) v e = absurd (cc)
-commit_less (commits.Put (puts.Fill k x)) v e = absurd (cc)
 commit_less (commits.Put (puts.Commit c b)) v e = omega arith
-commit_less (commits.Put (puts.Tell c x)) v e = absurd (cc)
+commit_less _ v e = absurd (cc)
 
 prepare_less : (p : Prepare) (v : ℕ) → prepare_ends p v ≡ false → prepare_more (prepare_left p v) < prepare_more p
 prepare_less (prepares.Pin p) v e = take_less p v e
@@ -131,11 +119,9 @@ prepare_less (prepares.Load x) v e = omega arith
 prepare_less (prepares.Hold x by) v e = absurd (cc)
 
 prepare_few : (x : Placed) → prepare_more (preparing x) ≤ 1
-prepare_few x = by x.channel.internal
-  where
-    by : (q : Bool) → prepare_more (if q then prepares.Pin (pinning x Sent) else prepares.Load x) ≤ 1
-    by true = omega arith
-    by false = omega arith
+prepare_few x =
+    elim x.channel.internal as (λ q. prepare_more (if q then prepares.Pin (pinning x Sent) else prepares.Load x) ≤ 1)
+    [ true ↦ omega arith | false ↦ omega arith ]
 
 -- ---- the places of a unit's frame
 
@@ -151,15 +137,10 @@ abbrev ServeLess : UnitBody → ℕ → ServePlace × ServeStep → Type 0
 ServeLess k n r = Less n (unless_done (after_serve k r).1.done (unit_owed (after_serve k r).0))
 
 over_less : (k : UnitBody) (p : UnitPlace) (n : ℕ) (e : FrameRole) (u : ℕ) → Less n (unless_done (unit_over k p e u).1.done (unit_owed (unit_over k p e u).0))
-over_less k p n Main zero = by (is_sync_unit k.table 1)
-  where
-    by : (b : Bool) → Less n (unless_done (main_over k p b).1.done (unit_owed (main_over k p b).0))
-    by true = tt
-    by false = tt
-over_less k p n Main (suc u) = tt
-over_less k p n Rest u = tt
-over_less k p n Handler u = tt
-over_less k p n (Transmit q) u = tt
+over_less k p n Main zero =
+    elim (is_sync_unit k.table 1) as (λ b. Less n (unless_done (main_over k p b).1.done (unit_owed (main_over k p b).0)))
+    [ true ↦ tt | false ↦ tt ]
+over_less k p n _ _ = tt
 
 module _ (k : UnitBody) where
   prepared_less : (r : Running) (n : ℕ) → 3 < n → StartLess k n (prepared k.table r, started.Goes None)
@@ -173,11 +154,9 @@ module _ (k : UnitBody) where
       by false = omega (arith, lt)
 
   prepares_less : (r : Running) (i n : ℕ) → 3 < n → 5 + 2 * (3 - i) < n → StartLess k n (prepare_at k.table r i, started.Goes None)
-  prepares_less r i n lt more = by (channel_number (list_of k.table r.job) i)
-    where
-      by : (c : Option ℕ) → StartLess k n (prepare_by k.table r i c, started.Goes None)
-      by None = prepared_less r n lt
-      by (Some c) = let few = prepare_few (placed_of k.table c) in omega (arith, few, more)
+  prepares_less r i n lt more =
+      elim (channel_number (list_of k.table r.job) i) as (λ c. StartLess k n (prepare_by k.table r i c, started.Goes None))
+      [ None ↦ prepared_less r n lt | Some c ↦ (let few = prepare_few (placed_of k.table c) in omega (arith, few, more)) ]
 
   start_less : (p : StartPlace) (v : ℕ) → Less (unit_more k.table (units.Start p)) (if unit_owes (units.Start p) then unless_done (unit_took k (units.Start p) v).1.done (unit_owed (unit_took k (units.Start p) v).0) else None)
   start_less (starts.Choose c p) v = by (has_ended (next_gave p v)) refl
@@ -202,27 +181,13 @@ module _ (k : UnitBody) where
       by false e = let lt = take_less p v e in omega (arith, lt)
   start_less (starts.Run r) v = omega arith
   start_less starts.Stand v = over_less k (units.Start starts.Stand) 0 k.errand k.unit
-  start_less starts.Shut v = tt
-  start_less starts.Running v = tt
-  start_less starts.Nexts v = tt
-  start_less (starts.Marks x) v = tt
-  start_less (starts.Front x m p) v = tt
-  start_less (starts.Find c p) v = tt
-  start_less (starts.Select c x) v = tt
-  start_less (starts.Width c x) v = tt
-  start_less (starts.Begin c x) v = tt
+  start_less _ v = tt
 
   request_less : (p : RequestPlace) (v : ℕ) → Less (unit_more k.table (units.Request p)) (if unit_owes (units.Request p) then unless_done (unit_took k (units.Request p) v).1.done (unit_owed (unit_took k (units.Request p) v).0) else None)
   request_less (requests.Look q) v = tt
   request_less requests.Accept v = tt
-  request_less requests.Nexts v = omega arith
-  request_less (requests.First x) v = omega arith
-  request_less requests.Marks v = omega arith
-  request_less (requests.Unmark x) v = omega arith
-  request_less (requests.Add (add.Count at n)) v = omega arith
-  request_less (requests.Add (add.Find at n tally)) v = omega arith
-  request_less (requests.Add (add.Place at word x tally)) v = omega arith
   request_less (requests.Add (add.Tell at tally)) v = tt
+  request_less _ v = omega arith
 
   -- the first of the last n channels whose pin stands comes after those before them
   pinned_after : (r : Served) (n i : ℕ) → first_pinned k.table r n ≡ Some i → (4 - n ≤ i) × (i < 4)
@@ -298,40 +263,24 @@ module _ (k : UnitBody) where
       by : (q : Bool) → commit_ends c v ≡ q → ServeLess k (8 + commits_left k.table l (3 - i) + commit_more c) (serve_commits k.table l i c v q)
       by true e = commits_less l (3 - i) _ (omega arith)
       by false e = let lt = commit_less c v e in omega (arith, lt)
-  serve_less (serves.Result l) v = by l.course
-    where
-      by : (c : SequenceNext) → ServeLess k 7 (goes_on l.served c, steps.Goes None)
-      by (courses.Further x) = omega arith
-      by (courses.Ends x) = omega arith
+  serve_less (serves.Result l) v =
+      elim l.course as (λ c. ServeLess k 7 (goes_on l.served c, steps.Goes None))
+      [ courses.Further x ↦ omega arith | courses.Ends x ↦ omega arith ]
   serve_less (serves.Further r x) v = omega arith
   serve_less (serves.Again r (again.Look at n)) v = omega arith
-  serve_less (serves.Again r (again.Tell at tally)) v = tt
   serve_less (serves.End r x) v = omega arith
   serve_less (serves.Drop r p) v = by (has_ended (drop_gave p v)) refl
     where
       by : (q : Bool) → has_ended (drop_gave p v) ≡ q → ServeLess k (drop_more p) (serve_drops k.table r p v q)
       by true e = tt
       by false e = drop_less p v e
-  serve_less serves.Shut v = tt
-  serve_less serves.State v = tt
-  serve_less (serves.Running f) v = tt
-  serve_less (serves.Position r f) v = tt
-  serve_less (serves.Taker r) v = tt
-  serve_less (serves.Receive r t) v = tt
-  serve_less (serves.Width r p) v = tt
-  serve_less (serves.Find r p f) v = tt
-  serve_less (serves.Begin r p x) v = tt
-  serve_less (serves.Marks r) v = tt
-  serve_less (serves.Nexts r c) v = tt
-  serve_less (serves.Acknowledge r c) v = tt
+  serve_less _ v = tt
 
   unit_less : (p : UnitPlace) (v : ℕ) → Less (unit_more k.table p) (if unit_owes p then unless_done (unit_took k p v).1.done (unit_owed (unit_took k p v).0) else None)
   unit_less (units.Request p) v = request_less p v
   unit_less (units.Start p) v = start_less p v
   unit_less (units.Serve p) v = serve_less p v
-  unit_less units.Act v = tt
-  unit_less (units.Opens a) v = tt
-  unit_less (units.Tell n o) v = tt
+  unit_less _ v = tt
 
 -- ---- the places of a call that sends a sequence
 
@@ -351,9 +300,6 @@ module _ (k : SyncBody) where
       owes false p lt = tt
 
       by : (p : ServePlace) → ServeLess serving n (p, steps.Goes None) → Less n (where_owed (sent_owes p) (Sends (sync_at k (sends.Serve p))))
-      by (serves.Further r v) lt = tt
-      by (serves.Again r a) lt = tt
-      by (serves.Drop r p) lt = tt
       by (serves.Let r p t) lt = lt
       by (serves.Keep x p) lt = lt
       by (serves.Stand p) lt = lt
@@ -376,11 +322,9 @@ module _ (k : SyncBody) where
       by (Some c) = let few = prepare_few (placed_of k.table c) in omega (arith, few, more)
 
   first_ready : SyncLess 12 (sync_at k (sync_prepares k), outline.goes)
-  first_ready = by (begins_whole (channel_sent k 0))
-    where
-      by : (b : Bool) → SyncLess 12 (sync_at k (sync_prepares_at k (if b then 1 else 0)), outline.goes)
-      by true = made_ready 1 12 (omega arith) (omega arith)
-      by false = made_ready 0 12 (omega arith) (omega arith)
+  first_ready =
+      elim (begins_whole (channel_sent k 0)) as (λ b. SyncLess 12 (sync_at k (sync_prepares_at k (if b then 1 else 0)), outline.goes))
+      [ true ↦ made_ready 1 12 (omega arith) (omega arith) | false ↦ made_ready 0 12 (omega arith) (omega arith) ]
 
   -- the first internal one of the last n channels comes after those before them
   internal_from : (r : Served) (n i : ℕ) → first_internal k.table r n ≡ Some i → (4 - n ≤ i) × (i < 4)
@@ -429,11 +373,6 @@ module _ (k : SyncBody) where
     where
       -- of each of them the step goes on
       serve_step : (p : ServePlace) → Less (serve_more k.table p) (if sent_owes p then unless_done (sync_serves k p v).1.done (sync_owed (sync_serves k p v).0) else None)
-      serve_step (serves.Further r x) = tt
-      serve_step (serves.Again r a) = tt
-      serve_step (serves.Drop r x) = tt
-      serve_step (serves.End r x) = tt
-      serve_step (serves.Stand x) = tt
       serve_step (serves.Let r x t) = served_on (serve_more k.table (serves.Let r x t)) (serve_takes k.table k.unit (serves.Let r x t) v) (on (has_ended (take_gave t v))) (serve_less serving (serves.Let r x t) v)
         where
           on : (q : Bool) → (serve_lets k.table r x t v q).1 ≡ steps.Goes None
@@ -471,15 +410,9 @@ owed_less (Cancels (cancels.Drop r p)) v = by (has_ended (drop_gave p v)) refl
     by : (q : Bool) → has_ended (drop_gave p v) ≡ q → Less (drop_more p) (unless_done (cancel_drops r p v q).1.done (cancel_owed_at (cancel_drops r p v q).0))
     by true e = tt
     by false e = drop_less p v e
-owed_less (Cancels (cancels.Result r)) v = tt
-owed_less (Cancels (cancels.Running r)) v = tt
-owed_less (Cancels (cancels.Marks r)) v = tt
-owed_less (Cancels (cancels.Mark x)) v = tt
-owed_less (Cancels (cancels.Store r)) v = tt
 owed_less (Wholes (wholes.Look x q)) v = tt
-owed_less (Wholes (wholes.Store x)) v = tt
-owed_less (Wholes (wholes.Lines x)) v = tt
 owed_less (Sends k) v = sync_less k k.place v
+owed_less _ v = tt
 
 pub owed_right : (d : SpiTable) → AreOwed (spi_bare d) (spi_owing d) same_chip
 owed_right d = simple_owed (spi_bare d) (spi_owing d) (λ made e. (and_parts (is_simple made) (may d made) e).0) (λ x chip. tt) (λ x y v e. subst (Less (more_owed x)) e (owed_less x v))

@@ -4,16 +4,16 @@
 use Rattle.std.proofs.Common.{◌≡◌, ◌≢◌, ◌+◌, ◌-◌, ◌*◌, ◌/◌, ◌%◌, ◌^◌, ◌<◌, ◌≤◌, ◌==◌, ◌&&◌, ◌||◌, [], ◌∷◌, ◌∙◌, ◌⊎◌}
 use Rattle.std.proofs.Common.{if◌then◌else◌}
 use Rattle.spi_sequences.specs.Terms
-use Terms.{act-leaves, Adc0, Adc1, after_read, and_false, and_parts, ap, arith, best, Bool, Called, CaptureCountLow}
-use Terms.{CaptureTimeLow, carries_channel, Carrying, channel_of, channels_by, channels_of, Chip, chip_after}
-use Terms.{clear_apart, ClockPll, ClockRate, Contains, ConverterAbort, due, EnableClear, EnableSet, false, Fill}
+use Terms.{act-leaves, after_read, and_false, and_parts, ap, arith, best, Bool, Called}
+use Terms.{carries_channel, Carrying, channel_of, channels_by, channels_of, Chip, chip_after}
+use Terms.{clear_apart, ClockPll, ClockRate, Contains, due, EnableClear, EnableSet, false, Fill}
 use Terms.{fills_there, filter, first_state, FitsSpi, Going, happened, Hardware, has_bit, has_bit-or}
 use Terms.{has_bit-pow_other, has_bit-without, has_done, has_handler, has_lines, Init, inl, inr, InTransfer, is_done}
 use Terms.{is_for, is_for_lines, is_in_use, is_interrupt, is_masked, is_off, is_on_unit, is_owed, is_shared, is_some}
 use Terms.{is_sync_unit, is_used, is_word_of, IsBasis, Job, job_of, jobs_of, Level, level_leaves, line-serial, List}
 use Terms.{list_any, Load, Made, may, may_name, may_write, MayCome, Move, move_there, moved, names_there, nat_lt}
 use Terms.{nat_tests, next_at, next_by, next_job, next_on, None, not, number_of, Option, Order, outcome, owns_written}
-use Terms.{Pending, PinFlip, PowerOn, rate-left, Read, reads_from, ready, refl, Reg, Reservations, ResetRequest}
+use Terms.{Pending, PowerOn, rate-left, Read, reads_from, ready, refl, Reg, Reservations, ResetRequest}
 use Terms.{resets_chip, Run, run_at, RunsNext, Serial, SerialAck, SerialData, SerialSelect, SerialWidth, set_apart}
 use Terms.{sets_rate, Some, Spi0, Spi1, spi_bare, spi_owns, spi_setting, SpiFault, SpiRepresents, SpiState, SpiTable}
 use Terms.{stands-event, stands-move, StandsIn, Steady, Store, stores_in, subst, suc, sym, tells_nothing, TimerLow}
@@ -38,6 +38,8 @@ use Rattle.chip_units.specs.Serials as serials
 use Rattle.chip_units.specs.declared.serial.Word as chips
 use Rattle.mcal_base.specs.declared.moves.Unit as units
 use Rattle.mcal_base.specs.declared.directive.Order.TheVariants.{Tick}
+use Rattle.std.proofs.lemmas.Bool.{or_from}
+use Rattle.plain_facts.specs.Truths.{and_true}
 
 -- ---- in time
 
@@ -51,12 +53,8 @@ same_orders d fits held chip w s order stands units words enabled h = same_agree
 
 -- no job uses a channel that isn't there
 unused_none : (d : SpiTable) → FitsSpi d → (c : ℕ) (s : SpiState) → is_some (channel_of d c) ≡ false → uses d s c ≡ false
-unused_none d fits c s none = or_none (is_in_use d c s.pending) (list_any (carries_channel d c) s.carried) (none_any (λ p. list_any (uses_channel d c) (jobs_of d p.sequence)) s.pending (λ p is. by_sequence p.sequence)) (none_any (carries_channel d c) s.carried (λ o is. by_carried o))
+unused_none d fits c s none = or_from (is_in_use d c s.pending) (list_any (carries_channel d c) s.carried) (none_any (λ p. list_any (uses_channel d c) (jobs_of d p.sequence)) s.pending (λ p is. by_sequence p.sequence)) (none_any (carries_channel d c) s.carried (λ o is. by_carried o))
   where
-    or_none : (a b : Bool) → a ≡ false → b ≡ false → a || b ≡ false
-    or_none true b e f = e
-    or_none false b e f = f
-
     there : (j n : ℕ) → Contains (channels_of d j) n → (o : Option Job) → job_of d j ≡ o → is_some (channel_of d n) ≡ true
     there j n is None e = absurd (none_in n (subst (λ k. Contains (channels_by k) n) e is))
     there j n is (Some k) e = ap is_some ((fits.jobs j k e).there n is).2
@@ -78,9 +76,8 @@ later_agrees : (d : SpiTable) → FitsSpi d → (held : Reservations) (chip : Ch
 later_agrees d fits held chip w s order come h = by order come (stands-event chip w order (fills_there (spi_setting d) (is_masked chip) w s come.frames order come.free) h.outside)
   where
     nor : (a b q : Bool) → a || (b || q) ≡ false → (b ≡ false) × (q ≡ false)
-    nor true b q e = absurd (cc)
-    nor false true q e = absurd (cc)
     nor false false q e = (refl, e)
+    nor _ _ q e = absurd (cc)
 
     fill : (c : ℕ) (ws : List ℕ) → MayCome (spi_setting d) held chip w s (Fill c ws) → (q : Bool) → is_some (channel_of d c) ≡ q → SpiRepresents d held (happened chip (Fill c ws)) (world_after w chip.clock.rate (Fill c ws)) (moved d w s (Fill c ws))
     fill c ws come true e =
@@ -98,10 +95,6 @@ later_agrees d fits held chip w s order come h = by order come (stands-event chi
 
 read_apart : (chip : Chip) (r : Reg) → (after_read chip r).serials ≡ chip.serials
 read_apart chip (TimerLow c) = refl
-read_apart chip (CaptureCountLow c) = refl
-read_apart chip (CaptureTimeLow c) = refl
-read_apart chip (ConverterAbort u) = refl
-read_apart chip (PinFlip p) = refl
 read_apart chip _ = refl
 
 written_apart : (chip : Chip) (r : Reg) (v received : ℕ) → owns_written r v ≡ false → (chip_after chip (Write r v) received).serials ≡ chip.serials
@@ -117,9 +110,8 @@ serials_apart d chip (Write r v) received e = written_apart chip r v received e
 serials_apart d chip _ received e = refl
 
 either_none : (a b c : Bool) → (a || b) || c ≡ false → (a ≡ false) × (b ≡ false) × (c ≡ false)
-either_none true b c e = absurd (cc)
-either_none false true c e = absurd (cc)
 either_none false false c e = (refl, refl, e)
+either_none _ _ c e = absurd (cc)
 
 no_line : (v u : ℕ) → u < 2 → has_lines v ≡ false → has_bit v (26 + u) ≡ false
 no_line v u lt e = let p = either_none (has_bit v 26) (has_bit v 27) (not (nat_lt v 4294967296)) e in by_two (λ n. has_bit v (26 + n) ≡ false) p.0 p.1 u lt
@@ -137,10 +129,6 @@ written_enabled chip _ v received u e lt = refl
 
 read_enabled : (chip : Chip) (r : Reg) → (after_read chip r).control ≡ chip.control
 read_enabled chip (TimerLow c) = refl
-read_enabled chip (CaptureCountLow c) = refl
-read_enabled chip (CaptureTimeLow c) = refl
-read_enabled chip (ConverterAbort u) = refl
-read_enabled chip (PinFlip p) = refl
 read_enabled chip _ = refl
 
 enabled_apart : (d : SpiTable) (chip : Chip) (made : Move) (received u : ℕ) → spi_owns d made ≡ false → u < 2 → has_bit (chip_after chip made received).control.enabled (26 + u) ≡ has_bit chip.control.enabled (26 + u)
@@ -237,19 +225,14 @@ may_parts d made e = let p = and_parts (may_name d made) (names_there made) e in
 
 -- what each frame may do, this one may
 pub frame_names : (d : SpiTable) (o : Origin Call) (made : Move) → may d made ≡ true → may_wait d made o || may d made ≡ true
-frame_names d o made e = by (may_wait d made o)
-  where
-    by : (b : Bool) → b || may d made ≡ true
-    by true = refl
-    by false = e
+frame_names d o made e = elim (may_wait d made o) as (λ b. b || may d made ≡ true) [ true ↦ refl | false ↦ e ]
 
 pub frame_may : (d : SpiTable) (o : Origin Call) (made : Move) → is_shared made || may d made ≡ true → is_shared made || (may_wait d made o || may d made) ≡ true
 frame_may d o made e = by (is_shared made) (may_wait d made o) e
   where
     by : (a b : Bool) → a || may d made ≡ true → a || (b || may d made) ≡ true
-    by true b e = refl
-    by false true e = refl
     by false false e = e
+    by _ _ e = refl
 
 -- it reads a wait register that is there, or each frame may make it
 abbrev pub FrameMoves : SpiTable → Move → Type 0
@@ -267,11 +250,9 @@ frame_moves d o made e = by (may_wait d made o) refl e
     by false f e = inr e
 
 frame_parts : (d : SpiTable) (o : Origin Call) (made : Move) → may_wait d made o || may d made ≡ true → (spi_owns d made ≡ true) × (names_there made ≡ true)
-frame_parts d o made e = by (frame_moves d o made e)
-  where
-    by : FrameMoves d made → (spi_owns d made ≡ true) × (names_there made ≡ true)
-    by (inl (u, is, there)) = (ap (spi_owns d) is, there)
-    by (inr e) = may_parts d made e
+frame_parts d o made e =
+    elim (frame_moves d o made e)
+    [ inl (u, is, there) ↦ (ap (spi_owns d) is, there) | inr e ↦ may_parts d made e ]
 
 -- it resets nothing and sets no rate
 abbrev pub IsPlain : Move → Type 0
@@ -288,11 +269,9 @@ plain_move d (Write r v) e = written_plain d r v (and_parts (may_name d (Write r
 plain_move d _ e = (refl, refl)
 
 frame_plain : (d : SpiTable) (o : Origin Call) (made : Move) → may_wait d made o || may d made ≡ true → IsPlain made
-frame_plain d o made e = by (frame_moves d o made e)
-  where
-    by : FrameMoves d made → IsPlain made
-    by (inl (u, is, there)) = (ap resets_chip is, ap sets_rate is)
-    by (inr e) = plain_move d made e
+frame_plain d o made e =
+    elim (frame_moves d o made e)
+    [ inl (u, is, there) ↦ (ap resets_chip is, ap sets_rate is) | inr e ↦ plain_move d made e ]
 
 -- ---- what is due
 
@@ -346,23 +325,18 @@ module _ (d : SpiTable) (fits : FitsSpi d) (held : Reservations) (chip : Chip) (
 
       never : (a b : Bool) → a && (b && false) ≡ false
       never true true = refl
-      never true false = refl
-      never false b = refl
+      never _ _ = refl
 
       no_run : (a b : Bool) → (a && false) && b ≡ false
       no_run true b = refl
       no_run false b = refl
-
-      always : (a : Bool) → a && true ≡ a
-      always true = refl
-      always false = refl
 
       by : (q : Bool) → is_sync_unit d u ≡ q → serials.is_done (unit_at chip.serials u) chip.serials.time && (is_interrupt s.mode && not (is_sync_unit d u)) ≡ (not (is_off s.mode) && has_done w.now (run_at s u)) && is_interrupt s.mode
       by true e = ap (λ q. serials.is_done (unit_at chip.serials u) chip.serials.time && (is_interrupt s.mode && not q)) e ∙ never (serials.is_done (unit_at chip.serials u) chip.serials.time) (is_interrupt s.mode)
           ∙ sym (ap (λ r. (not (is_off s.mode) && has_done w.now r) && is_interrupt s.mode) (idle_sync u e) ∙ no_run (not (is_off s.mode)) (is_interrupt s.mode))
       by false e = ap (λ q. serials.is_done (unit_at chip.serials u) chip.serials.time && (is_interrupt s.mode && not q)) e
           ∙ ap (λ q. q && (is_interrupt s.mode && true)) (unit_done d (unit_at chip.serials u) (run_at s u) chip.serials.time (h.going u) (h.units u lt e) ∙ ap (λ t. has_done t (run_at s u)) time)
-          ∙ ap (λ q. has_done w.now (run_at s u) && q) (always (is_interrupt s.mode))
+          ∙ ap (λ q. has_done w.now (run_at s u) && q) (and_true (is_interrupt s.mode))
           ∙ ap (λ q. q && is_interrupt s.mode) on
 
   pub due_line : (line : ℕ) → (line == 26 || line == 27) ≡ true → is_pending chip line ≡ due w s line
@@ -461,15 +435,13 @@ waits_none d fits held chip w s u lt free h = by (is_off s.mode) (run_at s u) re
         idle (Some g) j = absurd (let a = subst (λ o. UnitAgrees d (unit_at chip.serials u) (run_at s u) o) j (h.units u lt i) in let f = sym e ∙ a.1 in cc)
 
     by : (q : Bool) (r : Option Run) → run_at s u ≡ r → is_some (if q then None else next_by d s u r) ≡ false
-    by true r e = refl
-    by false (Some r) e = refl
     by false None e = ap is_some (none_for d fits held chip w s h u (none e (is_sync_unit d u) refl))
+    by _ _ e = refl
 
 waits : (d : SpiTable) → FitsSpi d → (chip : Chip) (w : World) (s : SpiState) (u : units.Unit) → SpiRepresents d [] chip w s → is_some (next_at d s (number_of u)) ≡ false
-waits d fits chip w s Adc0 h = refl
-waits d fits chip w s Adc1 h = refl
 waits d fits chip w s Spi0 h = waits_none d fits [] chip w s 0 (omega arith) refl h
 waits d fits chip w s Spi1 h = waits_none d fits [] chip w s 1 (omega arith) refl h
+waits d fits chip w s _ h = refl
 
 pub bare_right : (d : SpiTable) → FitsSpi d → IsBasis (spi_bare d)
 bare_right d fits = record {

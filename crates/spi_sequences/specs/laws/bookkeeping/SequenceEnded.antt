@@ -20,6 +20,8 @@ use Rattle.spi_sequences.specs.laws.{words.WordsToState.{any_some, at_contained,
 use Rattle.spi_sequences.specs.laws.{words.WordsToState.{none_any, not_true, other_number, same_number}}
 use Rattle.word_shapes.specs.Order as order
 use Rattle.word_shapes.specs.PriorityQueue as ranked
+use Rattle.std.proofs.lemmas.Bool.{or_from}
+use Rattle.plain_facts.specs.Truths.{and_false}
 
 -- ---- lists that are filtered
 
@@ -44,11 +46,10 @@ module _ {A : Type 0} (t : A → Bool) where
   kept_order (z ∷ zs) i j x y lt e f = by (t z) refl (λ a b. kept_order zs a b x y) i j lt e f
     where
       by : (q : Bool) → t z ≡ q → ((i j : ℕ) → i < j → slice_get (filter t zs) i ≡ Some x → slice_get (filter t zs) j ≡ Some y → (a : ℕ) × (b : ℕ) × (a < b) × (slice_get zs a ≡ Some x) × (slice_get zs b ≡ Some y)) → (i j : ℕ) → i < j → slice_get (if q then z ∷ filter t zs else filter t zs) i ≡ Some x → slice_get (if q then z ∷ filter t zs else filter t zs) j ≡ Some y → (a : ℕ) × (b : ℕ) × (a < b) × (slice_get (z ∷ zs) a ≡ Some x) × (slice_get (z ∷ zs) b ≡ Some y)
-      by true g rest zero zero lt e f = absurd (omega (arith, lt))
       by true g rest zero (suc j) lt e f = let r = kept_one zs j y f in (0, suc r.0, omega arith, e, r.1)
-      by true g rest (suc i) zero lt e f = absurd (omega (arith, lt))
       by true g rest (suc i) (suc j) lt e f = let r = rest i j (omega (arith, lt)) e f in (suc r.0, suc r.1, let less = r.2 in omega (arith, less), r.3, r.4)
       by false g rest i j lt e f = let r = rest i j lt e f in (suc r.0, suc r.1, let less = r.2 in omega (arith, less), r.3, r.4)
+      by _ g rest _ _ lt e f = absurd (omega (arith, lt))
 
   pub filter_back : (xs : List A) (y : A) → Contains (filter t xs) y → Contains xs y × (t y ≡ true)
   filter_back xs y (k, lt, e) = let r = kept_one xs k y (at_contained (filter t xs) k y lt e) in (get_contained xs r.0 y r.1, r.2)
@@ -70,12 +71,8 @@ filter_keeps t (z ∷ zs) y (suc k, lt, e) f = by (t z) (filter_keeps t zs y (k,
 
 different_once : (xs : List ℕ) → AreDifferent xs → repeats xs ≡ false
 different_once [] h = refl
-different_once (x ∷ xs) h = neither (list_any (λ m. m == x) xs) (repeats xs) (not_true (list_any (λ m. m == x) xs) (λ e. again (any_some (λ m. m == x) xs e))) (different_once xs (λ i j n a b. less (h (suc i) (suc j) n a b)))
+different_once (x ∷ xs) h = or_from (list_any (λ m. m == x) xs) (repeats xs) (not_true (list_any (λ m. m == x) xs) (λ e. again (any_some (λ m. m == x) xs e))) (different_once xs (λ i j n a b. less (h (suc i) (suc j) n a b)))
   where
-    neither : (a b : Bool) → a ≡ false → b ≡ false → a || b ≡ false
-    neither true b e f = absurd (cc)
-    neither false b e f = f
-
     less : {i j : ℕ} → suc i ≡ suc j → i ≡ j
     less e = omega (arith, e)
 
@@ -350,10 +347,6 @@ module _ (d : SpiTable) (fits : FitsSpi d) (v : View) (h : IsSoundState d v) (p 
 
       unless_rest : (j : ℕ) → rest j ≡ true → (is_left d j p && not (rest j)) ≡ false
       unless_rest j e = ap (λ b. is_left d j p && not b) e ∙ and_false (is_left d j p)
-        where
-          and_false : (b : Bool) → b && false ≡ false
-          and_false true = refl
-          and_false false = refl
 
       job_by : (j : ℕ) → j < 16 → list_any (is_left d j) (all_of ended_view) ≡ false → (b : Bool) → rest j ≡ b → (c : Bool) → is_left d j p ≡ c → m1 (job_word j) ≡ job_code (job_result given j)
       job_by j lt none true e c f =

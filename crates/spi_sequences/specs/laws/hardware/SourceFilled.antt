@@ -21,6 +21,7 @@ use Rattle.spi_sequences.specs.laws.{words.KeptWords.{next_view, sequences_as, s
 use Rattle.spi_sequences.specs.laws.{words.SendsKept.{sends_as}, words.AllSequences.{all_cases, none_under_way}}
 pub use Rattle.spi_sequences.specs.laws.words.ListTests.{any_in}
 use Rattle.spi_sequences.specs.laws.{words.WordsOfModule.{own_held, own_set_up, some_at}, hardware.StableUnderHardware.{pointwise}}
+use Rattle.plain_facts.specs.Numbers.{eq_from, eq_is, lt_is, lt_isnt}
 
 -- ---- how many words the module has
 
@@ -88,26 +89,17 @@ module _ (words xs : List ℕ) (at : ℕ) (there : at + length xs ≤ length wor
 
 -- the words that a fill leaves in an array of so many places, by the place
 array_filled : (n : ℕ) (ws old : List ℕ) (i : ℕ) → i < n → (q : Bool) → nat_lt i (length ws) ≡ q → word_at (take n (ws ++ drop (length ws) old)) i ≡ (if q then slice_index ws i else slice_index old i)
-array_filled n ws old i lt true e = get_or-take n (ws ++ drop (length ws) old) i 0 lt ∙ get_or_append_left ws (drop (length ws) old) 0 i (below i (length ws) e)
-  where
-    below : (a b : ℕ) → nat_lt a b ≡ true → a < b
-    below a b e = grind (arith, nat_tests)
+array_filled n ws old i lt true e = get_or-take n (ws ++ drop (length ws) old) i 0 lt ∙ get_or_append_left ws (drop (length ws) old) 0 i (lt_is i (length ws) e)
 array_filled n ws old i lt false e =
-    let le = above i (length ws) e in
+    let le = lt_isnt i (length ws) e in
     let split : i ≡ length ws + (i - length ws) = omega (arith, le) in
     get_or-take n (ws ++ drop (length ws) old) i 0 lt ∙ ap (λ k. slice_index (ws ++ drop (length ws) old) k) split ∙ get_or-append-add ws (drop (length ws) old) (i - length ws) 0
     ∙ get_or-drop (length ws) old (i - length ws) 0 ∙ ap (λ k. slice_index old k) (sym split)
-  where
-    above : (a b : ℕ) → nat_lt a b ≡ false → b ≤ a
-    above a b e = grind (arith, nat_tests)
 
 -- ---- a fill
 
 pub not_both : {A : Type 0} (q : Bool) → q ≡ true → q ≡ false → A
 not_both q e f = absurd (let g = sym e ∙ f in cc)
-
-equal : (a b : ℕ) → (a == b) ≡ true → a ≡ b
-equal a b f = grind (arith, nat_tests)
 
 -- a put, where there is one
 abbrev pub put_if : Bool → Putting → Option Putting
@@ -128,26 +120,16 @@ spared_by d mode cs c [] none r = tt
 spared_by d mode cs c (x ∷ xs) none r = let parts = or_parts (reads_from (spi_setting d) c x.by) (list_any (reads_from (spi_setting d) c) (owners xs)) none in (one x x.what parts.0 r.0, spared_by d mode cs c xs parts.1 r.1)
   where
     one : (x : ReservedBy Call Reservation) (y : Reservation) → reads_from (spi_setting d) c x.by ≡ false → HeldRight d mode cs x y → Spared c y
-    one x (Debt u) f r = tt
-    one x (Cleared u) f r = tt
-    one x Handling f r = tt
     one x (Writing n p b i y) f r = eq_isnt n c (subst (λ o. reads_from (spi_setting d) c o ≡ false) r.0 f)
-    one x (Reading n b) f r = tt
-    one x (Sending u q n at banks failed device) f r = tt
-    one x (Preparing stored readied y) f r = tt
+    one x _ f r = tt
 
 pub spared_none : (d : SpiTable) (mode : Mode) (cs : List ChannelState) (c : ℕ) (hs : Reservations) → is_some (channel_of d c) ≡ false → AllRight d mode cs hs → AllSpared c hs
 spared_none d mode cs c [] none r = tt
 spared_none d mode cs c (x ∷ xs) none r = (one x x.what r.0, spared_none d mode cs c xs none r.1)
   where
     one : (x : ReservedBy Call Reservation) (y : Reservation) → HeldRight d mode cs x y → Spared c y
-    one x (Debt u) r = tt
-    one x (Cleared u) r = tt
-    one x Handling r = tt
     one x (Writing n p b i y) r = λ same. let f = sym (ap (λ m. is_some (channel_of d m)) same) ∙ r.3 in not_both (is_some (channel_of d c)) f none
-    one x (Reading n b) r = tt
-    one x (Sending u q n at banks failed device) r = tt
-    one x (Preparing stored readied y) r = tt
+    one x _ r = tt
 
 module _ (d : SpiTable) (fits : FitsSpi d) (held : Reservations) (chip : Chip) (w : World) (s : SpiState) (c : ℕ) (ws : List ℕ) (lt : c < 16) (free : uses d s c ≡ false) (h : SpiRepresents d held chip w s) where
   abbrev after : Chip
@@ -252,11 +234,8 @@ module _ (d : SpiTable) (fits : FitsSpi d) (held : Reservations) (chip : Chip) (
       by (inl there) uses = not_both (is_in_use d c s.pending) (any_in (λ p. list_any (uses_channel d c) (jobs_of d p.sequence)) s.pending g.pending there uses) neither.0
       by (inr (k, i)) uses = carried k (carried_at s k) refl i uses
 
-      equal : (a b : ℕ) → a ≡ b → (a == b) ≡ true
-      equal a b f = grind (arith, nat_tests)
-
       in_job : (k : ℕ) → k ≡ c → Contains (channels_of d (next_job d g.pending)) k → uses_channel d c (next_job d g.pending) ≡ true
-      in_job k f i = any_in (λ n. n == c) (channels_of d (next_job d g.pending)) k i (equal k c f)
+      in_job k f i = any_in (λ n. n == c) (channels_of d (next_job d g.pending)) k i (eq_from k c f)
 
       contained : Contains (channels_of d (next_job d g.pending)) x.channel
       contained = by_mode (is_off s.mode) refl
@@ -270,13 +249,8 @@ module _ (d : SpiTable) (fits : FitsSpi d) (held : Reservations) (chip : Chip) (
   right_filled (x ∷ xs) none r = (one x x.what none.0 r.0, right_filled xs none.1 r.1)
     where
       one : (x : ReservedBy Call Reservation) (y : Reservation) → Spared c y → HeldRight d s.mode s.channels x y → HeldRight d later.mode later.channels x y
-      one x (Debt u) ne r = r
-      one x (Cleared u) ne r = r
-      one x Handling ne r = r
       one x (Writing n p b i y) ne r = (r.0, subst (λ z. IsReady (to_write (channel_of d n) p z.source) i y) (sym (item-other untouched s.channels c n (filled ws (channel_of d c) (channel_at s c)) ne)) r.1, r.2, r.3)
-      one x (Reading n b) ne r = r
-      one x (Sending u q n at banks failed device) ne r = r
-      one x (Preparing stored readied y) ne r = r
+      one x _ ne r = r
 
   -- no frame takes its words from there
   puts_same : (hs : Reservations) → AllSpared c hs → (n : ℕ) (r : Bool) → put_held d (view later).sources n r hs ≡ put_held d (view s).sources n r hs
@@ -290,9 +264,8 @@ module _ (d : SpiTable) (fits : FitsSpi d) (held : Reservations) (chip : Chip) (
       one (Writing m p b i y) ne = by (not r) (m == n) refl
         where
           by : (a q : Bool) → (m == n) ≡ q → put_if (a && q) (record { bank = b; filled = take i (to_write (channel_of d n) p ((view later).sources n)) }) ≡ put_if (a && q) (record { bank = b; filled = take i (to_write (channel_of d n) p ((view s).sources n)) })
-          by true true e = let same : m ≡ n = equal m n e in ap (λ z. put_if true (record { bank = b; filled = take i (to_write (channel_of d n) p z.source) })) (item-other untouched s.channels c n (filled ws (channel_of d c) (channel_at s c)) (λ g. ne (same ∙ g)))
-          by true false e = refl
-          by false q e = refl
+          by true true e = let same : m ≡ n = eq_is m n e in ap (λ z. put_if true (record { bank = b; filled = take i (to_write (channel_of d n) p z.source) })) (item-other untouched s.channels c n (filled ws (channel_of d c) (channel_at s c)) (λ g. ne (same ∙ g)))
+          by _ _ e = refl
       one (Reading m b) ne = refl
       one (Sending u q m at banks failed device) ne = refl
       one (Preparing stored readied None) ne = refl

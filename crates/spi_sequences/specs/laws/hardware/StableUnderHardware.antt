@@ -221,24 +221,20 @@ fault_agrees d held chip w s u h = record {
 -- ---- what the hardware leaves of the state
 
 pub running_later : (d : SpiTable) (w : World) (s : SpiState) (order : Order) → is_running (moved d w s order) ≡ is_running s
-running_later d w s (Fill c ws) = refl
 running_later d w s (SpiFault u) = running_same w.now s u
-running_later d w s order = refl
+running_later d w s _ = refl
 
 pub runs_later : (d : SpiTable) (w : World) (s : SpiState) (order : Order) (u : ℕ) → is_some (run_at (moved d w s order) u) ≡ is_some (run_at s u)
-runs_later d w s (Fill c ws) u = refl
 runs_later d w s (SpiFault n) u = runs_alike w.now s n u
-runs_later d w s order u = refl
+runs_later d w s _ u = refl
 
 pub pending_later : (d : SpiTable) (w : World) (s : SpiState) (order : Order) → (moved d w s order).pending ≡ s.pending
 pending_later d w s (Fill c ws) = refl
-pending_later d w s (SpiFault u) = refl
-pending_later d w s order = refl
+pending_later d w s _ = refl
 
 pub begun_later : (d : SpiTable) (w : World) (s : SpiState) (order : Order) → (view (moved d w s order)).begun ≡ (view s).begun
-begun_later d w s (Fill c ws) = refl
 begun_later d w s (SpiFault u) = begun_same w.now s u
-begun_later d w s order = refl
+begun_later d w s _ = refl
 
 pub all_later : (d : SpiTable) (w : World) (s : SpiState) (order : Order) → all_of (view (moved d w s order)) ≡ all_of (view s)
 all_later d w s order =
@@ -247,5 +243,4 @@ all_later d w s order =
 
 pub mode_later : (d : SpiTable) (w : World) (s : SpiState) (order : Order) → (moved d w s order).mode ≡ s.mode
 mode_later d w s (Fill c ws) = refl
-mode_later d w s (SpiFault u) = refl
-mode_later d w s order = refl
+mode_later d w s _ = refl

@@ -2,7 +2,7 @@
 -- From services.InitSteps, services.ModuleSteps, services.QuerySteps, services.SetUpSteps, services.WriteSteps, services.ReadSteps,
 -- services.CancelSteps, services.UnitSteps.
 -- Used by spi_driver: bookkeeping.Lawful, spi_driver: services.UnitBegins, spi_sending: services.SendRight.
-use Rattle.std.specs.Prelude.{◌≡◌, ℕ, Bool, true, false, ◌&&◌, ◌==◌, if◌then◌else◌, Option, Some, None}
+use Rattle.std.specs.Prelude.{◌≡◌, ℕ, true, false, ◌&&◌, ◌==◌, if◌then◌else◌, Option, Some, None}
 use Rattle.std.proofs.Common.{refl, sym, ◌∙◌}
 use Rattle.mcal_base.specs.declared.moves.Move.{Move}
 use Rattle.mcal_base.specs.declared.moves.Move.TheVariants.{Load, Write}
@@ -132,11 +132,9 @@ keep_once (keeps.Drop x) = refl
 keep_once _ = refl
 
 pub asking_once : (x : Placed) (i : ℕ) → IsAtOnce (asking x i)
-asking_once x i = by (x.channel.internal && i == 0)
-  where
-    by : (q : Bool) → IsAtOnce (if q then Load (control_word x Received) else Load (held_word x))
-    by true = refl
-    by false = refl
+asking_once x i =
+    elim (x.channel.internal && i == 0) as (λ q. IsAtOnce (if q then Load (control_word x Received) else Load (held_word x)))
+    [ true ↦ refl | false ↦ refl ]
 
 -- ---- the services
 
@@ -153,11 +151,9 @@ pub init_once : (k : InitBody) → IsAtOnce (init_work k)
 init_once k = init_part k.table k.place
 
 lines_part : (w : Whole) → IsAtOnce (lines_move w)
-lines_part (Mode Interrupt n) = by (n == 0)
-  where
-    by : (q : Bool) → IsAtOnce (if q then Write EnableClear LINES else Write EnableSet n)
-    by true = refl
-    by false = refl
+lines_part (Mode Interrupt n) =
+    elim (n == 0) as (λ q. IsAtOnce (if q then Write EnableClear LINES else Write EnableSet n))
+    [ true ↦ refl | false ↦ refl ]
 lines_part _ = refl
 
 pub whole_once : (k : WholeBody) → IsAtOnce (whole_work k)

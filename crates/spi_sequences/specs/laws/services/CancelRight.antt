@@ -422,11 +422,7 @@ module _ (d : SpiTable) (fits : FitsSpi d) where
     where
       makes : (k : CancelBody) (x : PendingWrites) → cancel_owed_at k ≡ Some x → cancel_work k ≡ owed_move x
       makes (cancel.Drop r p) x e = ap owed_move (same_Some (Cancels (cancel.Drop r p)) x e)
-      makes (cancel.Result r) x e = absurd (cc)
-      makes (cancel.Running r) x e = absurd (cc)
-      makes (cancel.Marks r) x e = absurd (cc)
-      makes (cancel.Mark v) x e = absurd (cc)
-      makes (cancel.Store r) x e = absurd (cc)
+      makes _ x e = absurd (cc)
 
       goes_on : (r : Cancelled) (p : Dropped) (v : ℕ) (z : PendingWrites) (b : Bool) → unless_done (cancel_drops r p v b).1.done (cancel_owed_at (cancel_drops r p v b).0) ≡ Some z → GoesOwing (cancel_windows d) (Cancels (cancel.Drop r p)) z (cancel_drops r p v b)
       goes_on r p v z true i = absurd (cc)
@@ -434,11 +430,7 @@ module _ (d : SpiTable) (fits : FitsSpi d) where
 
       on : (k : CancelBody) (x z : PendingWrites) (v : ℕ) → cancel_owed_at k ≡ Some x → owed_left x v ≡ Some z → GoesOwing (cancel_windows d) x z (cancel_takes k v)
       on (cancel.Drop r p) x z v e i = subst (λ a. GoesOwing (cancel_windows d) a z (cancel_takes (cancel.Drop r p) v)) (same_Some (Cancels (cancel.Drop r p)) x e) (goes_on r p v z (has_ended (drop_gave p v)) (ap (λ a. owed_left a v) (same_Some (Cancels (cancel.Drop r p)) x e) ∙ i))
-      on (cancel.Result r) x z v e i = absurd (cc)
-      on (cancel.Running r) x z v e i = absurd (cc)
-      on (cancel.Marks r) x z v e i = absurd (cc)
-      on (cancel.Mark u) x z v e i = absurd (cc)
-      on (cancel.Store r) x z v e i = absurd (cc)
+      on _ x z v e i = absurd (cc)
 
       ends_now : (r : Cancelled) (p : Dropped) (v : ℕ) (b : Bool) → unless_done (cancel_drops r p v b).1.done (cancel_owed_at (cancel_drops r p v b).0) ≡ None → ((cancel_drops r p v b).1.event ≡ None) × GoesFree (cancel_windows d) (Some r) (cancel_drops r p v b).0 (cancel_drops r p v b).1.done
       ends_now r p v true i = (refl, tt)
@@ -446,11 +438,7 @@ module _ (d : SpiTable) (fits : FitsSpi d) where
 
       over : (k : CancelBody) (x : PendingWrites) (v : ℕ) → cancel_owed_at k ≡ Some x → owed_left x v ≡ None → ((cancel_takes k v).1.event ≡ None) × GoesFree (cancel_windows d) (cancel_about x) (cancel_takes k v).0 (cancel_takes k v).1.done
       over (cancel.Drop r p) x v e i = subst (λ a. ((cancel_takes (cancel.Drop r p) v).1.event ≡ None) × GoesFree (cancel_windows d) (cancel_about a) (cancel_takes (cancel.Drop r p) v).0 (cancel_takes (cancel.Drop r p) v).1.done) (same_Some (Cancels (cancel.Drop r p)) x e) (ends_now r p v (has_ended (drop_gave p v)) (ap (λ a. owed_left a v) (same_Some (Cancels (cancel.Drop r p)) x e) ∙ i))
-      over (cancel.Result r) x v e i = absurd (cc)
-      over (cancel.Running r) x v e i = absurd (cc)
-      over (cancel.Marks r) x v e i = absurd (cc)
-      over (cancel.Mark u) x v e i = absurd (cc)
-      over (cancel.Store r) x v e i = absurd (cc)
+      over _ x v e i = absurd (cc)
 
       noted : (r : Cancelled) (q : ℕ) → IsOf d r q → owing false (sequence_notice d q) ≡ owing false (notices_in (cancel_owed r))
       noted r q of = by r.notification (notifies_sequence (sequence_of d q)) of.notes
@@ -458,8 +446,7 @@ module _ (d : SpiTable) (fits : FitsSpi d) where
           by : (a b : Bool) → a ≡ b → owing false (if b then record { kind = SpiSeqEndNotification; id = q } ∷ [] else []) ≡ owing false (notices_in (if a then One (record { kind = SpiSeqEndNotification; id = r.sequence }) else Nothing))
           by true true e = ap (λ n. owing false (record { kind = SpiSeqEndNotification; id = n } ∷ [])) (sym of.sequence)
           by false false e = refl
-          by true false e = absurd (cc)
-          by false true e = absurd (cc)
+          by _ _ e = absurd (cc)
 
       stands_by : (r : Cancelled) (p : Dropped) (v : ℕ) (below : Reservations) (chip : Chip) (w : World) (s : SpiState) (o : Origin Call) (t : FrameHistory) (m : ℕ → Bool) (b : Bool) → unless_done (cancel_drops r p v b).1.done (cancel_owed_at (cancel_drops r p v b).0) ≡ None → CancelledBy d (Some r) o t → SpiRepresents d below chip w s
           → Continues (spi_basis d) (cancel_bodies d) below chip w s o t m (cancel_drops r p v b).0 (cancel_drops r p v b).1.done
@@ -476,11 +463,7 @@ module _ (d : SpiTable) (fits : FitsSpi d) where
       stands : (k : CancelBody) (x : PendingWrites) (v : ℕ) (below : Reservations) (chip : Chip) (w : World) (s : SpiState) (o : Origin Call) (t : FrameHistory) (m : ℕ → Bool) → cancel_owed_at k ≡ Some x → owed_left x v ≡ None → CancelledBy d (cancel_about x) o t → SpiRepresents d below chip w s
           → Continues (spi_basis d) (cancel_bodies d) below chip w s o t m (cancel_takes k v).0 (cancel_takes k v).1.done
       stands (cancel.Drop r p) x v below chip w s o t m e i place h = stands_by r p v below chip w s o t m (has_ended (drop_gave p v)) (ap (λ a. owed_left a v) (same_Some (Cancels (cancel.Drop r p)) x e) ∙ i) (subst (λ a. CancelledBy d (cancel_about a) o t) (sym (same_Some (Cancels (cancel.Drop r p)) x e)) place) h
-      stands (cancel.Result r) x v below chip w s o t m e i place h = absurd (cc)
-      stands (cancel.Running r) x v below chip w s o t m e i place h = absurd (cc)
-      stands (cancel.Marks r) x v below chip w s o t m e i place h = absurd (cc)
-      stands (cancel.Mark u) x v below chip w s o t m e i place h = absurd (cc)
-      stands (cancel.Store r) x v below chip w s o t m e i place h = absurd (cc)
+      stands _ x v below chip w s o t m e i place h = absurd (cc)
 
   cancel_own : (below : Reservations) (chip : Chip) (w : World) (s : SpiState) (k : CancelBody) (o : Origin Call) (t : FrameHistory) → cancel_owed_at k ≡ None → AssertedAt (spi_basis d) (cancel_bodies d) below chip w s k o t → is_shared (cancel_work k) || may d (cancel_work k) ≡ true
   cancel_own below chip w s (cancel.Result r) o t e (h, (q, (being, lt, clear, on), of)) = may_first d fits (sequence_word r.sequence) (omega arith) (let n = of.sequence in omega (arith, lt, n))
@@ -501,10 +484,9 @@ module _ (d : SpiTable) (fits : FitsSpi d) where
       by : (b : Bool) → TurnsTo (cancel_bodies d) 32 (cancel.Running r) (if b then cancel.Marks r else cancel.Store r, goes)
       by true = (refl, omega arith)
       by false = (refl, omega arith)
-  cancel_turns (cancel.Marks r) x e = (refl, omega arith)
   cancel_turns (cancel.Mark v) x e = omega arith
-  cancel_turns (cancel.Store r) x e = (refl, omega arith)
   cancel_turns (cancel.Drop r p) x e = absurd (cc)
+  cancel_turns _ x e = (refl, omega arith)
 
   cancel_short : (k : CancelBody) (x : ℕ) → cancel_owed_at k ≡ None → Shortens (cancel_bodies d).fuel k (cancel_takes k x)
   cancel_short (cancel.Result r) x e = by (x == PENDING)
@@ -517,10 +499,8 @@ module _ (d : SpiTable) (fits : FitsSpi d) where
       by : (b : Bool) → Shortens (cancel_bodies d).fuel (cancel.Running r) (if b then cancel.Marks r else cancel.Store r, goes)
       by true = omega arith
       by false = omega arith
-  cancel_short (cancel.Marks r) x e = omega arith
-  cancel_short (cancel.Mark v) x e = omega arith
-  cancel_short (cancel.Store r) x e = omega arith
   cancel_short (cancel.Drop r p) x e = absurd (cc)
+  cancel_short _ x e = omega arith
 
   place_later : (w : World) (s : SpiState) (order : Order) (q : ℕ) (o : Origin Call) (t : FrameHistory) → IsCancel d (is_off s.mode) q o t → IsCancel d (is_off (moved d w s order).mode) q o t
   place_later w s order q o t h = subst (λ mode. IsCancel d (is_off mode) q o t) (sym (mode_later d w s order)) h
@@ -551,12 +531,8 @@ module _ (d : SpiTable) (fits : FitsSpi d) where
   }
     where
       calm : (k : CancelBody) → cancel_owed_at k ≡ None → (resets_chip (cancel_work k) ≡ false) × (begins_word (cancel_work k) ≡ false)
-      calm (cancel.Result r) e = (refl, refl)
-      calm (cancel.Running r) e = (refl, refl)
-      calm (cancel.Marks r) e = (refl, refl)
-      calm (cancel.Mark v) e = (refl, refl)
-      calm (cancel.Store r) e = (refl, refl)
       calm (cancel.Drop r p) e = absurd (cc)
+      calm _ e = (refl, refl)
 
       cleans : (k : CancelBody) (x : ℕ) → cancel_owed_at k ≡ None → Cleans (cancel_bodies d).clean (cancel_work k) k (cancel_takes k x)
       cleans (cancel.Result r) x e = by (x == PENDING)
@@ -569,10 +545,9 @@ module _ (d : SpiTable) (fits : FitsSpi d) where
           by : (b : Bool) → Cleans (cancel_bodies d).clean (Load (running_word r.unit)) (cancel.Running r) (if b then cancel.Marks r else cancel.Store r, goes)
           by true = λ f. absurd (cc)
           by false = λ f. absurd (cc)
-      cleans (cancel.Marks r) x e = λ f. absurd (cc)
       cleans (cancel.Mark v) x e = tt
-      cleans (cancel.Store r) x e = λ f. absurd (cc)
       cleans (cancel.Drop r p) x e = absurd (cc)
+      cleans _ x e = λ f. absurd (cc)
 
   pub cancel_right : AreLong (spi_basis d) (cancel_bodies d)
   cancel_right = windows_right (spi_bare d) (spi_owing d) same_chip (owed_right d) (cancel_windows d) (λ k. None) cancel_wins cancel_free

@@ -4,9 +4,9 @@
 use Rattle.std.proofs.Common.{◌≡◌, ◌≢◌, ◌+◌, ◌<◌, ◌&&◌, [], ◌∷◌, ◌∙◌, if◌then◌else◌}
 use Rattle.spi_sequences.specs.Terms
 use Terms.{ap, arith, BanksAgree, Bool, Channel, channel_at, channel_of, ChannelState, Chip, chip_after, Contains}
-use Terms.{enumerate_from, false, first_items, FitsSpi, Going, HoldsArrays, initial, initialised, Interrupt}
+use Terms.{enumerate_from, false, first_items, FitsSpi, Going, HoldsArrays, initial, initialised}
 use Terms.{is_interrupt, is_off, is_sync_unit, IsSoundState, job_word, length, length_by, List, map, Mode, None, not}
-use Terms.{Off, Option, order_word, placed_of, Polling, PutRight, ranked_of, Received, refl, replicate, running_word}
+use Terms.{Off, Option, order_word, placed_of, PutRight, ranked_of, Received, refl, replicate, running_word}
 use Terms.{Sent, sequence_word, SequencesAgree, set_up_code, set_up_word, SetUpFits, Side, slice_index_or, Some}
 use Terms.{SpiRepresents, SpiState, SpiTable, stands-agree, stands-move, STATE, Store, stored_other, stored_same}
 use Terms.{subst, suc, sym, TakeRight, trio_of, true, untouched, view, word_at, word_of, World, zero, ℕ}
@@ -159,8 +159,7 @@ module _ (d : SpiTable) (fits : FitsSpi d) (st : List (ℕ × ℕ)) (rd : List (
 
   not_interrupt : (m : Mode) → is_off m ≡ true → is_interrupt m ≡ false
   not_interrupt Off e = refl
-  not_interrupt Polling e = absurd (cc)
-  not_interrupt Interrupt e = absurd (cc)
+  not_interrupt _ e = absurd (cc)
 
   -- the module is initialised
   pub renewed : SpiRepresents d [] last w later

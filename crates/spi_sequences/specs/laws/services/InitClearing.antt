@@ -60,11 +60,9 @@ AllCleared d st = (j n : ℕ) → Contains st (j, n) → IsCleared d j × (n ≡
 
 module _ (d : SpiTable) where
   pub more_cleared : (i : ℕ) (st : List (ℕ × ℕ)) → IsCleared d i → AllCleared d st → AllCleared d ((i, 0) ∷ st)
-  more_cleared i st is all j n there = by (in_cons (i, 0) st (j, n) there)
-    where
-      by : (◌≡◌ {A = ℕ × ℕ} (i, 0) (j, n)) ⊎ Contains st (j, n) → IsCleared d j × (n ≡ 0)
-      by (inl e) = (subst (IsCleared d) (ap (λ y. y.0) e) is, sym (ap (λ y. y.1) e))
-      by (inr rest) = all j n rest
+  more_cleared i st is all j n there =
+      elim (in_cons (i, 0) st (j, n) there)
+      [ inl e ↦ (subst (IsCleared d) (ap (λ y. y.0) e) is, sym (ap (λ y. y.1) e)) | inr rest ↦ all j n rest ]
 
   pub units_cleared : (u : ℕ) → u ≤ 2 → AllCleared d (units_below u)
   units_cleared zero le j n there = absurd (let lt = there.1 in omega (arith, lt))
@@ -142,11 +140,9 @@ in_sequences q (suc n) lt = by (λ less. in_sequences q n less) (same_or_other q
 
 module _ (d : SpiTable) where
   later_set_up : (y : ℕ × ℕ) (c : ℕ) → Contains (set_ups_below d c) y → Contains (set_ups_below d (suc c)) y
-  later_set_up y c is = by (channel_of d c)
-    where
-      by : (k : Option Channel) → Contains (with_set_up (set_up_word (placed_of d c)) k (set_ups_below d c)) y
-      by None = is
-      by (Some k) = in_later (set_up_word (placed_of d c), 0) _ _ is
+  later_set_up y c is =
+      elim (channel_of d c) as (λ k. Contains (with_set_up (set_up_word (placed_of d c)) k (set_ups_below d c)) y)
+      [ None ↦ is | Some k ↦ in_later (set_up_word (placed_of d c), 0) _ _ is ]
 
   from_sequences : (y : ℕ × ℕ) (c : ℕ) → Contains (sequences_below 8) y → Contains (set_ups_below d c) y
   from_sequences y zero is = is
@@ -161,11 +157,9 @@ module _ (d : SpiTable) where
       by rest (inr ne) = later_set_up (set_up_word (placed_of d c), 0) n (rest (omega (arith, lt, ne)))
 
   later_ready : (y : ℕ × Bool) (c : ℕ) → Contains (readied_below d c) y → Contains (readied_below d (suc c)) y
-  later_ready y c is = by (is_internal (channel_of d c))
-    where
-      by : (q : Bool) → Contains (if q then (c, true) ∷ (c, false) ∷ readied_below d c else readied_below d c) y
-      by true = in_later (c, true) ((c, false) ∷ readied_below d c) y (in_later (c, false) (readied_below d c) y is)
-      by false = is
+  later_ready y c is =
+      elim (is_internal (channel_of d c)) as (λ q. Contains (if q then (c, true) ∷ (c, false) ∷ readied_below d c else readied_below d c) y)
+      [ true ↦ in_later (c, true) ((c, false) ∷ readied_below d c) y (in_later (c, false) (readied_below d c) y is) | false ↦ is ]
 
   in_ready : (c n : ℕ) (k : Channel) → channel_of d c ≡ Some k → k.internal ≡ true → c < n → (side : Side) → Contains (readied_below d n) (c, is_in side)
   in_ready c zero k e i lt side = absurd (omega (arith, lt))

@@ -54,11 +54,9 @@ append_none (x ∷ xs) = ap (λ ys. x ∷ ys) (append_none xs)
 
 put_prep : (d : SpiTable) (sources : ℕ → List ℕ) (st : List (ℕ × ℕ)) (rd : List (ℕ × Bool)) (x : Option (ℕ × Bool × Putting)) (c : ℕ) (r : Bool) → put_held d sources c r (prep st rd x) ≡ put_at x c r
 put_prep d sources st rd None c r = refl
-put_prep d sources st rd (Some x) c r = by (x.0 == c && (if x.1 then r else not r))
-  where
-    by : (q : Bool) → or_rest (if q then Some x.2 else None) None ≡ (if q then Some x.2 else None)
-    by true = refl
-    by false = refl
+put_prep d sources st rd (Some x) c r =
+    elim (x.0 == c && (if x.1 then r else not r)) as (λ q. or_rest (if q then Some x.2 else None) None ≡ (if q then Some x.2 else None))
+    [ true ↦ refl | false ↦ refl ]
 
 readied_prep : (st : List (ℕ × ℕ)) (rd : List (ℕ × Bool)) (x : Option (ℕ × Bool × Putting)) → readied_in (prep st rd x) ≡ rd
 readied_prep st rd x = flat_map-cons (λ (h : ReservedBy Call Reservation). readied_by h.what) (record { by = Called Init; what = Preparing st rd x; acted = None }) [] ∙ append_none rd
@@ -214,10 +212,9 @@ module _ (d : SpiTable) (st : List (ℕ × ℕ)) (rd : List (ℕ × Bool)) (x : 
 -- ---- what is elsewhere
 
 pub same_side : (a b : Side) → (a ≡ b) ⊎ (is_in a ≡ not (is_in b))
-same_side Sent Sent = inl refl
 same_side Sent Received = inr refl
 same_side Received Sent = inr refl
-same_side Received Received = inl refl
+same_side _ _ = inl refl
 
 -- the put of a side is of no other one
 put_here : (c : ℕ) (side : Side) (p : Putting) → put_at (Some (c, is_in side, p)) c (is_in side) ≡ Some p
@@ -228,18 +225,13 @@ put_of_channel : (c n : ℕ) (r r1 : Bool) (p : Putting) → n ≢ c → put_at 
 put_of_channel c n r r1 p ne = ap (λ q. if q && (if r then r1 else not r1) then Some p else None) (other_number c n (λ e. ne (sym e)))
 
 put_of_side : (c n : ℕ) (side other : Side) (p : Putting) → is_in other ≡ not (is_in side) → put_at (Some (c, is_in side, p)) n (is_in other) ≡ None
-put_of_side c n Sent Sent p e = absurd (cc)
-put_of_side c n Sent Received p e = none (c == n)
-  where
-    none : (q : Bool) → (if q && false then Some p else None) ≡ None
-    none true = refl
-    none false = refl
-put_of_side c n Received Sent p e = none (c == n)
-  where
-    none : (q : Bool) → (if q && false then Some p else None) ≡ None
-    none true = refl
-    none false = refl
-put_of_side c n Received Received p e = absurd (cc)
+put_of_side c n Sent Received p e =
+    elim (c == n) as (λ q. (if q && false then Some p else None) ≡ None)
+    [ true ↦ refl | false ↦ refl ]
+put_of_side c n Received Sent p e =
+    elim (c == n) as (λ q. (if q && false then Some p else None) ≡ None)
+    [ true ↦ refl | false ↦ refl ]
+put_of_side c n _ _ p e = absurd (cc)
 
 module _ (d : SpiTable) (fits : FitsSpi d) (c : ℕ) (k : Channel) (known : channel_of d c ≡ Some k) (internal : k.internal ≡ true) (side : Side) where
   -- another side, or one of another channel
@@ -265,10 +257,9 @@ module _ (d : SpiTable) (fits : FitsSpi d) (c : ℕ) (k : Channel) (known : chan
       later rd (inr is) = is
 
       by : (side other : Side) → is_in other ≡ not (is_in side) → (j : ℕ) → trio.own_of (trio_of (placed_of d c) side) j ≡ true → trio.own_of (trio_of (placed_of d c) other) j ≡ false
-      by Sent Sent f j own = absurd (cc)
       by Sent Received f j own = sides_apart (placed_of d c) Received j own
       by Received Sent f j own = sides_apart (placed_of d c) Sent j own
-      by Received Received f j own = absurd (cc)
+      by _ _ f j own = absurd (cc)
   elsewhere_by n k1 other e i (inr ne) is = inr (record {
     put = λ p. put_of_channel c n (is_in side) (is_in other) p ne;
     readied = λ rd there. later rd (in_cons (c, is_in side) rd (n, is_in other) there);
@@ -352,11 +343,9 @@ module _ (d : SpiTable) (fits : FitsSpi d) (c : ℕ) (k : Channel) (known : chan
   fit = trio_fits d fits c k known internal side
 
   width : at.len ≡ k.length
-  width = by side
-    where
-      by : (side : Side) → (trio_of (placed_of d c) side).len ≡ k.length
-      by Sent = ap (λ x. x.length) (has_channel d fits c k known)
-      by Received = ap (λ x. x.length) (has_channel d fits c k known)
+  width =
+      elim side as (λ side. (trio_of (placed_of d c) side).len ≡ k.length)
+      [ Sent ↦ ap (λ x. x.length) (has_channel d fits c k known) | Received ↦ ap (λ x. x.length) (has_channel d fits c k known) ]
 
   -- of the side itself
   at_place : (m : Memory) (rd1 : List (ℕ × Bool)) (x1 : Option (ℕ × Bool × Putting)) (n : ℕ) (k1 : Channel) (other : Side) → channel_of d n ≡ Some k1 → n ≡ c → other ≡ side → SidePrepared d m rd1 x1 c k side → SidePrepared d m rd1 x1 n k1 other

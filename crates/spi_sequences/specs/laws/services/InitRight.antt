@@ -26,19 +26,9 @@ use Rattle.spi_sequences.specs.declared.service.init.InitPlace.TheVariants as in
 
 module _ (d : SpiTable) where
   known_frame : (below : Reservations) (chip : Chip) (w : World) (s : SpiState) (x : SpiTable) (p : InitPlace) (o : Origin Call) (t : FrameHistory) → place_at (init_spot_at d x p) below ((spi_basis d).foot chip) w s o t → IsInit d x below o t
-  known_frame below chip w s x init.Opens o t h = h.0
-  known_frame below chip w s x (init.Free u) o t h = h.0
-  known_frame below chip w s x (init.Empty u) o t h = h.0
-  known_frame below chip w s x (init.Job j) o t h = h.0
-  known_frame below chip w s x (init.Sequence q) o t h = h.0
-  known_frame below chip w s x (init.SetUp c) o t h = h.0
-  known_frame below chip w s x (init.Choose c side) o t h = h.0
-  known_frame below chip w s x (init.Fill c side b i) o t h = h.0
-  known_frame below chip w s x (init.Shut c side b) o t h = h.0
-  known_frame below chip w s x (init.Commit c side p) o t h = h.0
-  known_frame below chip w s x (init.Reopen c side) o t h = h.0
   known_frame below chip w s x init.Closes o t h = h
   known_frame below chip w s x init.Store o t h = h
+  known_frame below chip w s x _ o t h = h.0
 
   module _ (fits : FitsSpi d) where
     init_steps : (below : Reservations) (chip : Chip) (w : World) (s : SpiState) (k : InitBody) (o : Origin Call) (y : ℕ) (t : FrameHistory) (m : ℕ → Bool) → AssertedAt (spi_basis d) (init_bodies d) below chip w s k o t → Right (spi_basis d) (init_bodies d) below chip w s k o y t m
@@ -53,11 +43,9 @@ module _ (d : SpiTable) where
   -- ---- masks and windows
 
   after_channel_open : (x : SpiTable) (c : ℕ) → is_closed (init_spot_at d x (after_channel c)) ≡ false
-  after_channel_open x c = by (nat_lt c 15)
-    where
-      by : (q : Bool) → is_closed (init_spot_at d x (if q then init.SetUp (c + 1) else init.Closes)) ≡ false
-      by true = refl
-      by false = refl
+  after_channel_open x c =
+      elim (nat_lt c 15) as (λ q. is_closed (init_spot_at d x (if q then init.SetUp (c + 1) else init.Closes)) ≡ false)
+      [ true ↦ refl | false ↦ refl ]
 
   set_up_open : (x : SpiTable) (c : ℕ) → is_closed (init_spot_at d x (after_set_up x c)) ≡ false
   set_up_open x c = by (placed_of x c).channel.internal
@@ -78,36 +66,28 @@ module _ (d : SpiTable) where
   turns_at x (init.Free u) v = refl
   turns_at x (init.Empty zero) v = refl
   turns_at x (init.Empty (suc u)) v = refl
-  turns_at x (init.Job j) v = by (nat_lt j 15)
-    where
-      by : (q : Bool) → is_closed (init_spot_at d x (if q then init.Job (j + 1) else init.Sequence 0)) ≡ false
-      by true = refl
-      by false = refl
-  turns_at x (init.Sequence n) v = by (nat_lt n 7)
-    where
-      by : (q : Bool) → is_closed (init_spot_at d x (if q then init.Sequence (n + 1) else init.SetUp 0)) ≡ false
-      by true = refl
-      by false = refl
+  turns_at x (init.Job j) v =
+      elim (nat_lt j 15) as (λ q. is_closed (init_spot_at d x (if q then init.Job (j + 1) else init.Sequence 0)) ≡ false)
+      [ true ↦ refl | false ↦ refl ]
+  turns_at x (init.Sequence n) v =
+      elim (nat_lt n 7) as (λ q. is_closed (init_spot_at d x (if q then init.Sequence (n + 1) else init.SetUp 0)) ≡ false)
+      [ true ↦ refl | false ↦ refl ]
   turns_at x (init.SetUp c) v = by (channel_of x c)
     where
       by : (k : Option Channel) → TurnsMask 32 false (is_closed (init_spot_at d x (after_set_up x c))) 0 (init_room_at (after_set_up x c)) (set_up_move x c k) None None
       by None = set_up_open x c
       by (Some k) = set_up_open x c
   turns_at x (init.Choose c side) v = fill_open x c side (free_bank v) 0
-  turns_at x (init.Fill c side b i) v = by (nat_lt i 255)
-    where
-      by : (q : Bool) → is_closed (init_spot_at d x (if q then fill_from x c side b (i + 1) else init.Shut c side b)) ≡ false
-      by true = fill_open x c side b (i + 1)
-      by false = refl
+  turns_at x (init.Fill c side b i) v =
+      elim (nat_lt i 255) as (λ q. is_closed (init_spot_at d x (if q then fill_from x c side b (i + 1) else init.Shut c side b)) ≡ false)
+      [ true ↦ fill_open x c side b (i + 1) | false ↦ refl ]
   turns_at x (init.Shut c side b) v = (refl, refl, omega arith, refl, refl)
   turns_at x (init.Commit c side (puts.Commit j n)) v = (refl, omega arith)
-  turns_at x (init.Commit c side (puts.Tell j n)) v = (refl, omega arith)
-  turns_at x (init.Commit c side (puts.Choose j)) v = (refl, omega arith)
-  turns_at x (init.Commit c side (puts.Fill j n)) v = (refl, omega arith)
   turns_at x (init.Reopen c Sent) v = (refl, refl, refl, refl)
   turns_at x (init.Reopen c Received) v = (refl, after_channel_open x c, refl, refl)
   turns_at x init.Closes v = (refl, refl, omega arith, refl, refl)
   turns_at x init.Store v = omega arith
+  turns_at x _ v = (refl, omega arith)
 
   -- ---- the steps that are left
 
@@ -135,10 +115,7 @@ module _ (d : SpiTable) where
       by false e = shut
 
   shortens_at : (x : SpiTable) (p : InitPlace) (v : ℕ) → Shortens (init_bodies d).fuel (record { table = x; place = p }) (init_takes (record { table = x; place = p }) v)
-  shortens_at x init.Opens v = omega arith
-  shortens_at x (init.Free u) v = omega arith
   shortens_at x (init.Empty zero) v = omega arith
-  shortens_at x (init.Empty (suc u)) v = omega arith
   shortens_at x (init.Job j) v = by (nat_lt j 15) refl
     where
       by : (q : Bool) → nat_lt j 15 ≡ q → init_fuel_at x (if q then init.Job (j + 1) else init.Sequence 0) < 11 + (16 - j) + rest_after x 0 + channel_cost x 0
@@ -160,39 +137,21 @@ module _ (d : SpiTable) where
       by : (q : Bool) → init_fuel_at x (if q then fill_from x c side b (i + 1) else init.Shut c side b) < 5 + ((placed_of x c).channel.length - i) + rest_of x c side
       by true = fill_less x c side b (i + 1) (5 + ((placed_of x c).channel.length - i) + rest_of x c side) (omega arith) (λ lt. omega (arith, lt))
       by false = omega arith
-  shortens_at x (init.Shut c side b) v = omega arith
   shortens_at x (init.Commit c side p) v = by (has_ended (put_gave p v)) refl
     where
       by : (q : Bool) → has_ended (put_gave p v) ≡ q → init_fuel_at x (init_commits c side p v q) < 2 + put_more p + rest_of x c side
       by true e = omega arith
       by false e = let lt = put_less p v e in omega (arith, lt)
-  shortens_at x (init.Reopen c Sent) v = omega arith
   shortens_at x (init.Reopen c Received) v = let le = after_channel_less x c in omega (arith, le)
-  shortens_at x init.Closes v = omega arith
-  shortens_at x init.Store v = omega arith
+  shortens_at x _ v = omega arith
 
   -- a step without an event resets nothing
   calm_at : (x : SpiTable) (p : InitPlace) → (resets_chip (init_move x p) ≡ false) × (begins_word (init_move x p) ≡ false)
-  calm_at x init.Opens = (refl, refl)
-  calm_at x (init.Free u) = (refl, refl)
-  calm_at x (init.Empty u) = (refl, refl)
-  calm_at x (init.Job j) = (refl, refl)
-  calm_at x (init.Sequence n) = (refl, refl)
-  calm_at x (init.SetUp c) = by (channel_of x c)
-    where
-      by : (k : Option Channel) → (resets_chip (set_up_move x c k) ≡ false) × (begins_word (set_up_move x c k) ≡ false)
-      by None = (refl, refl)
-      by (Some k) = (refl, refl)
-  calm_at x (init.Choose c side) = (refl, refl)
-  calm_at x (init.Fill c side b i) = (refl, refl)
-  calm_at x (init.Shut c side b) = (refl, refl)
+  calm_at x (init.SetUp c) =
+      elim (channel_of x c) as (λ k. (resets_chip (set_up_move x c k) ≡ false) × (begins_word (set_up_move x c k) ≡ false))
+      [ None ↦ (refl, refl) | Some k ↦ (refl, refl) ]
   calm_at x (init.Commit c side (puts.Commit j n)) = (refl, refl)
-  calm_at x (init.Commit c side (puts.Tell j n)) = (refl, refl)
-  calm_at x (init.Commit c side (puts.Choose j)) = (refl, refl)
-  calm_at x (init.Commit c side (puts.Fill j n)) = (refl, refl)
-  calm_at x (init.Reopen c side) = (refl, refl)
-  calm_at x init.Closes = (refl, refl)
-  calm_at x init.Store = (refl, refl)
+  calm_at x _ = (refl, refl)
 
   -- ---- the moves, and what comes to pass meanwhile
 

@@ -34,6 +34,7 @@ use Rattle.spi_machine.specs.declared.call.AsyncMode.TheVariants as modes
 use Rattle.spi_machine.specs.declared.call.Call.TheVariants as calls
 use Rattle.spi_machine.specs.declared.call.Query.TheVariants as queries
 use Rattle.spi_sequences.specs.declared.service.whole.WholeBody.TheVariants as whole
+use Rattle.plain_facts.specs.Truths.{and_false, or_true}
 
 -- ---- a module in which a sequence is under way, and one in which none is
 
@@ -44,17 +45,13 @@ pending_some (x ∷ xs) p there = ap not (other_number (suc (length xs)) 0 (λ e
 busy_some : (s : SpiState) (p : Pending) → Contains (all_of (view s)) p → is_busy s ≡ true
 busy_some s p there = by (all_cases (view s) p there)
   where
-    either : (b : Bool) → b || true ≡ true
-    either true = refl
-    either false = refl
-
     some : (u : ℕ) (o : Option Carrying) → carried_at s u ≡ o → entry_carried o ≡ Some p → list_any is_some s.carried ≡ true
     some u None i e = absurd (cc)
     some u (Some x) i e = some_at is_some s.carried u refl (ap is_some i)
 
     by : Contains s.pending p ⊎ ((u : ℕ) × ((view s).begun u ≡ Some p)) → is_busy s ≡ true
     by (inl is) = ap (λ b. b || list_any is_some s.carried) (pending_some s.pending p is)
-    by (inr (u, e)) = ap (λ b. not (nat_eq (length s.pending) 0) || b) (some u (carried_at s u) refl e) ∙ either (not (nat_eq (length s.pending) 0))
+    by (inr (u, e)) = ap (λ b. not (nat_eq (length s.pending) 0) || b) (some u (carried_at s u) refl e) ∙ or_true (not (nat_eq (length s.pending) 0))
 
 none_pending : (v : View) → all_of v ≡ [] → v.pending ≡ []
 none_pending v none = by v.pending (λ p there. none_in p (subst (λ ps. Contains ps p) none (all_pending v p there)))
@@ -225,16 +222,11 @@ whole_bodies d = windows (whole_windows d)
 
 module _ (d : SpiTable) (fits : FitsSpi d) where
   alone_of : (x : Whole) (below : Reservations) → changes x → IsAbove x below → below ≡ []
-  alone_of DeInit below c a = a
-  alone_of (Modes m n) below c a = a
   alone_of Status below c a = absurd c
+  alone_of _ below c a = a
 
   cleared : (chip : Chip) (v u : ℕ) → u < 2 → has_bit (chip_after (chip_after chip (Store STATE v) 0) (Write EnableClear LINES) 0).control.enabled (26 + u) ≡ false
-  cleared chip v u lt = has_bit-without chip.control.enabled LINES (26 + u) (omega arith) (omega (arith, lt)) ∙ by_two (λ n. has_bit chip.control.enabled (26 + n) && not (has_bit LINES (26 + n)) ≡ false) (none (has_bit chip.control.enabled 26)) (none (has_bit chip.control.enabled 27)) u lt
-    where
-      none : (b : Bool) → b && false ≡ false
-      none true = refl
-      none false = refl
+  cleared chip v u lt = has_bit-without chip.control.enabled LINES (26 + u) (omega arith) (omega (arith, lt)) ∙ by_two (λ n. has_bit chip.control.enabled (26 + n) && not (has_bit LINES (26 + n)) ≡ false) (and_false (has_bit chip.control.enabled 26)) (and_false (has_bit chip.control.enabled 27)) u lt
 
   -- the lines that are enabled in interrupt mode are those of the units that handlers serve
   enabled : (chip : Chip) (v n u : ℕ) → has_bit (chip_after (chip_after chip (Store STATE v) 0) (Write EnableSet n) 0).control.enabled (26 + u) ≡ has_bit chip.control.enabled (26 + u) || has_bit n (26 + u)
@@ -305,9 +297,8 @@ module _ (d : SpiTable) (fits : FitsSpi d) where
         by (p ∷ ps) never = absurd (never p (0, omega arith, refl))
 
     all_seen : (x : Whole) (n value q : ℕ) → error_by d (call_by x) (is_off s.mode) false ≡ None → IsAbove x below → HasLines d x → all_of (view s) ≡ [] → LookMakes x n value (all_looked x q)
-    all_seen DeInit n value q clear above l none = (h, ((Is_this_frame, clear, on, above, l), tt, none))
-    all_seen (Modes a z) n value q clear above l none = (h, ((Is_this_frame, clear, on, above, l), tt, none))
     all_seen Status n value q clear above l none = answers_now d (whole_bodies d) below chip w s queries.Status n value y m false (whole.Look Status q) SpiIdle clear (sym (ap (λ b. status_by b (is_busy s)) on ∙ ap (λ b. status_by false b) (busy_none d s h.sound none))) h
+    all_seen _ n value q clear above l none = (h, ((Is_this_frame, clear, on, above, l), tt, none))
 
     looks : (x : Whole) (n value q : ℕ) → error_by d (call_by x) (is_off s.mode) false ≡ None → IsAbove x below → HasLines d x → q < 8 → NoneBefore (all_of (view s)) q → (b : Bool) → is_pending q (all_of (view s)) ≡ b → LookMakes x n value (looked_at x q b)
     looks x n value q clear above l lt none true e = let p = entry_of d fits below chip w s h (all_of (view s)) q e in busy x n value q clear (busy_some s p.0 p.1)
@@ -349,27 +340,23 @@ module _ (d : SpiTable) (fits : FitsSpi d) where
   }
     where
       makes : (k : WholeBody) (x : PendingWrites) → whole_owed k ≡ Some x → whole_work k ≡ owed_move x
-      makes (whole.Look z q) x e = absurd (cc)
-      makes (whole.Store z) x e = absurd (cc)
       makes (whole.Lines z) x e = ap owed_move (same_Some (Wholes (whole.Lines z)) x e)
+      makes _ x e = absurd (cc)
 
       none_left : (k : WholeBody) (x z : PendingWrites) (v : ℕ) → whole_owed k ≡ Some x → owed_left x v ≡ Some z → ⊥
-      none_left (whole.Look y q) x z v e i = cc
-      none_left (whole.Store y) x z v e i = cc
       none_left (whole.Lines y) x z v e i = let f = ap (λ a. owed_left a v) (same_Some (Wholes (whole.Lines y)) x e) ∙ i in cc
+      none_left _ x z v e i = cc
 
       over : (k : WholeBody) (x : PendingWrites) (v : ℕ) → whole_owed k ≡ Some x → owed_left x v ≡ None → ((whole_takes k v).1.event ≡ None) × GoesFree (whole_windows d) (whole_about x) (whole_takes k v).0 (whole_takes k v).1.done
-      over (whole.Look y q) x v e i = absurd (cc)
-      over (whole.Store y) x v e i = absurd (cc)
       over (whole.Lines y) x v e i = (refl, tt)
+      over _ x v e i = absurd (cc)
 
       ended_well : (below : Reservations) (chip : Chip) (w : World) (s : SpiState) (y : Whole) (v : ℕ) (o : Origin Call) (t : FrameHistory) (m : ℕ → Bool) → ChangedBy (Some y) o t → SpiRepresents d below chip w s → Continues (spi_basis d) (whole_bodies d) below chip w s o t m (whole_takes (whole.Lines y) v).0 (whole_takes (whole.Lines y) v).1.done
       ended_well below chip w s y v o t m (Is_this_frame, c) h = (h, record { may = (refl, refl); served = false; owed = refl; shown = λ e. absurd (cc); report = refl })
 
       stands : (k : WholeBody) (x : PendingWrites) (v : ℕ) (below : Reservations) (chip : Chip) (w : World) (s : SpiState) (o : Origin Call) (t : FrameHistory) (m : ℕ → Bool) → whole_owed k ≡ Some x → ChangedBy (whole_about x) o t → SpiRepresents d below chip w s → Continues (spi_basis d) (whole_bodies d) below chip w s o t m (whole_takes k v).0 (whole_takes k v).1.done
-      stands (whole.Look y q) x v below chip w s o t m e p h = absurd (cc)
-      stands (whole.Store y) x v below chip w s o t m e p h = absurd (cc)
       stands (whole.Lines y) x v below chip w s o t m e p h = ended_well below chip w s y v o t m (subst (λ a. ChangedBy (whole_about a) o t) (sym (same_Some (Wholes (whole.Lines y)) x e)) p) h
+      stands _ x v below chip w s o t m e p h = absurd (cc)
 
   whole_own : (below : Reservations) (chip : Chip) (w : World) (s : SpiState) (k : WholeBody) (o : Origin Call) (t : FrameHistory) → whole_owed k ≡ None → AssertedAt (spi_basis d) (whole_bodies d) below chip w s k o t → is_shared (whole_work k) || may d (whole_work k) ≡ true
   whole_own below chip w s (whole.Look x q) o t e (h, (asks, lt, none)) = may_first d fits (sequence_word q) (omega arith) (omega (arith, lt))
@@ -380,14 +367,11 @@ module _ (d : SpiTable) (fits : FitsSpi d) where
   looked_turns x q true = omega arith
   looked_turns x q false = by (nat_lt q 7) refl
     where
-      last : (x : Whole) → TurnsTo (whole_bodies d) 32 (whole.Look x q) (all_looked x q)
-      last DeInit = (refl, omega arith)
-      last (Modes m n) = (refl, omega arith)
-      last Status = omega arith
-
       by : (b : Bool) → nat_lt q 7 ≡ b → TurnsTo (whole_bodies d) 32 (whole.Look x q) (if b then (whole.Look x (q + 1), goes) else all_looked x q)
       by true e = let lt : q < 7 = is_below q 7 e in (refl, omega (arith, lt))
-      by false e = last x
+      by false e =
+          elim x as (λ x. TurnsTo (whole_bodies d) 32 (whole.Look x q) (all_looked x q))
+          [ Status ↦ omega arith | _ ↦ (refl, omega arith) ]
 
   whole_free : AreFree (spi_basis d) (whole_bodies d) whole_owed (λ k. None)
   whole_free = record {
@@ -412,14 +396,11 @@ module _ (d : SpiTable) (fits : FitsSpi d) where
           looked_short x q true = omega arith
           looked_short x q false = by (nat_lt q 7) refl
             where
-              last : (x : Whole) → Shortens (whole_bodies d).fuel (whole.Look x q) (all_looked x q)
-              last DeInit = omega arith
-              last (Modes m n) = omega arith
-              last Status = omega arith
-
               by : (b : Bool) → nat_lt q 7 ≡ b → Shortens (whole_bodies d).fuel (whole.Look x q) (if b then (whole.Look x (q + 1), goes) else all_looked x q)
               by true e = let lt : q < 7 = is_below q 7 e in omega (arith, lt)
-              by false e = last x
+              by false e =
+                  elim x as (λ x. Shortens (whole_bodies d).fuel (whole.Look x q) (all_looked x q))
+                  [ DeInit ↦ omega arith | _ ↦ omega arith ]
       shortens (whole.Store x) v e = omega arith
       shortens (whole.Lines x) v e = absurd (cc)
 
@@ -432,9 +413,8 @@ module _ (d : SpiTable) (fits : FitsSpi d) where
       later below chip w s order (whole.Lines x) o t e h = absurd (cc)
 
       calm : (k : WholeBody) → whole_owed k ≡ None → (resets_chip (whole_work k) ≡ false) × (begins_word (whole_work k) ≡ false)
-      calm (whole.Look x q) e = (refl, refl)
-      calm (whole.Store x) e = (refl, refl)
       calm (whole.Lines x) e = absurd (cc)
+      calm _ e = (refl, refl)
 
       cleans : (k : WholeBody) (x : ℕ) → whole_owed k ≡ None → Cleans (whole_bodies d).clean (whole_work k) k (whole_takes k x)
       cleans (whole.Look x q) v e = looked_clean x q (v == PENDING)
@@ -443,14 +423,11 @@ module _ (d : SpiTable) (fits : FitsSpi d) where
           looked_clean x q true = tt
           looked_clean x q false = by (nat_lt q 7)
             where
-              last : (x : Whole) → Cleans (whole_bodies d).clean (Load (sequence_word q)) (whole.Look x q) (all_looked x q)
-              last DeInit = λ f. absurd (cc)
-              last (Modes m n) = λ f. absurd (cc)
-              last Status = tt
-
               by : (b : Bool) → Cleans (whole_bodies d).clean (Load (sequence_word q)) (whole.Look x q) (if b then (whole.Look x (q + 1), goes) else all_looked x q)
               by true = λ f. absurd (cc)
-              by false = last x
+              by false =
+                  elim x as (λ x. Cleans (whole_bodies d).clean (Load (sequence_word q)) (whole.Look x q) (all_looked x q))
+                  [ Status ↦ tt | _ ↦ (λ f. absurd (cc)) ]
       cleans (whole.Store x) v e = λ f. absurd (cc)
       cleans (whole.Lines x) v e = absurd (cc)
 

@@ -374,12 +374,10 @@ job_less r (place.Look q) x = by (x == PENDING)
     after true e = let lt : q < 7 = is_below q 7 e in omega (arith, lt)
     after false e = omega arith
 
-    places : (o : Option ℕ) → job_fuel (by_place q o) < 3 + (8 - q)
-    places None = after (nat_lt q 7) refl
-    places (Some i) = omega arith
-
     by : (b : Bool) → job_fuel (job_looked r q b) < 3 + (8 - q)
-    by true = places (place_in (jobs_list r.table q) r.job)
+    by true =
+        elim (place_in (jobs_list r.table q) r.job) as (λ o. job_fuel (by_place q o) < 3 + (8 - q))
+        [ None ↦ after (nat_lt q 7) refl | Some i ↦ omega arith ]
     by false = after (nat_lt q 7) refl
 job_less r (place.Next q i) x = by (nat_le (next_in x q) i)
   where
@@ -390,8 +388,7 @@ job_less r place.Result x = omega arith
 
 query_less : (k : QueryBody) (x : ℕ) → Shortens query_fuel k (query_takes k x)
 query_less (query.Job r) x = job_less r r.place x
-query_less (query.Sequence q) x = omega arith
-query_less (query.Unit u) x = omega arith
+query_less _ x = omega arith
 
 -- so it is in a window
 in_window : (bound room later n : ℕ) (o : Option AnswerName) → ShortensTo room later (answers_by o).done → TurnsMask bound true true room later (Load n) (answers_by o).event (answers_by o).done
@@ -407,17 +404,12 @@ job_window bound room later r place.Result o h = in_window bound room later (job
 module _ (d : SpiTable) (fits : FitsSpi d) where
   query_turns : (k : QueryBody) (x : ℕ) → TurnsTo (query_bodies d) 32 k (query_takes k x)
   query_turns (query.Job r) x = job_window 32 (job_fuel r.place) (job_fuel (job_took r r.place x).0) r r.place (job_took r r.place x).1 (job_less r r.place x)
-  query_turns (query.Sequence q) x = omega arith
-  query_turns (query.Unit u) x = omega arith
+  query_turns _ x = omega arith
 
   query_calm : (k : QueryBody) → (resets_chip (query_work k) ≡ false) × (begins_word (query_work k) ≡ false)
-  query_calm (query.Job r) = by r.place
-    where
-      by : (p : JobPlace) → (resets_chip (job_move r p) ≡ false) × (begins_word (job_move r p) ≡ false)
-      by place.Running = (refl, refl)
-      by (place.Look q) = (refl, refl)
-      by (place.Next q i) = (refl, refl)
-      by place.Result = (refl, refl)
+  query_calm (query.Job r) =
+      elim r.place as (λ p. (resets_chip (job_move r p) ≡ false) × (begins_word (job_move r p) ≡ false))
+      [ place.Running ↦ (refl, refl) | _ ↦ (refl, refl) ]
   query_calm (query.Sequence q) = (refl, refl)
   query_calm (query.Unit u) = (refl, refl)
 

@@ -389,8 +389,7 @@ further_less r ws n many more = by (nat_lt (length ws) 64) (nat_lt (length ws) r
   where
     by : (a b : Bool) → nat_lt (length ws) r.placed.channel.length ≡ b → read_fuel_at (record r { words = ws; place = if a && b then read.Load else read.Shut }) (if a && b then read.Load else read.Shut) < n
     by true true e = more e
-    by true false e = omega (arith, many)
-    by false b e = omega (arith, many)
+    by _ _ e = omega (arith, many)
 
 read_less : (r : ReadBody) (p : ReadPlace) (x : ℕ) → ShortensTo (read_fuel_at r p) (read_fuel_at (read_took r p x).0 (read_took r p x).0.place) (read_took r p x).1.done
 read_less r (read.Pin p) x = by (has_ended (take_gave p x)) refl
@@ -407,14 +406,12 @@ read_less r read.Load x = by (nat_lt (length r.words) 64) refl
       where
         none : read_fuel_at (record r { words = r.words; place = read_further r.placed r.words }) (read_further r.placed r.words) < 8 + (r.placed.channel.length - length r.words)
         none = subst (λ b. read_fuel_at (record r { words = r.words; place = if b && nat_lt (length r.words) r.placed.channel.length then read.Load else read.Shut }) (if b && nat_lt (length r.words) r.placed.channel.length then read.Load else read.Shut) < 8 + (r.placed.channel.length - length r.words)) (sym e) (omega arith)
-read_less r read.Shut x = omega arith
 read_less r (read.Release p) x = by (has_ended (take_gave p x)) refl
   where
     by : (q : Bool) → has_ended (take_gave p x) ≡ q → let z = read_releases r p x q in ShortensTo (4 + take_more p) (read_fuel_at z.0 z.0.place) z.1.done
     by true e = omega arith
     by false e = let lt = take_less p x e in omega (arith, lt)
-read_less r read.Leave x = omega arith
-read_less r read.Over x = omega arith
+read_less r _ x = omega arith
 
 module _ (d : SpiTable) where
   -- the place after a word is with the mask open
@@ -439,19 +436,14 @@ module _ (d : SpiTable) where
   read_turns : (below : Reservations) (w : World) (s : SpiState) (f : (spi_basis d).Footprint) (o : Origin Call) (t : FrameHistory) (r : ReadBody) (p : ReadPlace) (x : ℕ) → place_at (read_spot_at d r p) below f w s o t → TurnsAt r p x
   read_turns below w s f o t r (read.Pin (takes.Pin c)) x h = pins_turn r (takes.Pin c) x false refl
   read_turns below w s f o t r (read.Pin (takes.Hold c v b)) x h = pins_turn r (takes.Hold c v b) x true refl
-  read_turns below w s f o t r (read.Pin (takes.Word j)) x h = absurd h.1
-  read_turns below w s f o t r (read.Pin (takes.Release j)) x h = absurd h.1
-  read_turns below w s f o t r (read.Pin (takes.Free j v)) x h = absurd h.1
   read_turns below w s f o t r read.Opens x h = (refl, further_open (read_at r (read_further r.placed r.words)) r.placed r.words, refl, refl)
   read_turns below w s f o t r read.Load x h = further_open (record r { words = read_word r.words x; place = read_further r.placed (read_word r.words x) }) r.placed (read_word r.words x)
   read_turns below w s f o t r read.Shut x h = (refl, refl, omega arith, refl, refl)
   read_turns below w s f o t r (read.Release (takes.Release c)) x h = releases_turn r (takes.Release c) x false refl
   read_turns below w s f o t r (read.Release (takes.Free c v)) x h = releases_turn r (takes.Free c v) x true refl
-  read_turns below w s f o t r (read.Release (takes.Pin j)) x h = absurd h.1
-  read_turns below w s f o t r (read.Release (takes.Hold c v b)) x h = absurd h.1
-  read_turns below w s f o t r (read.Release (takes.Word j)) x h = absurd h.1
   read_turns below w s f o t r read.Leave x h = (refl, refl, refl, refl)
   read_turns below w s f o t r read.Over x h = absurd h
+  read_turns below w s f o t r _ x h = absurd h.1
 
   module _ (fits : FitsSpi d) where
     may_own : (k : ℕ) → is_own_word d k ≡ true → may d (Load k) ≡ true
@@ -508,20 +500,8 @@ module _ (d : SpiTable) where
 
     read_calm : (r : ReadBody) (p : ReadPlace) → (resets_chip (read_move r p) ≡ false) × (begins_word (read_move r p) ≡ false)
     read_calm r (read.Pin (takes.Pin j)) = (refl, refl)
-    read_calm r (read.Pin (takes.Hold j v b)) = (refl, refl)
-    read_calm r (read.Pin (takes.Word j)) = (refl, refl)
-    read_calm r (read.Pin (takes.Release j)) = (refl, refl)
-    read_calm r (read.Pin (takes.Free j v)) = (refl, refl)
     read_calm r (read.Release (takes.Pin j)) = (refl, refl)
-    read_calm r (read.Release (takes.Hold j v b)) = (refl, refl)
-    read_calm r (read.Release (takes.Word j)) = (refl, refl)
-    read_calm r (read.Release (takes.Release j)) = (refl, refl)
-    read_calm r (read.Release (takes.Free j v)) = (refl, refl)
-    read_calm r read.Opens = (refl, refl)
-    read_calm r read.Load = (refl, refl)
-    read_calm r read.Shut = (refl, refl)
-    read_calm r read.Leave = (refl, refl)
-    read_calm r read.Over = (refl, refl)
+    read_calm r _ = (refl, refl)
 
     -- no place of a read looks for a line
     looks_not : (r : ReadBody) (p : ReadPlace) (ready : ℕ → Bool) (t : FrameHistory) (Then : FrameHistory → Type 0) → Then t → Adding (read_spot_at d r p) ready t Then
@@ -550,12 +530,7 @@ module _ (d : SpiTable) where
       where
         words_by : (r : ReadBody) (p : ReadPlace) (below : Reservations) (chip : Chip) (w : World) (s : SpiState) (held : Reservations) → agrees_after (spi_bare d) (spi_owing d) held (gap_at (read_spot_at d r p)) chip w s → length chip.words ≡ WORDS
         words_by r (read.Pin p) below chip w s held h = h.outside.all.words
-        words_by r read.Opens below chip w s held h = h.outside.all.words
-        words_by r read.Load below chip w s held h = h.outside.all.words
-        words_by r read.Shut below chip w s held h = h.outside.all.words
-        words_by r (read.Release p) below chip w s held h = h.outside.all.words
-        words_by r read.Leave below chip w s held h = h.outside.all.words
-        words_by r read.Over below chip w s held h = h.outside.all.words
+        words_by r _ below chip w s held h = h.outside.all.words
 
         words_there : (r : ReadBody) (below : Reservations) (chip : Chip) (w : World) (s : SpiState) (o : Origin Call) (t : FrameHistory) → AssertedAt (spi_basis d) (read_bodies d) below chip w s r o t → length chip.words ≡ WORDS
         words_there r below chip w s o t h = words_by r r.place below chip w s _ h.0

@@ -4,17 +4,17 @@
 use Rattle.std.proofs.Common.{◌≡◌, ◌≢◌, ◌+◌, ◌<◌, ◌≤◌, ◌&&◌, ◌||◌, [], ◌∷◌, ◌∙◌, ◌⊎◌, ◌++◌}
 use Rattle.spi_sequences.specs.Terms
 use Terms.{acts_by, AllRight, answers, ap, AreCarried, AreLong, arith, AssertedAt, begins_word, Bool, Call, Called}
-use Terms.{Channel, channel-seen, channel_at, channel_of, ChannelFits, ChannelState, Chip, chip_after, Cleared}
-use Terms.{Contains, Debt, EOk, error_by, false, FitsSpi, flat_map-cons, FrameHistory, fresh_history, Going, Handling}
+use Terms.{Channel, channel-seen, channel_at, channel_of, ChannelFits, ChannelState, Chip, chip_after}
+use Terms.{Contains, EOk, error_by, false, FitsSpi, flat_map-cons, FrameHistory, fresh_history, Going}
 use Terms.{happened, held_word, HeldRight, HoldsArrays, inl, inr, is_off, is_own_word, is_shared, Is_this_frame}
 use Terms.{is_users, is_word_of, IsSoundState, IsThisFrame, item-other, item-same, length, length_by, List, Load}
 use Terms.{LongBodies, may, Mode, moved, named, nat_lt, nat_tests, never_clean, None, Order, Origin, packed, Part}
-use Terms.{place_at, place_of, Placed, placed_of, PointAssertion, Pointer, Preparing, Reading, refl, Reservation}
-use Terms.{Reservations, ReservedBy, resets_chip, Right, RunsNext, same_or_other, Sending, set_up_code, set_up_word}
+use Terms.{place_at, place_of, Placed, placed_of, PointAssertion, Pointer, Preparing, refl, Reservation}
+use Terms.{Reservations, ReservedBy, resets_chip, Right, RunsNext, same_or_other, set_up_code, set_up_word}
 use Terms.{SetUpBody, SetupEb, SetUpFits, slice_get, Some, Source, source_word, spi_basis, SpiRepresents, SpiState}
 use Terms.{SpiTable, stands-move, STATE, Store, stored_by, stored_in, stored_other, stored_same, subst, sym, true}
 use Terms.{TurnsTo, Under, untouched, view, with_channel, Within, word_at, word_of, WORDS, WordsAgree, World}
-use Terms.{world_after, Writing, ℕ}
+use Terms.{world_after, ℕ}
 use Rattle.spi_sequences.specs.laws.bookkeeping.RefinementRight.{frame_may}
 use Rattle.spi_jobs.specs.declared.set_up.SetUp.{SetUp}
 use Rattle.spi_sequences.specs.laws.{words.SameWords.{sequences_alike, run_alike, banks_alike}}
@@ -34,13 +34,8 @@ none_stored d mode cs [] on r = refl
 none_stored d mode cs (x ∷ xs) on r = flat_map-cons (λ h. stored_by h.what) x xs ∙ ap (λ ys. ys ++ stored_in xs) (one x x.what r.0) ∙ none_stored d mode cs xs on r.1
   where
     one : (x : ReservedBy Call Reservation) (y : Reservation) → HeldRight d mode cs x y → stored_by y ≡ []
-    one x (Debt u) r = refl
-    one x (Cleared u) r = refl
-    one x Handling r = refl
-    one x (Writing n p b i y) r = refl
-    one x (Reading n b) r = refl
-    one x (Sending u q n at banks failed device) r = refl
     one x (Preparing ws rs y) r = absurd (let f = sym on ∙ r.1 in cc)
+    one x _ r = refl
 
 -- the state with a set-up of a channel
 abbrev pub with_set_up : SpiState → ℕ → channels.SetUp → SpiState

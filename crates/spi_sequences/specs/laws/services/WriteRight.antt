@@ -36,16 +36,14 @@ use Rattle.spi_sequences.specs.declared.service.write.WriteBody.TheVariants as w
 
 pub first-at : (n : ℕ) (xs : List ℕ) (i : ℕ) → i < n → slice_index_or (first_items 0 n xs) i 0 ≡ slice_index_or xs i 0
 first-at zero xs i lt = absurd (omega (arith, lt))
-first-at (suc n) [] zero lt = refl
 first-at (suc n) [] (suc i) lt = first-at n [] i (omega (arith, lt))
-first-at (suc n) (x ∷ xs) zero lt = refl
 first-at (suc n) (x ∷ xs) (suc i) lt = first-at n xs i (omega (arith, lt))
+first-at _ _ _ lt = refl
 
 first-all : (n : ℕ) (xs : List ℕ) → length xs ≡ n → first_items 0 n xs ≡ xs
 first-all zero [] e = refl
-first-all zero (x ∷ xs) e = absurd (omega (arith, e))
-first-all (suc n) [] e = absurd (omega (arith, e))
 first-all (suc n) (x ∷ xs) e = ap (λ ys. x ∷ ys) (first-all n xs (omega (arith, e)))
+first-all _ _ e = absurd (omega (arith, e))
 
 from_length : (p : Pointer) (k : Channel) (x : ChannelState) → length (words_from p k.length k x) ≡ k.length
 from_length Users k x = length-first k.length x.source
@@ -441,10 +439,8 @@ module _ (d : SpiTable) (fits : FitsSpi d) where
 -- ---- the bodies
 
 pub put_less : (p : Put) (v : ℕ) → has_ended (put_gave p v) ≡ false → put_more (put_left p v) < put_more p
-put_less (puts.Choose c) v e = absurd (cc)
-put_less (puts.Fill k x) v e = absurd (cc)
 put_less (puts.Commit c b) v e = omega arith
-put_less (puts.Tell c x) v e = absurd (cc)
+put_less _ v e = absurd (cc)
 
 from_less : (r : Written) (b n m : ℕ) → 3 < m → (n < r.placed.channel.length → 5 + 2 * (r.placed.channel.length - n) < m) → write_fuel (write_from r b n) < m
 from_less r b n m many more = by (nat_lt n r.placed.channel.length) refl
@@ -458,20 +454,16 @@ from_less r b n m many more = by (nat_lt n r.placed.channel.length) refl
     by false e = omega (arith, many)
 
 write_less : (k : WriteBody) (x : ℕ) → Shortens write_fuel k (write_takes k x)
-write_less (write.Choose r) x = omega arith
 write_less (write.Opens r b) x = from_less r b 0 (6 + 2 * r.placed.channel.length) (omega arith) (λ lt. omega arith)
-write_less (write.Load r b n) x = omega arith
-write_less (write.Fill r b n v) x = by (nat_lt n 255)
-  where
-    by : (q : Bool) → write_fuel (if q then write_from r b (n + 1) else write.Shut r b) < 4 + 2 * (r.placed.channel.length - n)
-    by true = from_less r b (n + 1) (4 + 2 * (r.placed.channel.length - n)) (omega arith) (λ lt. omega (arith, lt))
-    by false = omega arith
-write_less (write.Shut r b) x = omega arith
+write_less (write.Fill r b n v) x =
+    elim (nat_lt n 255) as (λ q. write_fuel (if q then write_from r b (n + 1) else write.Shut r b) < 4 + 2 * (r.placed.channel.length - n))
+    [ true ↦ from_less r b (n + 1) (4 + 2 * (r.placed.channel.length - n)) (omega arith) (λ lt. omega (arith, lt)) | false ↦ omega arith ]
 write_less (write.Commit r b p) x = by (has_ended (put_gave p x)) refl
   where
     by : (q : Bool) → has_ended (put_gave p x) ≡ q → Shortens write_fuel (write.Commit r b p) (write_commits r b p x q)
     by true e = omega arith
     by false e = let lt = put_less p x e in omega (arith, lt)
+write_less _ x = omega arith
 
 module _ (d : SpiTable) where
   from_open : (r : Written) (b n : ℕ) → is_closed (write_spot d (write_from r b n)) ≡ false
@@ -479,23 +471,18 @@ module _ (d : SpiTable) where
     where
       by : (q : Bool) (p : Pointer) → is_closed (write_spot d (if q then word_by p r b n else write.Shut r b)) ≡ false
       by true Users = refl
-      by true Null = refl
-      by false p = refl
+      by _ _ = refl
 
   write_turns : (k : WriteBody) (x : ℕ) → TurnsTo (write_bodies d) 32 k (write_takes k x)
   write_turns (write.Choose r) x = (refl, omega arith)
   write_turns (write.Opens r b) x = (refl, from_open r b 0, refl, refl)
   write_turns (write.Load r b n) x = refl
-  write_turns (write.Fill r b n v) x = by (nat_lt n 255)
-    where
-      by : (q : Bool) → is_closed (write_spot d (if q then write_from r b (n + 1) else write.Shut r b)) ≡ false
-      by true = from_open r b (n + 1)
-      by false = refl
+  write_turns (write.Fill r b n v) x =
+      elim (nat_lt n 255) as (λ q. is_closed (write_spot d (if q then write_from r b (n + 1) else write.Shut r b)) ≡ false)
+      [ true ↦ from_open r b (n + 1) | false ↦ refl ]
   write_turns (write.Shut r b) x = (refl, refl, omega arith, refl, refl)
   write_turns (write.Commit r b (puts.Commit c n)) x = (refl, omega arith)
-  write_turns (write.Commit r b (puts.Tell c v)) x = omega arith
-  write_turns (write.Commit r b (puts.Choose c)) x = omega arith
-  write_turns (write.Commit r b (puts.Fill c v)) x = omega arith
+  write_turns _ x = omega arith
 
   module _ (fits : FitsSpi d) where
     own_control_of : (below : Reservations) (r : Written) (c : ℕ) (k : Channel) → IsWriter d r below c k → is_own_word d (control_word r.placed Sent) ≡ true
@@ -539,12 +526,5 @@ module _ (d : SpiTable) where
     }
       where
         calm : (k : WriteBody) → (resets_chip (write_work k) ≡ false) × (begins_word (write_work k) ≡ false)
-        calm (write.Choose r) = (refl, refl)
-        calm (write.Opens r b) = (refl, refl)
-        calm (write.Load r b n) = (refl, refl)
-        calm (write.Fill r b n v) = (refl, refl)
-        calm (write.Shut r b) = (refl, refl)
         calm (write.Commit r b (puts.Commit j n)) = (refl, refl)
-        calm (write.Commit r b (puts.Tell j v)) = (refl, refl)
-        calm (write.Commit r b (puts.Choose j)) = (refl, refl)
-        calm (write.Commit r b (puts.Fill j v)) = (refl, refl)
+        calm _ = (refl, refl)

@@ -31,15 +31,13 @@ first_parts d s cs = map (part_at d s) cs
 
 module _ (d : SpiTable) (s : SpiState) where
   channel_is : (c : ℕ) → (part_at d s c).channel ≡ c
-  channel_is c = by (channel_of d c)
+  channel_is c =
+      elim (channel_of d c) as (λ o. (part_by c o (channel_at s c)).channel ≡ c)
+      [ None ↦ refl | Some k ↦ of k k.internal ]
     where
       of : (k : Channel) (q : Bool) → (part_for c k (channel_at s c) q).channel ≡ c
       of k true = refl
       of k false = refl
-
-      by : (o : Option Channel) → (part_by c o (channel_at s c)).channel ≡ c
-      by None = refl
-      by (Some k) = of k k.internal
 
   pub channels_are : (cs : List ℕ) → map (λ x. x.channel) (first_parts d s cs) ≡ cs
   channels_are [] = refl

@@ -4,12 +4,13 @@
 use Rattle.std.proofs.Common.{◌≡◌, ◌≢◌, ◌+◌, ◌-◌, ◌<◌, ◌≤◌, ◌==◌, ◌∙◌, if◌then◌else◌}
 use Rattle.spi_sequences.specs.Terms
 use Terms.{ap, arith, Bool, Contains, Contains-get_or, drop, false, FitsSpi, get_or-drop, get_or-take, get_or_default}
-use Terms.{is_on_unit, Job, job_at_place, job_number, job_of, jobs_by, jobs_list, jobs_of, length, length-drop}
+use Terms.{is_on_unit, job_at_place, job_number, job_of, jobs_by, jobs_list, jobs_of, length, length-drop}
 use Terms.{length-take-le, List, list_any, nat_lt, nat_tests, None, Option, or_else, place_before, place_in, refl}
 use Terms.{Sequence, sequence_of, slice_get, slice_index_or, Some, SpiTable, subst, suc, sym, true, unit_by}
 use Terms.{unit_of_sequence, zero, ℕ}
 use Rattle.spi_sequences.specs.laws.words.ListTests.{any_in, any_some, at_contained, is_number, same_number}
 use Rattle.spi_machine.specs.Wiring as wiring
+use Rattle.plain_facts.specs.Numbers.{lt_is}
 
 -- ---- what is left of a list
 
@@ -62,10 +63,7 @@ missing_before xs j (suc n) i e lt f = by (slice_index_or xs n 0 == j) refl e (�
         unlike a b u v = grind (arith, nat_tests)
 
         last : (b : Bool) → nat_lt i n ≡ b → ⊥
-        last true u = rest h (below i n u)
-          where
-            below : (i n : ℕ) → nat_lt i n ≡ true → i < n
-            below i n u = grind (arith, nat_tests)
+        last true u = rest h (lt_is i n u)
         last false u = unlike (slice_index_or xs n 0) j g (ap (λ k. slice_index_or xs k 0) (sym (at i n lt u)) ∙ f)
           where
             at : (i n : ℕ) → i < suc n → nat_lt i n ≡ false → i ≡ n
@@ -108,22 +106,16 @@ module _ (d : SpiTable) (fits : FitsSpi d) (q : ℕ) where
   -- ---- the unit
 
   pub number_there : (i : ℕ) → job_number (jobs_list d q) i ≡ slice_get (jobs_of d q) i
-  number_there i = by (sequence_of d q)
-    where
-      by : (o : Option Sequence) → job_number (wiring.jobs_by o) i ≡ slice_get (jobs_by o) i
-      by None = refl
-      by (Some k) = refl
+  number_there i =
+      elim (sequence_of d q) as (λ o. job_number (wiring.jobs_by o) i ≡ slice_get (jobs_by o) i)
+      [ None ↦ refl | Some k ↦ refl ]
 
   -- the job at a place
   pub job_place : (i : ℕ) → i < length (jobs_of d q) → job_at_place d q i ≡ slice_index_or (jobs_of d q) i 0
   job_place i lt = ap (or_else 0) (number_there i ∙ at_contained (jobs_of d q) i (slice_index_or (jobs_of d q) i 0) lt (get_or_default (jobs_of d q) i (slice_index_or (jobs_of d q) i 0) 0 lt))
 
   pub unit_few : unit_of_sequence d q < 2
-  unit_few = by (job_of d (job_at_place d q 0))
-    where
-      by : (o : Option Job) → unit_by o < 2
-      by None = omega arith
-      by (Some k) = omega arith
+  unit_few = elim (job_of d (job_at_place d q 0)) as (λ o. unit_by o < 2) [ None ↦ omega arith | Some k ↦ omega arith ]
 
   -- its jobs are for its unit
   pub job_unit : (i : ℕ) → i < length (jobs_of d q) → is_on_unit (unit_of_sequence d q) (job_of d (slice_index_or (jobs_of d q) i 0)) ≡ true

@@ -2,10 +2,10 @@
 -- Used by services.ModuleRight, words.SideWords, hardware.SourceFilled, services.WriteRight and 3 more.
 use Rattle.std.proofs.Common.{◌≡◌, [], ◌∷◌, ◌++◌, ◌∙◌}
 use Rattle.spi_sequences.specs.Terms
-use Terms.{AllRight, ap, BanksAgree, Bool, Call, Channel, channel_of, ChannelState, Cleared, Contains, Debt}
-use Terms.{entries_begun, false, first_items, Going, Handling, HeldRight, is_off, is_sync_unit, IsReady, IsSoundState}
-use Terms.{List, Memory, Mode, None, Option, placed_of, Preparing, put_held, PutRight, Reading, Reservation}
-use Terms.{Reservations, ReservedBy, RunsBy, RunsNext, Sending, SequencesAgree, slice_index_or, Some, SpiTable}
+use Terms.{AllRight, ap, BanksAgree, Bool, Call, Channel, channel_of, ChannelState, Contains}
+use Terms.{entries_begun, false, first_items, Going, HeldRight, is_off, is_sync_unit, IsReady, IsSoundState}
+use Terms.{List, Memory, Mode, None, Option, placed_of, put_held, PutRight, Reservation}
+use Terms.{Reservations, ReservedBy, RunsBy, RunsNext, SequencesAgree, slice_index_or, Some, SpiTable}
 use Terms.{subst, sym, to_write, true, untouched, View, Writing, ℕ}
 
 -- a state in another mode, and with other words in its channels
@@ -69,10 +69,5 @@ right_as d mode cs later like [] r = tt
 right_as d mode cs later like (x ∷ xs) r = (one x x.what r.0, right_as d mode cs later like xs r.1)
   where
     one : (x : ReservedBy Call Reservation) (y : Reservation) → HeldRight d mode cs x y → HeldRight d mode later x y
-    one x (Debt u) r = r
-    one x (Cleared u) r = r
-    one x Handling r = r
     one x (Writing c p b i y) r = (r.0, subst (λ xs. IsReady (to_write (channel_of d c) p xs) i y) (sym (like c)) r.1, r.2, r.3)
-    one x (Reading c b) r = r
-    one x (Sending u q n at banks failed device) r = r
-    one x (Preparing stored readied y) r = r
+    one x _ r = r

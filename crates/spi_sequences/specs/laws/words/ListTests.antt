@@ -4,6 +4,7 @@ use Rattle.std.proofs.Common.{◌≡◌, ◌≢◌, ◌<◌, ◌≤◌, ◌==◌
 use Rattle.spi_sequences.specs.Terms
 use Terms.{ap, arith, Bool, Contains, false, is_on_unit, Job, job_of, length, List, list_any, nat_lt, nat_tests, None}
 use Terms.{Option, refl, slice_get, slice_index_or, Some, SpiTable, suc, sym, true, zero, ℕ}
+use Rattle.plain_facts.specs.Truths.{or_true}
 
 -- ---- tests
 
@@ -33,10 +34,6 @@ pub any_in : {A : Type 0} (p : A → Bool) (xs : List A) (x : A) → Contains xs
 any_in p [] x h e = absurd (let lt = h.1 in omega (arith, lt))
 any_in p (y ∷ ys) x (zero, lt, at) e = ap (λ q. q || list_any p ys) (ap p at ∙ e)
 any_in p (y ∷ ys) x (suc k, lt, at) e = ap (λ q. p y || q) (any_in p ys x (k, omega (arith, lt), at) e) ∙ or_true (p y)
-  where
-    or_true : (q : Bool) → q || true ≡ true
-    or_true true = refl
-    or_true false = refl
 
 pub at_contained : {A : Type 0} (xs : List A) (k : ℕ) (x : A) → k < length xs → slice_index_or xs k x ≡ x → slice_get xs k ≡ Some x
 at_contained [] k x lt e = absurd (omega (arith, lt))

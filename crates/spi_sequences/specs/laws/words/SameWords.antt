@@ -84,9 +84,8 @@ module _ (d : SpiTable) (fits : FitsSpi d) (u : ℕ) (m m1 : Memory) (g : Going)
   }
 
 put_words : (going : ℕ → Option Going) (m m1 : Memory) (x : Placed) (held put : Option Putting) → m1 (held_word x) ≡ m (held_word x) → PutRight going m x held put → PutRight going m1 x held put
-put_words going m m1 x None None same h = h
 put_words going m m1 x None (Some p) same h = (h.0, h.1, h.2, same ∙ h.3)
-put_words going m m1 x (Some y) p same h = h
+put_words going m m1 x _ _ same h = h
 
 -- the banks of a channel look at their own words, and at what is held of it
 pub banks_words : (d : SpiTable) → FitsSpi d → (held : Reservations) (going : ℕ → Option Going) (m m1 : Memory) (v : View) (c : ℕ) (k : Channel) → channel_of d c ≡ Some k → m1 (held_word (placed_of d c)) ≡ m (held_word (placed_of d c))

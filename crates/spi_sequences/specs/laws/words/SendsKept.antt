@@ -2,10 +2,10 @@
 -- Used by hardware.StableUnderHardware, hardware.SourceFilled.
 use Rattle.std.proofs.Common.{◌≡◌, ◌+◌, ◌<◌, ◌≤◌, [], ◌∷◌, ◌∙◌}
 use Rattle.spi_sequences.specs.Terms
-use Terms.{AllSend, arith, Bool, carried_at, Channel, channel_of, Chip, Cleared, Debt, Going, Handling, has_done}
-use Terms.{held_word, is_sync_unit, KnowsEnd, nat_le, nat_tests, None, Option, Part, placed_of, Preparing, Reading}
+use Terms.{AllSend, arith, Bool, carried_at, Channel, channel_of, Chip, Going, has_done}
+use Terms.{held_word, is_sync_unit, KnowsEnd, nat_le, nat_tests, None, Option, Part, placed_of}
 use Terms.{Reservation, Reservations, Run, run_carried, Sending, SendingRight, slice_get, Some, SpiState, SpiTable}
-use Terms.{true, unit_at, word_of, World, Writing, ℕ}
+use Terms.{true, unit_at, word_of, World, ℕ}
 
 -- a word that is done is so later
 pub end_later : (now later : ℕ) → now ≤ later → (r : Option Run) (o : Option Bool) → KnowsEnd now r o → KnowsEnd later r o
@@ -40,9 +40,4 @@ sends_as d chip chip1 w w1 going going1 s s1 same selects banks ends (x ∷ xs) 
       kept = λ i x k there known internal some. banks u r.job i x k r.few r.sync r.is there known ∙ r.kept i x k there known internal some;
       end = ends u failed r.end;
     }
-    one (Debt u) r = tt
-    one (Cleared u) r = tt
-    one Handling r = tt
-    one (Writing c p b i y) r = tt
-    one (Reading c b) r = tt
-    one (Preparing stored readied y) r = tt
+    one _ r = tt

@@ -4,9 +4,9 @@
 use Rattle.std.proofs.Common.{◌≡◌, ◌≢◌, ◌+◌, ◌*◌, ◌<◌, ◌≤◌, ◌==◌, ◌&&◌, ◌||◌, [], ◌∷◌, ◌∙◌, ◌⊎◌, ◌++◌, if◌then◌else◌}
 use Rattle.spi_sequences.specs.Terms
 use Terms.{AllRight, AllSend, ap, AreCarried, AreThere, arith, Banks, BanksAgree, block_of, Bool, Call, carried_at}
-use Terms.{CarriesAgrees, Channel, channel_at, channel_of, ChannelState, Chip, chip_after, Cleared, common_steps}
-use Terms.{Contains, control_word, Debt, Destination, differs-after, DiffersIn, false, first_items, first_word}
-use Terms.{FitsChannel, FitsSpi, flat_map-cons, Going, Handling, has_bit, HasWords, held_word, HeldRight, inl, inr}
+use Terms.{CarriesAgrees, Channel, channel_at, channel_of, ChannelState, Chip, chip_after, common_steps}
+use Terms.{Contains, control_word, Destination, differs-after, DiffersIn, false, first_items, first_word}
+use Terms.{FitsChannel, FitsSpi, flat_map-cons, Going, has_bit, HasWords, held_word, HeldRight, inl, inr}
 use Terms.{is_off, is_owed, is_preparing, length, length_by, List, Memory, Mode, nat_le, nat_lt, nat_tests, None}
 use Terms.{Option, or_rest, owes_by, Part, place_of, Placed, placed_of, prepares, Preparing, put_by, put_held}
 use Terms.{PutRight, Putting, readied_by, readied_in, Reading, Received, refl, replicate, Reservation, Reservations}
@@ -122,56 +122,30 @@ module _ (d : SpiTable) (fits : FitsSpi d) (c : ℕ) (k : Channel) (e : channel_
       no_put (Writing m p b i z) sources n true ne f = refl
       no_put (Writing m p b i z) sources n false ne f = ap (λ q. put_if q (record { bank = b; filled = take i (to_write (channel_of d n) p (sources n)) })) (unlike m n ne f)
       no_put (Reading m b) sources n r ne f = refl
-      no_put (Debt u) sources n r ne f = absurd (cc)
-      no_put (Cleared u) sources n r ne f = absurd (cc)
-      no_put (Sending u q i at bs failed device) sources n r ne f = absurd (cc)
-      no_put Handling sources n r ne f = absurd (cc)
-      no_put (Preparing ws rs z) sources n r ne f = absurd (cc)
+      no_put _ sources n r ne f = absurd (cc)
 
       no_take : (y : Reservation) (n : ℕ) → n ≢ c → is_of_bank y ≡ true → take_by n x.acted y ≡ None
       no_take (Writing m p b i z) n ne f = refl
       no_take (Reading m b) n ne f = ap (λ q. take_if q (record { bank = b; kept = words_in x.acted })) (unlike m n ne f)
-      no_take (Debt u) n ne f = absurd (cc)
-      no_take (Cleared u) n ne f = absurd (cc)
-      no_take Handling n ne f = absurd (cc)
-      no_take (Sending u q i at bs failed device) n ne f = absurd (cc)
-      no_take (Preparing ws rs z) n ne f = absurd (cc)
+      no_take _ n ne f = absurd (cc)
 
       unready : (y : Reservation) → is_of_bank y ≡ true → is_preparing y ≡ false
-      unready (Writing m p b i z) f = refl
-      unready (Reading m b) f = refl
-      unready (Debt u) f = refl
-      unready (Cleared u) f = refl
-      unready Handling f = refl
-      unready (Sending u q i at bs failed device) f = refl
       unready (Preparing ws rs z) f = absurd (cc)
+      unready _ f = refl
 
       nothing_ready : (y : Reservation) → is_of_bank y ≡ true → readied_by y ≡ []
-      nothing_ready (Writing m p b i z) f = refl
-      nothing_ready (Reading m b) f = refl
-      nothing_ready (Debt u) f = refl
-      nothing_ready (Cleared u) f = refl
-      nothing_ready Handling f = refl
-      nothing_ready (Sending u q i at bs failed device) f = refl
       nothing_ready (Preparing ws rs z) f = absurd (cc)
+      nothing_ready _ f = refl
 
       nothing_stored : (y : Reservation) → is_of_bank y ≡ true → stored_by y ≡ []
-      nothing_stored (Writing m p b i z) f = refl
-      nothing_stored (Reading m b) f = refl
-      nothing_stored (Debt u) f = refl
-      nothing_stored (Cleared u) f = refl
-      nothing_stored Handling f = refl
-      nothing_stored (Sending u q i at bs failed device) f = refl
       nothing_stored (Preparing ws rs z) f = absurd (cc)
+      nothing_stored _ f = refl
 
       owes_none : (y : Reservation) (u : ℕ) (below : Bool) → is_of_bank y ≡ true → owes_by u y below ≡ below
       owes_none (Writing m p b i z) u below f = refl
       owes_none (Reading m b) u below f = refl
-      owes_none (Debt v) u below f = absurd (cc)
-      owes_none (Cleared v) u below f = absurd (cc)
-      owes_none Handling u below f = absurd (cc)
       owes_none (Sending v q i at bs failed device) u below f = refl
-      owes_none (Preparing ws rs z) u below f = absurd (cc)
+      owes_none _ u below f = absurd (cc)
 
   pub beside_back : (held held1 : Reservations) → IsBeside held held1 → IsBeside held1 held
   beside_back held held1 h = record { puts = λ sources n r ne. sym (h.puts sources n r ne); takes = λ n ne. sym (h.takes n ne); prepares = sym h.prepares; readied = sym h.readied; stored = sym h.stored; owed = λ u. sym (h.owed u) }
@@ -297,13 +271,8 @@ none_readied d mode cs (x ∷ xs) on r =
     (flat_map-cons (λ h. readied_by h.what) x xs ∙ ap (λ ys. ys ++ readied_in xs) first.0 ∙ rest.0, ap (λ b. b || prepares xs) first.1 ∙ rest.1)
   where
     one : (x : ReservedBy Call Reservation) (y : Reservation) → HeldRight d mode cs x y → (readied_by y ≡ []) × (is_preparing y ≡ false)
-    one x (Debt u) r = (refl, refl)
-    one x (Cleared u) r = (refl, refl)
-    one x Handling r = (refl, refl)
-    one x (Writing n p b i y) r = (refl, refl)
-    one x (Reading n b) r = (refl, refl)
-    one x (Sending u q n at bs failed device) r = (refl, refl)
     one x (Preparing ws rs y) r = absurd (let f = sym on ∙ r.1 in cc)
+    one x _ r = (refl, refl)
 
 -- the banks of a side are driver words, and stand apart
 pub trio_fits : (d : SpiTable) → FitsSpi d → (c : ℕ) (k : Channel) → channel_of d c ≡ Some k → k.internal ≡ true → (side : Side) → trio.Fits (trio_of (placed_of d c) side)
@@ -327,9 +296,8 @@ trio_fits d fits c k e internal side = by side
 
 module _ (d : SpiTable) (fits : FitsSpi d) (c : ℕ) (k : Channel) (e : channel_of d c ≡ Some k) (internal : k.internal ≡ true) (below held1 : Reservations) (chip chip1 : Chip) (going : ℕ → Option Going) (v v1 : View) where
   put_as : (m m1 : Memory) (held put : Option Putting) → m1 (held_word (placed_of d c)) ≡ m (held_word (placed_of d c)) → PutRight going m (placed_of d c) held put → PutRight going m1 (placed_of d c) held put
-  put_as m m1 None None same h = h
   put_as m m1 None (Some p) same h = (h.0, h.1, h.2, same ∙ h.3)
-  put_as m m1 (Some x) p same h = h
+  put_as m m1 _ _ same h = h
 
   -- what it received, in these banks
   pub received_changed : DiffersIn (mine d fits c k e internal Received) chip chip1 → IsBeside d fits c k e internal Received below held1 → v1.written c ≡ v.written c → put_held d v1.sources c false held1 ≡ put_held d v.sources c false below → (x : Banks)

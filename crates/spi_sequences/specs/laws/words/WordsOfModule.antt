@@ -9,6 +9,7 @@ use Terms.{or_else, or_left, or_right, order_word, own_words, place_of, placed_o
 use Terms.{Side, slice_index_or, Some, Source, SpiTable, start_of, STATE, subst, suc, sym, trio_of, true, zero, ℕ}
 use Rattle.word_shapes.specs.PriorityQueue as ranked
 use Rattle.word_shapes.specs.TripleBuffer as trio
+use Rattle.plain_facts.specs.Truths.{or_true}
 
 -- a word of a channel: one of its first four, or of its banks
 pub record IsWordOf (d : SpiTable) (c : ℕ) (k : Channel) (word : ℕ) : Type 0 where
@@ -35,10 +36,6 @@ pub some_at : {A : Type 0} (p : Option A → Bool) (xs : List (Option A)) (c : �
 some_at p [] c none e = absurd (let f = sym none ∙ e in cc)
 some_at p (x ∷ xs) zero none e = ap (λ q. q || list_any p xs) e
 some_at p (x ∷ xs) (suc c) none e = ap (λ q. p x || q) (some_at p xs c none e) ∙ or_true (p x)
-  where
-    or_true : (q : Bool) → q || true ≡ true
-    or_true true = refl
-    or_true false = refl
 
 -- ---- own words
 

@@ -1,7 +1,7 @@
 -- What the words of an initialised module say: of results, of pending sequences, and of what the units run.
 -- From words.SameWords, words.ListTests, words.AllSequences, words.WordsOfModule.
 -- Used by services.QueryRight, services.CancelRight, bookkeeping.SequenceEnded, bookkeeping.AcceptedState and 21 more.
-use Rattle.std.proofs.Common.{◌≡◌, ◌+◌, ◌-◌, ◌*◌, ◌/◌, ◌%◌, ◌<◌, ◌==◌, ◌||◌, ◌∙◌, ◌⊎◌, if◌then◌else◌}
+use Rattle.std.proofs.Common.{◌≡◌, ◌+◌, ◌-◌, ◌*◌, ◌/◌, ◌%◌, ◌<◌, ◌==◌, ◌||◌, ◌∙◌, if◌then◌else◌}
 use Rattle.spi_sequences.specs.Terms
 use Terms.{all_of, AnswerName, ap, arith, Bool, carried_at, CarriesAgrees, Carrying, Chip, Contains, Contains-get_or}
 use Terms.{entry_carried, false, FitsSpi, get_or_default, Going, has_job, inl, inr, is_for, is_of, is_off, is_pending}
@@ -17,6 +17,7 @@ pub use Rattle.spi_sequences.specs.laws.words.ListTests.{none_any, not_true, one
 use Rattle.spi_sequences.specs.laws.{words.SameWords.{job_small}, words.ListTests.{any_in}}
 use Rattle.spi_sequences.specs.laws.{words.AllSequences.{all_cases, all_pending, any_all, one_of_all}}
 use Rattle.spi_sequences.specs.laws.{words.WordsOfModule.{some_at}}
+use Rattle.plain_facts.specs.Truths.{or_true}
 
 -- ---- results
 
@@ -173,10 +174,6 @@ module _ (d : SpiTable) (fits : FitsSpi d) (held : Reservations) (chip : Chip) (
   in_use : (u : ℕ) (g : Going) → u < 2 → h.going u ≡ Some g → is_some (run_at s u) || is_some (carried_at s u) ≡ true
   in_use u g lt is = by (is_sync_unit d u) refl
     where
-      either : (b : Bool) → b || true ≡ true
-      either true = refl
-      either false = refl
-
       some : (o : Option Carrying) (r : Run) → run_carried o ≡ Some r → is_some o ≡ true
       some None r e = absurd (cc)
       some (Some x) r e = refl
@@ -184,7 +181,7 @@ module _ (d : SpiTable) (fits : FitsSpi d) (held : Reservations) (chip : Chip) (
       by : (q : Bool) → is_sync_unit d u ≡ q → is_some (run_at s u) || is_some (carried_at s u) ≡ true
       by true sync =
           let a = subst (λ o. CarriesAgrees d (unit_at chip.serials u) (run_carried (carried_at s u)) o) is (h.sends u lt sync) in
-          ap (λ b. is_some (run_at s u) || b) (some (carried_at s u) (run_of d g a.0) a.1) ∙ either (is_some (run_at s u))
+          ap (λ b. is_some (run_at s u) || b) (some (carried_at s u) (run_of d g a.0) a.1) ∙ or_true (is_some (run_at s u))
       by false async = ap (λ r. is_some r || is_some (carried_at s u)) (going_run u g lt async is).1
 
   -- a unit that carries out a sequence runs a job of it
@@ -208,11 +205,9 @@ module _ (d : SpiTable) (fits : FitsSpi d) (held : Reservations) (chip : Chip) (
 
     -- the next job of each sequence under way stands in its word
     pub next_says : (p : Pending) → Contains under_way p → next_in (word_of chip NEXTS) p.sequence ≡ p.next
-    next_says p there = by (all_cases (view s) p there)
-      where
-        by : Contains s.pending p ⊎ ((u : ℕ) × ((view s).begun u ≡ Some p)) → next_in (word_of chip NEXTS) p.sequence ≡ p.next
-        by (inl is) = ((h.words.on on).sequences.pending p is).next
-        by (inr (u, e)) = (h.words.on on).sequences.begun u p e
+    next_says p there =
+        elim (all_cases (view s) p there)
+        [ inl is ↦ ((h.words.on on).sequences.pending p is).next | inr (u, e) ↦ (h.words.on on).sequences.begun u p e ]
 
     pub running_says : (u : ℕ) → u < 2 → (g : Option Going) → h.going u ≡ g → run_in (word_of chip (running_word u)) ≡ running_by d g
     running_says u lt None is = ap run_in (subst (λ o. RunAgrees d (word_of chip) u o) is ((h.words.on on).runs u lt))

@@ -103,10 +103,8 @@ module _ (d : SpiTable) (fits : FitsSpi d) (below : Reservations) (chip : Chip) 
         after_of q c f n = if c then courses.Ends CANCELLED else if f then courses.Ends FAILED else if nat_lt (n + 1) (jobs_list d q).count then courses.Further (with_next_in (word_of chip NEXTS) q (n + 1)) else courses.Ends 0
 
         each : (c f more : Bool) → after_by c f more ≡ course_by (word_of chip NEXTS) entry.sequence entry.next (end_by c f more)
-        each true f more = refl
-        each false true more = refl
         each false false true = refl
-        each false false false = refl
+        each _ _ _ = refl
 
     -- ---- the event
 

@@ -14,6 +14,8 @@ use Rattle.spi_serving.specs.laws.words.JoinedLists.{before-all, before-less, be
 use Rattle.spi_serving.specs.laws.bookkeeping.MovedOn.{by_unit, going_other, going_with}
 use Rattle.spi_serving.specs.laws.words.Positions.{Stands, words_count}
 use Rattle.word_shapes.specs.Order as order
+use Rattle.plain_facts.specs.Numbers.{lt_is, lt_isnt}
+use Rattle.plain_facts.specs.Options.{some_is}
 
 -- ---- the last word
 
@@ -31,14 +33,8 @@ module _ (d : SpiTable) (fits : FitsSpi d) (u : ℕ) (m : Memory) (g : Going) (f
   within n = by (nat_lt (length g.parts) n) refl
     where
       by : (q : Bool) → nat_lt (length g.parts) n ≡ q → words_before g.parts n ≤ sum_by size g.parts
-      by true e = let all = before-all size g.parts n (let lt : length g.parts < n = below (length g.parts) n e in omega (arith, lt)) in omega (arith, all)
-        where
-          below : (a b : ℕ) → nat_lt a b ≡ true → a < b
-          below a b e = grind (arith, nat_tests)
-      by false e = let less = before-less size g.parts n (length g.parts) (past (length g.parts) n e) in let all = before-all size g.parts (length g.parts) (omega arith) in omega (arith, less, all)
-        where
-          past : (a b : ℕ) → nat_lt a b ≡ false → b ≤ a
-          past a b e = grind (arith, nat_tests)
+      by true e = let all = before-all size g.parts n (let lt : length g.parts < n = lt_is (length g.parts) n e in omega (arith, lt)) in omega (arith, all)
+      by false e = let less = before-less size g.parts n (length g.parts) (lt_isnt (length g.parts) n e) in let all = before-all size g.parts (length g.parts) (omega arith) in omega (arith, less, all)
 
   -- it is the last one of its part
   pub last_word : g.at.word + 1 ≡ length at.part.values
@@ -61,9 +57,6 @@ module _ (d : SpiTable) (fits : FitsSpi d) (u : ℕ) (m : Memory) (g : Going) (f
     where
       later : (n a i k : ℕ) → (nat_lt a n || (n == a && nat_lt (i + 1) k)) ≡ true → (a < n) ⊎ ((n ≡ a) × (i + 1 < k))
       later n a i k f = grind (arith, nat_tests)
-
-      some_is : (a b : Part) → Some a ≡ Some b → a ≡ b
-      some_is a b e = cc
 
       by : (g.at.channel < n) ⊎ ((n ≡ g.at.channel) × (g.at.word + 1 < length x.values)) → ⊥
       by (inl lt) = last_part n x e lt

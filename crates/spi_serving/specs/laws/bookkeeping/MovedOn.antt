@@ -9,6 +9,7 @@ use Terms.{received_of, refl, same_number, same_or_other, slice_get, Some, SpiTa
 use Terms.{true, words_before, ℕ}
 use Rattle.spi_serving.specs.laws.{words.JoinedLists.{before-less, before-next, dropped-count, dropped-more, taken-all}}
 use Rattle.spi_serving.specs.laws.{words.JoinedLists.{taken-same}, words.Positions.{Follows, Same, Next, Stands}}
+use Rattle.plain_facts.specs.Options.{some_is}
 
 -- the job with its next word in transfer, after this one came in
 abbrev pub moved_on : Going → Position → (came : ℕ) → Going
@@ -66,9 +67,6 @@ module _ (a i b j n k : ℕ) where
 module _ (d : SpiTable) (fits : FitsSpi d) (u : ℕ) (m : Memory) (g : Going) (for : is_for d u g.pending ≡ true) (h : GoingAgrees d m u g) (at : Stands d fits u m g for h g.at (length g.received)) (p : Position) (next : Stands d fits u m g for h p (length g.received + 1)) (follows : Follows d fits u m g for h g.at p (length at.part.values)) (v : ℕ) where
   abbrev size : ℕ
   size = length at.part.values
-
-  some_is : (x y : Part) → Some x ≡ Some y → x ≡ y
-  some_is x y e = cc
 
   -- the part at the place of the word before is that one
   pub part_before : (n : ℕ) (x : Part) → slice_get g.parts n ≡ Some x → n ≡ g.at.channel → length x.values ≡ size

@@ -30,18 +30,14 @@ module _ (d : SpiTable) (fits : FitsSpi d) (below : Reservations) (chip : Chip) 
   item_own = ap (λ q. if q then goes_to_next p else p) (same_number p.sequence)
 
   item_sequence : (x : Pending) → (item x).sequence ≡ x.sequence
-  item_sequence x = by (is_of p.sequence x)
-    where
-      by : (q : Bool) → (if q then goes_to_next x else x).sequence ≡ x.sequence
-      by true = refl
-      by false = refl
+  item_sequence x =
+      elim (is_of p.sequence x) as (λ q. (if q then goes_to_next x else x).sequence ≡ x.sequence)
+      [ true ↦ refl | false ↦ refl ]
 
   item_request : (x : Pending) → (item x).request ≡ x.request
-  item_request x = by (is_of p.sequence x)
-    where
-      by : (q : Bool) → (if q then goes_to_next x else x).request ≡ x.request
-      by true = refl
-      by false = refl
+  item_request x =
+      elim (is_of p.sequence x) as (λ q. (if q then goes_to_next x else x).request ≡ x.request)
+      [ true ↦ refl | false ↦ refl ]
 
   -- what is so of the entry that went on and of the others is so of each
   pub each_entry : (P : Pending → Type 0) → P (goes_to_next p) → ((x : Pending) → Contains s.pending x → x.sequence ≢ p.sequence → P x) → (x : Pending) → Contains (changed p.sequence goes_to_next s.pending) x → P x

@@ -13,6 +13,7 @@ use Rattle.spi_serving.specs.laws.{bookkeeping.MovedOn.{begins_here, begins_same
 use Rattle.spi_serving.specs.laws.{bookkeeping.MovedOn.{going_with, moved_on, received_here, received_same, taken_here}}
 use Rattle.spi_serving.specs.laws.{bookkeeping.MovedOn.{taken_same}, words.Positions.{Follows, Stands, begins_next}}
 use Rattle.spi_serving.specs.laws.{ToServe.{ToServe}}
+use Rattle.plain_facts.specs.Options.{some_is}
 
 -- no frame of an initialised module puts what a channel received
 pub none_received : (d : SpiTable) (mode : Mode) (cs : List ChannelState) (sources : ℕ → List ℕ) (c : ℕ) (hs : Reservations) → is_off mode ≡ false → AllRight d mode cs hs → put_held d sources c true hs ≡ None
@@ -51,9 +52,6 @@ module _ (st : ToServe) where
                 let begins = begins_next d fits u (word_of chip) g (for_at d fits below chip w s h on u g few is) (agrees_at d fits below chip w s h on u g few is) g.at p (length at.part.values) (length next.part.values) follows next.inside in
                 let same : next.part ≡ x = some_is next.part x (sym next.there ∙ ap (slice_get g.parts) (sym e) ∙ part.0) in
                 absurd (let f = sym begins ∙ ap (λ k. is_to_begin g.at k (length next.part.values)) (sym e) ∙ ap (λ z. is_to_begin g.at n (length z.values)) same ∙ was n x part in cc)
-              where
-                some_is : (a b : Part) → Some a ≡ Some b → a ≡ b
-                some_is a b e = cc
             by n x part (inr ne) = sym (begins_same d fits u (word_of chip) g (for_at d fits below chip w s h on u g few is) (agrees_at d fits below chip w s h on u g few is) at p next follows v n x part.0 ne) ∙ was n x part
     take_stays c (Some t) more (n, lt, pins) = by (same_or_other n u)
       where
@@ -61,9 +59,6 @@ module _ (st : ToServe) where
         here k x part begins (inl e) =
             let same : next.part ≡ x = some_is next.part x (sym next.there ∙ ap (slice_get g.parts) (sym e) ∙ part.0) in
             begins_here d fits u (word_of chip) g (for_at d fits below chip w s h on u g few is) (agrees_at d fits below chip w s h on u g few is) at p next follows v k (length x.values) e ∙ ap (λ z. nat_lt (p.word + 1) (length z.values)) (sym same) ∙ more (ap (λ z. z.channel) same ∙ part.1)
-          where
-            some_is : (a b : Part) → Some a ≡ Some b → a ≡ b
-            some_is a b e = cc
         here k x part begins (inr ne) = sym (begins_same d fits u (word_of chip) g (for_at d fits below chip w s h on u g few is) (agrees_at d fits below chip w s h on u g few is) at p next follows v k x part.0 ne) ∙ begins
 
         by : (n ≡ u) ⊎ (n ≢ u) → TakeRight going1 c (Some t)
@@ -94,9 +89,6 @@ module _ (st : ToServe) where
     module _ (c : ℕ) (ne : at.part.channel ≢ c) (m1 : Memory) (same : m1 (held_word (placed_of d c)) ≡ word_of chip (held_word (placed_of d c))) where
       elsewhere : (n : ℕ) (x : Part) → HasPart (Some g) c n x → n ≢ g.at.channel
       elsewhere n x part e = ne (ap (λ z. z.channel) (some_is at.part x (sym at.there ∙ ap (slice_get g.parts) (sym e) ∙ part.0)) ∙ part.1)
-        where
-          some_is : (a b : Part) → Some a ≡ Some b → a ≡ b
-          some_is a b e = cc
 
       pub put_stays : (o : Option Putting) → PutRight h.going (word_of chip) (placed_of d c) None o → PutRight going1 m1 (placed_of d c) None o
       put_stays None r = λ n lt. by_unit (λ k z. KeepsNone z c) h.going u (Some later) (none (subst (λ z. KeepsNone z c) is (r u few))) n (r n lt)

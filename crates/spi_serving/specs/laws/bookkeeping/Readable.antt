@@ -7,7 +7,7 @@ use Terms.{after_last, all_kept, ap, arith, at_contained, Bool, channel-seen, ch
 use Terms.{ext_get_or, false, first-at, first_items, get_or-drop, get_or-take, get_or_default, go_there, Goes, goes_on}
 use Terms.{goes_to_array, goes_to_channel, has_done, Interrupt, is_below, is_done, is_number, is_past, item-same}
 use Terms.{JobWord, kept, length, length-drop, length-first, List, nat_lt, no_word, None, none_any, not, not_true}
-use Terms.{Nowhere, Outcome, outcome, Part, received_with, refl, Run, run_at, serve-leaves, serve-receives}
+use Terms.{Outcome, outcome, Part, received_with, refl, Run, run_at, serve-leaves, serve-receives}
 use Terms.{serve-stores, Serves, slice_get, slice_index_or, Some, spi_machine, SpiState, stored, suc, sum_by}
 use Terms.{sum_by-cons, sym, take, tells_nothing, ToChannel, ToDestination, true, untouched, with_item, with_run}
 use Terms.{word_at, word_in, word_of, words_before, words_of, ℕ}
@@ -23,30 +23,26 @@ use Rattle.spi_serving.specs.laws.words.Positions as positions
 
 kept_is : (s : SpiState) (x : JobWord) (g : Goes) (v : ℕ) → kept s x g v ≡ with_channels s (kept s x g v).channels
 kept_is s x ToDestination v = refl
-kept_is s x ToChannel v = refl
-kept_is s x Nowhere v = refl
+kept_is s x _ v = refl
 
 kept_like : (s : SpiState) (x : JobWord) (g : Goes) (v : ℕ) → IsFilled (kept s x g v).channels s
-kept_like s x ToDestination v = record { source = λ n. refl; set_up = λ n. refl; written = λ n. refl }
 kept_like s x ToChannel v = record {
   source = λ n. channel-seen (λ y. y.source) s x.channel n _ refl;
   set_up = λ n. channel-seen (λ y. y.set_up) s x.channel n _ refl;
   written = λ n. channel-seen (λ y. y.written) s x.channel n _ refl;
 }
-kept_like s x Nowhere v = record { source = λ n. refl; set_up = λ n. refl; written = λ n. refl }
+kept_like s x _ v = record { source = λ n. refl; set_up = λ n. refl; written = λ n. refl }
 
 all_is : (s : SpiState) (xs : List JobWord) (vs : List ℕ) → all_kept s xs vs ≡ with_channels s (all_kept s xs vs).channels
-all_is s [] vs = refl
-all_is s (x ∷ xs) [] = refl
 all_is s (x ∷ xs) (v ∷ vs) = all_is (kept s x x.goes v) xs vs ∙ ap (λ z. with_channels z (all_kept (kept s x x.goes v) xs vs).channels) (kept_is s x x.goes v)
+all_is s _ _ = refl
 
 all_like : (s : SpiState) (xs : List JobWord) (vs : List ℕ) → IsFilled (all_kept s xs vs).channels s
-all_like s [] vs = record { source = λ n. refl; set_up = λ n. refl; written = λ n. refl }
-all_like s (x ∷ xs) [] = record { source = λ n. refl; set_up = λ n. refl; written = λ n. refl }
 all_like s (x ∷ xs) (v ∷ vs) =
     let rest = all_like (kept s x x.goes v) xs vs in
     let one = kept_like s x x.goes v in
     record { source = λ n. rest.source n ∙ one.source n; set_up = λ n. rest.set_up n ∙ one.set_up n; written = λ n. rest.written n ∙ one.written n }
+all_like s _ _ = record { source = λ n. refl; set_up = λ n. refl; written = λ n. refl }
 
 pub last_is : (s : SpiState) (r : Run) (b : Bool) → after_last s r b ≡ with_channels s (after_last s r b).channels
 last_is s r true = refl
@@ -92,14 +88,13 @@ find_item size (x ∷ xs) m lt = by (nat_lt m (size x)) refl (λ k. find_item si
         record { place = suc r.place; part = r.part; there = r.there; item = r.item; inside = r.inside; count = omega (arith, le, count, more) }
 
 goes_where : (c i : ℕ) (x : JobWord) (g : Goes) → goes_to_channel c i x g ≡ true → (x.channel ≡ c) × (x.place ≡ i)
-goes_where c i x ToDestination e = absurd (cc)
-goes_where c i x Nowhere e = absurd (cc)
 goes_where c i x ToChannel e = by (x.channel == c) refl (x.place == i) refl e
   where
     by : (a : Bool) → (x.channel == c) ≡ a → (b : Bool) → (x.place == i) ≡ b → x.channel == c && x.place == i ≡ true → (x.channel ≡ c) × (x.place ≡ i)
     by true f true k e1 = (is_number x.channel c f, is_number x.place i k)
     by true f false k e1 = absurd (let z = sym e1 ∙ ap (λ q. q && x.place == i) f ∙ k in cc)
     by false f b k e1 = absurd (let z = sym e1 ∙ ap (λ q. q && x.place == i) f in cc)
+goes_where c i x _ e = absurd (cc)
 
 module _ (st : ToServe) where
   open st use {d, fits, below, chip, w, s, h, on, u, few, g, is}
@@ -198,18 +193,15 @@ module _ (st : ToServe) where
 
     kept_same : (z : SpiState) (x : JobWord) (goes : Goes) (v : ℕ) → kept (run_by z) x goes v ≡ run_by (kept z x goes v)
     kept_same z x ToDestination v = refl
-    kept_same z x ToChannel v = refl
-    kept_same z x Nowhere v = refl
+    kept_same z x _ v = refl
 
     all_same : (z : SpiState) (xs : List JobWord) (vs : List ℕ) → all_kept (run_by z) xs vs ≡ run_by (all_kept z xs vs)
-    all_same z [] vs = refl
-    all_same z (x ∷ xs) [] = refl
     all_same z (x ∷ xs) (v ∷ vs) = ap (λ y. all_kept y xs vs) (kept_same z x x.goes v) ∙ all_same (kept z x x.goes v) xs vs
+    all_same z _ _ = refl
 
     stored_same : (x : JobWord) (goes : Goes) (v : ℕ) → stored (run_by s) x goes v ≡ run_by (stored s x goes v)
     stored_same x ToDestination v = refl
-    stored_same x ToChannel v = refl
-    stored_same x Nowhere v = refl
+    stored_same x _ v = refl
 
     last_same : (b : Bool) → after_last (run_by s) run b ≡ run_by (after_last s run b)
     last_same true = refl

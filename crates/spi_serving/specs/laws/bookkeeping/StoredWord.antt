@@ -3,16 +3,15 @@
 -- Used by services.FurtherRight, bookkeeping.Readable.
 use Rattle.std.proofs.Common.{◌≡◌, ◌≢◌, ◌∙◌, ◌⊎◌}
 use Rattle.spi_serving.specs.Terms
-use Terms.{ap, channel-seen, channel_at, ChannelState, Goes, inl, inr, item-other, item-same, JobWord, Nowhere, refl}
-use Terms.{same_or_other, slice_index_or, SpiState, stored, subst, sym, ToChannel, ToDestination, untouched, with_item}
+use Terms.{ap, channel-seen, channel_at, ChannelState, Goes, inl, inr, item-other, item-same, JobWord, refl}
+use Terms.{same_or_other, slice_index_or, SpiState, stored, subst, sym, ToDestination, untouched, with_item}
 use Terms.{word_at, ℕ}
 use Rattle.spi_serving.specs.laws.services.FurtherBegun.{IsLike}
 
 -- channels alone
 pub stored_is : (s : SpiState) (x : JobWord) (g : Goes) (v : ℕ) → stored s x g v ≡ record s { channels = (stored s x g v).channels }
 stored_is s x ToDestination v = refl
-stored_is s x ToChannel v = refl
-stored_is s x Nowhere v = refl
+stored_is s x _ v = refl
 
 -- and of them the users' destinations alone
 pub stored_like : (s : SpiState) (x : JobWord) (g : Goes) (v : ℕ) → IsLike (stored s x g v).channels s
@@ -22,8 +21,7 @@ stored_like s x ToDestination v = record {
   written = λ n. channel-seen (λ y. y.written) s x.channel n _ refl;
   received = λ n. channel-seen (λ y. y.received) s x.channel n _ refl;
 }
-stored_like s x ToChannel v = record { source = λ n. refl; set_up = λ n. refl; written = λ n. refl; received = λ n. refl }
-stored_like s x Nowhere v = record { source = λ n. refl; set_up = λ n. refl; written = λ n. refl; received = λ n. refl }
+stored_like s x _ v = record { source = λ n. refl; set_up = λ n. refl; written = λ n. refl; received = λ n. refl }
 
 -- a word of a destination: the one that is stored, and the others
 pub stored_there : (s : SpiState) (x : JobWord) (v : ℕ) → word_at (slice_index_or (stored s x ToDestination v).channels x.channel untouched).destination x.place ≡ v

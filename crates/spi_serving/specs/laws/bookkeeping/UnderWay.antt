@@ -12,6 +12,7 @@ use Terms.{WordAgrees, World, ℕ}
 use Rattle.chip_units.specs.Serials as serials
 use Rattle.chip_units.specs.declared.serial.Word as chips
 use Rattle.spi_machine.specs.Machine as machine
+use Rattle.plain_facts.specs.Truths.{and_false}
 
 -- ---- a unit's state register
 
@@ -128,10 +129,6 @@ module _ (d : SpiTable) (fits : FitsSpi d) (below : Reservations) (chip : Chip) 
   -- a line isn't ready where its unit's word isn't done
   pub not_ready : has_done w.now (run_at s u) ≡ false → ready w s (26 + u) ≡ false
   not_ready e = ap (λ o. not (is_off s.mode) && has_done w.now (machine.run_of s o)) (unit_line u few) ∙ ap (λ q. not (is_off s.mode) && q) e ∙ and_false (not (is_off s.mode))
-    where
-      and_false : (q : Bool) → q && false ≡ false
-      and_false true = refl
-      and_false false = refl
 
   -- and is ready where it is
   pub is_ready : is_off s.mode ≡ false → has_done w.now (run_at s u) ≡ true → ready w s (26 + u) ≡ true

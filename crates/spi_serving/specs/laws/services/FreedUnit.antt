@@ -19,6 +19,7 @@ use Rattle.spi_serving.specs.laws.{bookkeeping.MovedOn.{going_other}, ToServe.{T
 use Rattle.word_shapes.specs.Order as order
 use Rattle.word_shapes.specs.PriorityQueue as ranked
 use Rattle.spi_serving.specs.laws.bookkeeping.JobOver as over
+use Rattle.std.proofs.lemmas.Bool.{or_right}
 
 -- what the frame that serves holds then: it owes the unit a start
 abbrev pub start_owed : (number : ℕ) → Origin Call → Option Answer → ReservedBy Call Reservation
@@ -74,13 +75,9 @@ module _ (st : ToServe) where
   pub owed_left : (owner : Origin Call) (acted : Option Answer) (n : ℕ) → n < 2 → going_left n ≡ None → (n ≢ u → is_owed n below ≡ true) → is_owed n (start_owed u owner acted ∷ below) ≡ true
   owed_left owner acted n lt free other = by (same_or_other n u)
     where
-      either : (a b : Bool) → b ≡ true → a || b ≡ true
-      either true b e = refl
-      either false b e = e
-
       by : (n ≡ u) ⊎ (n ≢ u) → is_owed n (start_owed u owner acted ∷ below) ≡ true
       by (inl e) = ap (λ q. q || is_owed n below) (ap (λ k. u == k) e ∙ same_number u)
-      by (inr ne) = either (u == n) (is_owed n below) (other ne)
+      by (inr ne) = or_right (u == n) (is_owed n below) (other ne)
 
   pub other_free : (n : ℕ) → n ≢ u → going_left n ≡ None → h.going n ≡ None
   other_free n ne free = sym (going_other h.going u None n ne) ∙ free

@@ -20,6 +20,7 @@ use Rattle.spi_serving.specs.laws.{bookkeeping.MovedOn.{by_unit, going_here, goi
 use Rattle.spi_serving.specs.laws.{words.JoinedLists.{get_within}, bookkeeping.PinsTurned.{After, At, going1, later}}
 use Rattle.spi_serving.specs.laws.{ToServe.{ToServe}}
 use Rattle.word_shapes.specs.PriorityQueue as ranked
+use Rattle.plain_facts.specs.Options.{some_is}
 
 -- ---- channels that differ in the users' destinations alone
 
@@ -133,9 +134,6 @@ module _ (st : ToServe) (at : At st st.g.at (length st.g.received)) (p : Positio
       count = length-append g.received (v ∷ []) ∙ next.count;
       parts = λ n x e. ((represents.parts n x e).0, part_as n x (placed_of d x.channel).channel.internal refl e (represents.parts n x e).1);
     }
-      where
-        some_is : (a b : Part) → Some a ≡ Some b → a ≡ b
-        some_is a b e = cc
 
     -- another unit's job looks at words that are as they were
     run_other : (n : ℕ) → n < 2 → n ≢ u → (o : Option Going) → h.going n ≡ o → RunAgrees d (word_of chip) n o → RunAgrees d (word_of c) n o

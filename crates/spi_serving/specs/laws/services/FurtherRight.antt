@@ -6,17 +6,17 @@ use Rattle.spi_serving.specs.Terms
 use Terms.{after_serve, ap, arith, Arrived, as_begun, asked_word, bank_of, bank_word, begins, Begun, begun, Bool}
 use Terms.{CarriesAgrees, Channel, channel_at, channel_next, channel_of, channel_served, ChannelState, Chip}
 use Terms.{chip_after, CommitsAfter, CommitsTo, control_word, Destination, destination_own, destination_word}
-use Terms.{ExternalAgrees, false, FitsSpi, FrameRole, free_bank, Goes, goes_by, Going, Handler, has_channel, has_ended}
+use Terms.{ExternalAgrees, false, FitsSpi, FrameRole, free_bank, Goes, goes_by, Going, has_channel, has_ended}
 use Terms.{held_word, inl, inr, InTransfer, is_last_place, is_number, is_sync_unit, IsFurther, IsServed, job_of}
 use Terms.{JobWord, Keep, keep_ends, keep_move, keep_of, keeping, length, length_by, lets_of, lets_with, List, Main}
 use Terms.{main_over, may, may_store, may_users, min, mod-mod, nat_le, nat_lt, nat_tests, next_job, None, not, Nowhere}
 use Terms.{of_sixteen, on_wire, one_owed, Option, owed_left, owed_move, owes_move, own-control, own_first, own_held}
 use Terms.{own_low, packed_position, PartBy, PendingWrites, place_of, Placed, placed_of, Position, position_word}
-use Terms.{Received, received_with, refl, releasing, Reservations, Rest, Run, run_of, same_or_other, select_by}
+use Terms.{Received, received_with, refl, releasing, Reservations, Run, run_of, same_or_other, select_by}
 use Terms.{select_of, SendsRight, Sent, Serial, SerialData, serve_keeps, serve_lets, serve_move, ServePlace, ServeStep}
 use Terms.{SetUp, slice_index_or, Some, SOURCES, spi_owing, SpiRepresents, SpiState, SpiTable, stands-move, StandsIn}
-use Terms.{Store, stored, stored_other, stored_same, subst, suc, sym, Take, take_gave, take_move, taker_of, ToChannel}
-use Terms.{ToDestination, Transmit, trio_of, true, unit_at, unit_over, unit_owed, unit_run, UnitBody, UnitPlace, Units}
+use Terms.{Store, stored, stored_other, stored_same, subst, sym, Take, take_gave, take_move, taker_of, ToChannel}
+use Terms.{ToDestination, trio_of, true, unit_at, unit_over, unit_owed, unit_run, UnitBody, UnitPlace, Units}
 use Terms.{unless_done, unpacked, untouched, value_of, wire_at, with_item, word_after, word_at, word_of, World, Write}
 use Terms.{zero, ℕ}
 use Rattle.spi_serving.specs.laws.{words.FacingWords.{at_is}}
@@ -47,15 +47,10 @@ serving d e u q = record { table = d; errand = e; unit = u; place = units.Serve 
 
 -- a frame whose window is over owes nothing
 pub over_none : (k : UnitBody) (q : UnitPlace) (e : FrameRole) (n : ℕ) → unless_done (unit_over k q e n).1.done (unit_owed (unit_over k q e n).0) ≡ None
-over_none k q Main zero = by (is_sync_unit k.table 1)
-  where
-    by : (sync : Bool) → unless_done (main_over k q sync).1.done (unit_owed (main_over k q sync).0) ≡ None
-    by true = refl
-    by false = refl
-over_none k q Main (suc n) = refl
-over_none k q Rest n = refl
-over_none k q Handler n = refl
-over_none k q (Transmit r) n = refl
+over_none k q Main zero =
+    elim (is_sync_unit k.table 1) as (λ sync. unless_done (main_over k q sync).1.done (unit_owed (main_over k q sync).0) ≡ None)
+    [ true ↦ refl | false ↦ refl ]
+over_none k q _ _ = refl
 
 -- the moves of a window after a further word has begun, as a frame owes them
 pub record OwesWords (d : SpiTable) (u : ℕ) (into : ServePlace → PendingWrites) : Type 0 where
@@ -129,11 +124,7 @@ module _ (d : SpiTable) (fits : FitsSpi d) (below : Reservations) (chip : Chip) 
   next = record { part = second.part; there = second.there; inside = second.inside; count = second.count }
 
   pub follows : After st going.at p (length at.part.values)
-  follows = again (next_at d fits below chip w s h u few a p i).1
-    where
-      again : Follows d fits u (word_of chip) going under.for under.represents going.at p (length first.part.values) → After st going.at p (length at.part.values)
-      again (Same e f) = Same e f
-      again (Next e f g) = Next e f g
+  follows = elim (next_at d fits below chip w s h u few a p i).1 [ Same e f ↦ Same e f | Next e f g ↦ Next e f g ]
 
   -- what came in
   abbrev pub came : ℕ

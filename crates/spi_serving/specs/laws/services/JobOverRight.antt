@@ -26,10 +26,8 @@ use Rattle.spi_serving.specs.laws.services.SequenceOverRight as over_laws
 
 -- a sequence that goes on was not cancelled, and its job ended well
 goes_by_end : (cancelled failed further : Bool) → end_by cancelled failed further ≡ None → (cancelled ≡ false) × (failed ≡ false) × (further ≡ true)
-goes_by_end true f m e = absurd (cc)
-goes_by_end false true m e = absurd (cc)
 goes_by_end false false true e = (refl, refl, refl)
-goes_by_end false false false e = absurd (cc)
+goes_by_end _ _ _ e = absurd (cc)
 
 -- one that ends has a result
 ends_by_end : (cancelled failed further : Bool) (x : AnswerName) → end_by cancelled failed further ≡ Some x → IsOfSequence x × (x ≡ SpiSeqPending → ⊥)

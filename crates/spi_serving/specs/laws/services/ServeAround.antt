@@ -14,13 +14,11 @@ use Terms.{world_after, ℕ}
 use Rattle.chip_units.specs.Serials as serials
 use Rattle.spi_jobs.specs.declared.finding.Find.TheVariants as finds
 use Rattle.spi_sequences.specs.declared.service.serve.ServePlace.TheVariants as serve
+use Rattle.plain_facts.specs.Options.{some_is}
 
 -- ---- the hardware leaves the places
 
 module _ (d : SpiTable) (u : ℕ) (f f1 : Footing) (w w1 : World) (s s1 : SpiState) (words : f1.0 ≡ f.0) (width : f1.2 u ≡ f.2 u) (now : w.now ≤ w1.now) (keeps : (run : Run) → unit_run d s u ≡ Some run → is_done w.now run.transfer ≡ true → unit_run d s1 u ≡ Some run) where
-  some_is : (x y : Run) → Some x ≡ Some y → x ≡ y
-  some_is x y e = cc
-
   done_still : (t : Transfer) → is_done w.now t ≡ true → is_done w1.now t ≡ true
   done_still t e = later t.began w.now w1.now now e
     where
@@ -126,12 +124,7 @@ module _ (d : SpiTable) (u : ℕ) where
 
   calm_find : (x : Find) → (resets_chip (find_move x) ≡ false) × (begins_word (find_move x) ≡ false)
   calm_find (finds.Newest x) = (refl, refl)
-  calm_find (finds.SetUp x) = (refl, refl)
-  calm_find (finds.Pinned x i) = (refl, refl)
-  calm_find (finds.Held x i) = (refl, refl)
-  calm_find (finds.Bank x i b) = (refl, refl)
-  calm_find (finds.Source x i) = (refl, refl)
-  calm_find (finds.Default x) = (refl, refl)
+  calm_find _ = (refl, refl)
 
   pub serve_calm : (p : ServePlace) → serve_owes p ≡ false → NotServing p → (resets_chip (serve_move d u p) ≡ false) × (begins_word (serve_move d u p) ≡ false)
   serve_calm serve.Shut e n = (refl, refl)

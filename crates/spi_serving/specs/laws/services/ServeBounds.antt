@@ -18,8 +18,7 @@ use Rattle.spi_sequences.specs.declared.service.serve.ServePlace.TheVariants as 
 
 commit_few : (x : Placed) (b : Bool) (t : Taker) → commit_more (commit_with x b t) ≤ 2
 commit_few x true (takers.Bank b) = omega arith
-commit_few x true (takers.SetUp by) = omega arith
-commit_few x false t = omega arith
+commit_few x _ _ = omega arith
 
 module _ (d : SpiTable) (l : Leaving) where
   -- the moves of the commit of the channel at a place, where it is internal
@@ -97,16 +96,12 @@ abbrev pub room_at : SpiTable → ServePlace → ℕ
 room_at d p = if serve_owes p then 1 + serve_more d p else serve_room p
 
 pub keep_few : (x : Placed) (i : ℕ) (t : Taker) (w : ℕ) → keep_more (keeping x i t w) ≤ 1
-keep_few x i (takers.Bank b) w = by (i == 0)
-  where
-    by : (q : Bool) → keep_more (if q then keeps.Hold x b w else keeps.Fill x i b w) ≤ 1
-    by true = omega arith
-    by false = omega arith
-keep_few x i (takers.SetUp set_up) w = by set_up.destination
-  where
-    by : (q : Bool) → keep_more (if q then keeps.Store x i w else keeps.Drop x) ≤ 1
-    by true = omega arith
-    by false = omega arith
+keep_few x i (takers.Bank b) w =
+    elim (i == 0) as (λ q. keep_more (if q then keeps.Hold x b w else keeps.Fill x i b w) ≤ 1)
+    [ true ↦ omega arith | false ↦ omega arith ]
+keep_few x i (takers.SetUp set_up) w =
+    elim set_up.destination as (λ q. keep_more (if q then keeps.Store x i w else keeps.Drop x) ≤ 1)
+    [ true ↦ omega arith | false ↦ omega arith ]
 
 module _ (d : SpiTable) (u : ℕ) where
   -- after the beginning of a further word
@@ -135,32 +130,25 @@ module _ (d : SpiTable) (u : ℕ) where
 
   -- a step at which a word is looked for
   found_fewer : (bound : ServePlace → ℕ) (n : ℕ) (a : Arrived) (p : Position) (x : Placed) (i : ℕ) (by : SetUp) → bound (serve.Find a p (finds.Source x i)) < n → bound (serve.Find a p (finds.Default x)) < n → bound (serve.Find a p (found_in x i by)) < n
-  found_fewer bound n a p x i by lt less = split by.source
-    where
-      split : (q : Bool) → bound (serve.Find a p (if q then finds.Source x i else finds.Default x)) < n
-      split true = lt
-      split false = less
+  found_fewer bound n a p x i by lt less =
+      elim by.source as (λ q. bound (serve.Find a p (if q then finds.Source x i else finds.Default x)) < n)
+      [ true ↦ lt | false ↦ less ]
 
   pub less_fuel : (p : ServePlace) (v : ℕ) → serve_owes p ≡ false → Fewer (fuel_at d) (serve_fuel p) (serve_takes d u p v)
   less_fuel serve.Shut v e = omega arith
-  less_fuel serve.State v e = by (v / 2 % 2 == 0)
-    where
-      by : (q : Bool) → Fewer (fuel_at d) 32 (if q then (serve.State, Over) else (serve.Running (v / 4 % 2 == 1), Goes None))
-      by true = omega arith
-      by false = omega arith
-  less_fuel (serve.Running bad) v e = by (run_in v)
-    where
-      by : (o : Option Running) → Fewer (fuel_at d) 30 (serve_run bad o)
-      by None = omega arith
-      by (Some r) = omega arith
+  less_fuel serve.State v e =
+      elim (v / 2 % 2 == 0) as (λ q. Fewer (fuel_at d) 32 (if q then (serve.State, Over) else (serve.Running (v / 4 % 2 == 1), Goes None)))
+      [ true ↦ omega arith | false ↦ omega arith ]
+  less_fuel (serve.Running bad) v e =
+      elim (run_in v) as (λ o. Fewer (fuel_at d) 30 (serve_run bad o))
+      [ None ↦ omega arith | Some r ↦ omega arith ]
   less_fuel (serve.Position r bad) v e = omega arith
   less_fuel (serve.Taker r) v e = omega arith
   less_fuel (serve.Receive r t) v e = by r.failed (further_of d (record { served = r; taker = t; word = v }))
     where
       by : (q : Bool) (o : Option Position) → fuel_at d (if q then serve.Marks (record { served = r; taker = t; word = v }) else begins_by (record { served = r; taker = t; word = v }) o) < 27
-      by true o = omega arith
       by false None = omega arith
-      by false (Some p) = omega arith
+      by _ _ = omega arith
   less_fuel (serve.Width a p) v e = by (channel_next d a p).channel.internal
     where
       by : (q : Bool) → fuel_at d (serve.Find a p (if q then finds.Pinned (channel_next d a p) p.word else finds.Held (channel_next d a p) p.word)) < 10
@@ -193,24 +181,19 @@ module _ (d : SpiTable) (u : ℕ) where
 
   pub less_room : (p : ServePlace) (v : ℕ) → serve_owes p ≡ false → Fitting p → (p ≡ serve.Shut → ⊥) → Fewer (room_at d) (serve_room p) (serve_takes d u p v)
   less_room serve.Shut v e f n = absurd (n refl)
-  less_room serve.State v e f n = by (v / 2 % 2 == 0)
-    where
-      by : (q : Bool) → Fewer (room_at d) 30 (if q then (serve.State, Over) else (serve.Running (v / 4 % 2 == 1), Goes None))
-      by true = omega arith
-      by false = omega arith
-  less_room (serve.Running bad) v e f n = by (run_in v)
-    where
-      by : (o : Option Running) → Fewer (room_at d) 29 (serve_run bad o)
-      by None = omega arith
-      by (Some r) = omega arith
+  less_room serve.State v e f n =
+      elim (v / 2 % 2 == 0) as (λ q. Fewer (room_at d) 30 (if q then (serve.State, Over) else (serve.Running (v / 4 % 2 == 1), Goes None)))
+      [ true ↦ omega arith | false ↦ omega arith ]
+  less_room (serve.Running bad) v e f n =
+      elim (run_in v) as (λ o. Fewer (room_at d) 29 (serve_run bad o))
+      [ None ↦ omega arith | Some r ↦ omega arith ]
   less_room (serve.Position r bad) v e f n = omega arith
   less_room (serve.Taker r) v e f n = omega arith
   less_room (serve.Receive r t) v e f n = by r.failed (further_of d (record { served = r; taker = t; word = v }))
     where
       by : (q : Bool) (o : Option Position) → room_at d (if q then serve.Marks (record { served = r; taker = t; word = v }) else begins_by (record { served = r; taker = t; word = v }) o) < 26
-      by true o = omega arith
       by false None = omega arith
-      by false (Some p) = omega arith
+      by _ _ = omega arith
   less_room (serve.Width a p) v e f n = by (channel_next d a p).channel.internal
     where
       by : (q : Bool) → room_at d (serve.Find a p (if q then finds.Pinned (channel_next d a p) p.word else finds.Held (channel_next d a p) p.word)) < 9

@@ -21,6 +21,7 @@ use Rattle.spi_serving.specs.laws.{bookkeeping.UnderWay.{under_way}}
 use Rattle.chip_units.specs.Serials as serials
 use Rattle.spi_jobs.specs.declared.finding.Find.TheVariants as finds
 use Rattle.spi_sequences.specs.declared.service.serve.ServePlace.TheVariants as serve
+use Rattle.plain_facts.specs.Options.{some_is}
 
 -- the load that is made
 pub asks_load : (x : Placed) (i : ℕ) → asking x i ≡ Load (asked_word x i)
@@ -86,9 +87,6 @@ module _ (d : SpiTable) (fits : FitsSpi d) (below : Reservations) (chip : Chip) 
           came run is good =
               let same : i.served.done.run ≡ run = some_is i.served.done.run run (sym i.served.done.is ∙ is) in
               received_says d fits below chip w s h u few run is (subst (λ (z : Run). is_done w.now z.transfer ≡ true) same i.served.done.done) good
-            where
-              some_is : (x y : Run) → Some x ≡ Some y → x ≡ y
-              some_is x y e = cc
 
       by : (b : Bool) → r.failed ≡ b → (o : Option Position) → further_of d a ≡ o → Decided chip (begins_of d a, Goes None)
       by true e o f = subst (λ z. Decided chip (z, Goes None)) (sym ends) (h, record { arrived = arrived; ends = ends })
@@ -119,9 +117,6 @@ module _ (d : SpiTable) (fits : FitsSpi d) (below : Reservations) (chip : Chip) 
     -- where it is found, the place of its beginning stands
     begins_with : (v : ℕ) → v ≡ (word_after i.arrived.taken.served.done.run).sent → Decided chip (serve.Begin a p v, Goes None)
     begins_with v e = (h, (i, wide, λ run is. e ∙ ap (λ (z : Run). (word_after z).sent) (some_is i.arrived.taken.served.done.run run (sym i.arrived.taken.served.done.is ∙ is))))
-      where
-        some_is : (x y : Run) → Some x ≡ Some y → x ≡ y
-        some_is x y e = cc
 
     found_at : (x : Placed) → channel_next d a p ≡ x → (v : ℕ) → (by : SetUp) → unpacked (word_of chip (held_word x)) ≡ by → x.channel.internal ≡ false → IsFinding (word_of chip) x p.word (found_in x p.word by)
     found_at x e v by f external = split by.source refl

@@ -19,11 +19,7 @@ below_two : (u : ℕ) → u < 2 → nat_lt u 2 ≡ true
 below_two u lt = grind (arith, nat_tests)
 
 or_may : (d : SpiTable) (made : Move) → may d made ≡ true → is_shared made || may d made ≡ true
-or_may d made e = by (is_shared made)
-  where
-    by : (q : Bool) → q || may d made ≡ true
-    by true = refl
-    by false = e
+or_may d made e = elim (is_shared made) as (λ q. q || may d made ≡ true) [ true ↦ refl | false ↦ e ]
 
 module _ (d : SpiTable) (fits : FitsSpi d) (below : Reservations) (chip : Chip) (w : World) (s : SpiState) (h : SpiRepresents d below chip w s) (u : ℕ) (few : u < 2) where
   -- the load that tells where a word goes

@@ -108,13 +108,12 @@ module _ (d : SpiTable) (fits : FitsSpi d) (e : FrameRole) (below : Reservations
   steps_right (serve.Find a p x) f k (i, wide, finding) = found x finding
     where
       found : (x : Find) → IsFinding (word_of chip) (channel_next d a p) p.word x → Step (find_move x) (serve.Find a p x)
-      found (finds.Newest z) j = absurd j
-      found (finds.SetUp z) j = absurd j
       found (finds.Pinned z n) j = decided chip (find_move (finds.Pinned z n)) (serve_takes d u (serve.Find a p (finds.Pinned z n)) (value_of chip (find_move (finds.Pinned z n)))) (find_decides d fits below chip w s h u few a p i wide (channel_next d a p) refl (finds.Pinned z n) j)
       found (finds.Held z n) j = decided chip (find_move (finds.Held z n)) (serve_takes d u (serve.Find a p (finds.Held z n)) (value_of chip (find_move (finds.Held z n)))) (find_decides d fits below chip w s h u few a p i wide (channel_next d a p) refl (finds.Held z n) j)
       found (finds.Bank z n b) j = decided chip (find_move (finds.Bank z n b)) (serve_takes d u (serve.Find a p (finds.Bank z n b)) (value_of chip (find_move (finds.Bank z n b)))) (find_decides d fits below chip w s h u few a p i wide (channel_next d a p) refl (finds.Bank z n b) j)
       found (finds.Source z n) j = decided chip (find_move (finds.Source z n)) (serve_takes d u (serve.Find a p (finds.Source z n)) (value_of chip (find_move (finds.Source z n)))) (find_decides d fits below chip w s h u few a p i wide (channel_next d a p) refl (finds.Source z n) j)
       found (finds.Default z) j = decided chip (find_move (finds.Default z)) (serve_takes d u (serve.Find a p (finds.Default z)) (value_of chip (find_move (finds.Default z)))) (find_decides d fits below chip w s h u few a p i wide (channel_next d a p) refl (finds.Default z) j)
+      found _ j = absurd j
   steps_right (serve.Begin a p v) f k (i, wide, word) = record {
     state = state1 d fits below chip w s h u few async a p v y i wide word;
     notices = [];

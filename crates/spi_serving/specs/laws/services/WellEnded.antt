@@ -25,6 +25,7 @@ use Rattle.spi_serving.specs.laws.{words.SidesApart.{is_inside, says_inside}, bo
 use Rattle.spi_serving.specs.laws.bookkeeping.PinsTurned.{none_received}
 use Rattle.spi_serving.specs.laws.{ToServe.{ToServe}}
 use Rattle.word_shapes.specs.TripleBuffer as trio
+use Rattle.plain_facts.specs.Truths.{and_false}
 
 -- a channel has a part of the job, or none
 pub part_or_none : (xs : List Part) (c : ℕ) → ((n : ℕ) × (x : Part) × (slice_get xs n ≡ Some x) × (x.channel ≡ c)) ⊎ ((n : ℕ) (x : Part) → slice_get xs n ≡ Some x → x.channel ≢ c)
@@ -192,10 +193,6 @@ module _ (st : ToServe) where
             no_goes false x = refl
             no_goes true (inl x) = ap (λ q. q && g.at.word == i) (other_number at.part.channel n (λ f. x (sym f)))
             no_goes true (inr x) = ap (λ q. at.part.channel == n && q) (other_number g.at.word i (λ f. x (sym f))) ∙ and_false (at.part.channel == n)
-              where
-                and_false : (q : Bool) → q && false ≡ false
-                and_false true = refl
-                and_false false = refl
 
         -- the word itself
         this : (to : Bool) → (unpacked (word_of chip (held_word its))).destination ≡ to → n ≡ at.part.channel → i ≡ g.at.word → word_of c (place_of (Destination n) i) ≡ word_at (channel_at out n).destination i

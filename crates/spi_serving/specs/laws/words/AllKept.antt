@@ -24,11 +24,9 @@ use Rattle.spi_sequences.specs.declared.service.serve.ServePlace.TheVariants as 
 -- ---- places after a job's last word owe moves
 
 pub commit_owes : (d : SpiTable) (l : Leaving) (n : ℕ) → serve_owes (commit_last d l n) ≡ true
-commit_owes d l n = by (first_internal d l.served n)
-  where
-    by : (o : Option ℕ) → serve_owes (commit_by d l o) ≡ true
-    by None = refl
-    by (Some i) = refl
+commit_owes d l n =
+    elim (first_internal d l.served n) as (λ o. serve_owes (commit_by d l o) ≡ true)
+    [ None ↦ refl | Some i ↦ refl ]
 
 pub lt_else : (i n : ℕ) → i ≢ n → nat_lt i (suc n) ≡ nat_lt i n
 lt_else i n ne = grind (arith, nat_tests)

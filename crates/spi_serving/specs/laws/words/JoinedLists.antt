@@ -41,14 +41,13 @@ module _ {A : Type 0} (size : A → ℕ) where
       omega (arith, rest, more, less)
 
   pub before-less : (xs : List A) (n k : ℕ) → n ≤ k → before xs n ≤ before xs k
-  before-less xs zero k le = omega arith
   before-less xs (suc n) zero le = absurd (omega (arith, le))
-  before-less [] (suc n) (suc k) le = omega arith
   before-less (y ∷ ys) (suc n) (suc k) le =
       let rest = before-less ys n k (omega (arith, le)) in
       let more = sum_by-cons size y (take k ys) in
       let less = sum_by-cons size y (take n ys) in
       omega (arith, rest, more, less)
+  before-less _ _ _ le = omega arith
 
   pub before-all : (xs : List A) (n : ℕ) → length xs ≤ n → before xs n ≡ sum_by size xs
   before-all [] zero le = refl
@@ -110,12 +109,10 @@ taken-same (suc n) [] ys le = absurd (omega (arith, le))
 taken-same (suc n) (x ∷ xs) ys le = ap (λ zs. x ∷ zs) (taken-same n xs ys (omega (arith, le)))
 
 pub taken-all : {A : Type 0} (n : ℕ) (xs : List A) → length xs ≤ n → take n xs ≡ xs
-taken-all zero [] le = refl
 taken-all zero (x ∷ xs) le = absurd (omega (arith, le))
-taken-all (suc n) [] le = refl
 taken-all (suc n) (x ∷ xs) le = ap (λ zs. x ∷ zs) (taken-all n xs (omega (arith, le)))
+taken-all _ _ le = refl
 
 pub dropped-count : {A : Type 0} (n : ℕ) (xs : List A) → length (drop n xs) ≡ length xs - n
-dropped-count zero xs = omega arith
-dropped-count (suc n) [] = omega arith
 dropped-count (suc n) (x ∷ xs) = let rest = dropped-count n xs in omega (arith, rest)
+dropped-count _ _ = omega arith

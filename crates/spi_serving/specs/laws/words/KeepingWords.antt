@@ -20,6 +20,7 @@ use Rattle.spi_serving.specs.laws.{words.SidesApart.{banks_words, is_inside, say
 use Rattle.spi_serving.specs.laws.{bookkeeping.PinsTurned.{After, At, going1, none_received, put_more, put_stays}}
 use Rattle.spi_serving.specs.laws.{bookkeeping.PinsTurned.{take_ends, take_stays}, ToServe.{ToServe}}
 use Rattle.word_shapes.specs.TripleBuffer as trio
+use Rattle.plain_facts.specs.Options.{some_is}
 
 -- a list of no items
 pub none_of : (xs : List ℕ) → length xs ≡ 0 → xs ≡ []
@@ -35,9 +36,8 @@ pub free_small : (v : ℕ) → free v < 3
 free_small v = by (not (used v 0)) (not (used v 1))
   where
     by : (a b : Bool) → (if a then 0 else if b then 1 else 2) < 3
-    by true b = omega arith
     by false true = omega arith
-    by false false = omega arith
+    by _ _ = omega arith
 
 pub free_same : (v : ℕ) → free_bank v ≡ free v
 free_same v = let small = free_small v in omega (arith, small)
@@ -493,9 +493,6 @@ module _ (st : ToServe) (at : At st st.g.at (length st.g.received)) (p : Positio
           let apart = apart_of n k (held_word (placed_of d n)) known word (own_lower n k known (held_word (placed_of d n)) word) (λ i e. banks_unheld d fits next.part.channel tk.0 tk.1 (ti i) Sent n k known)
           (λ e i. absurd (let same = sym (ap (channel_of d) e ∙ hk.1) ∙ known in let one : hk.0 ≡ k = some_is hk.0 k same in let f = sym i ∙ ap (λ (z : Channel). z.internal) (has_channel d fits at.part.channel hk.0 hk.1 ∙ one) ∙ external in cc)) in
           last_other (held_word (placed_of d n)) apart.0 apart.1 (λ e. let le = past_the_first d n k (held_word (placed_of d n)) (fits.channels n k known) word in absurd (omega (arith, le, e, few)))
-        where
-          some_is : (a b : Channel) → Some a ≡ Some b → a ≡ b
-          some_is a b e = cc
 
       set_up_all : (n : ℕ) (k : Channel) → channel_of d n ≡ Some k → word_of last_chip (set_up_word (placed_of d n)) ≡ word_of chip (set_up_word (placed_of d n))
       set_up_all n k known = set_up_other n k known

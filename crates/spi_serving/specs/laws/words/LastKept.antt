@@ -23,6 +23,7 @@ use Rattle.spi_serving.specs.laws.{words.SidesApart.{banks_fit, banks_own, is_in
 use Rattle.spi_serving.specs.laws.{bookkeeping.PinsTurned.{none_received}, ToServe.{ToServe}}
 use Rattle.word_shapes.specs.TripleBuffer as trio
 use Rattle.spi_jobs.specs.declared.keeping.Keep.TheVariants as keeps
+use Rattle.plain_facts.specs.Numbers.{lt_is}
 
 taken_all : (a i n k : ℕ) → n < a → (if nat_lt n a then k else if n == a then i else 0) ≡ k
 taken_all a i n k lt = grind (arith, nat_tests)
@@ -148,15 +149,12 @@ module _ (st : ToServe) (at : At st st.g.at (length st.g.received))
         less : (n a : ℕ) → n ≢ a → (a < n → ⊥) → n < a
         less n a ne never = split (nat_lt n a) refl (nat_lt a n) refl
           where
-            below_it : (n a : ℕ) → nat_lt n a ≡ true → n < a
-            below_it n a e = grind (arith, nat_tests)
-
             alike_then : (n a : ℕ) → nat_lt n a ≡ false → nat_lt a n ≡ false → n ≡ a
             alike_then n a e f = grind (arith, nat_tests)
 
             split : (q : Bool) → nat_lt n a ≡ q → (r : Bool) → nat_lt a n ≡ r → n < a
-            split true e r f = below_it n a e
-            split false e true f = absurd (never (below_it a n f))
+            split true e r f = lt_is n a e
+            split false e true f = absurd (never (lt_is a n f))
             split false e false f = absurd (ne (alike_then n a e f))
 
         words_same : (n : ℕ) (x : Part) → slice_get g.parts n ≡ Some x → n ≢ g.at.channel → (j : ℕ) → j < SOURCES → STATE + 64 ≤ j → (here.channel.internal ≡ true → trio.own_of t j ≡ false) → (here.channel.internal ≡ true → j ≢ held_word here) → word_of c j ≡ word_of chip j

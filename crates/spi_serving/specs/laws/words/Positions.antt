@@ -161,9 +161,6 @@ module _ (d : SpiTable) (fits : FitsSpi d) (u : ℕ) (m : Memory) (g : Going) (f
   ahead_next p q size (Same e f) = ahead_same p.channel q.channel p.word q.word e f
   ahead_next p q size (Next e f g) = ahead_other p.channel q.channel p.word q.word e
 
-  some_is : (p q : Position) → Some p ≡ Some q → p ≡ q
-  some_is p q e = cc
-
   module _ (p : Position) (k : ℕ) (at : Stands p k) where
     most : length at.part.values ≤ 64
     most = part_most p.channel at.part at.there

@@ -21,13 +21,13 @@ use Rattle.spi_serving.specs.laws.{words.SidesApart.{banks_fit, banks_of_one, ba
 use Rattle.spi_serving.specs.laws.{words.SidesApart.{is_inside}, ToServe.{ToServe}}
 use Rattle.word_shapes.specs.TripleBuffer as trio
 use Rattle.spi_sequences.specs.declared.service.serve.ServePlace.TheVariants as serve
+use Rattle.std.proofs.lemmas.Bool.{not-false}
+use Rattle.plain_facts.specs.Truths.{and_first}
 
 pub release_owes : (d : SpiTable) (l : Leaving) (n : ℕ) → serve_owes (release_last d l n) ≡ true
-release_owes d l n = by (first_pinned d l.served n)
-  where
-    by : (o : Option ℕ) → serve_owes (release_by d l o) ≡ true
-    by None = refl
-    by (Some i) = refl
+release_owes d l n =
+    elim (first_pinned d l.served n) as (λ o. serve_owes (release_by d l o) ≡ true)
+    [ None ↦ refl | Some i ↦ refl ]
 
 -- which words are still to be begun
 begun_before : (a i n k : ℕ) → nat_lt n a ≡ true → (nat_lt a n || (n == a && nat_lt (i + 1) k)) ≡ false
@@ -204,11 +204,7 @@ module _ (st : ToServe) (fc : Chip) (freed : IsFree st.d st.w st.chip st.u fc) w
       all_begun : (n : ℕ) (x : Part) → slice_get g.parts n ≡ Some x → pinned_by n x ≡ false → (placed_of d x.channel).channel.internal ≡ true → is_to_begin g.at n (length x.values) ≡ false
       all_begun n x there none inside =
           let a : InternalAgrees (placed_of d x.channel).channel x = subst (λ q. PartBy q (word_of chip) (placed_of d x.channel) g.at n x) inside ((agrees_at d fits below chip w s h on u g few is).parts n x there).1 in
-          begun_here g.at.channel g.at.word n (length x.values) (ap (λ k. n == g.at.channel && nat_le k (g.at.word + 1)) a.count ∙ twice (n == g.at.channel && is_last_place (placed_of d x.channel) g.at.word) (sym (ap (λ q. q && not (n == g.at.channel && is_last_place (placed_of d x.channel) g.at.word)) inside) ∙ none))
-        where
-          twice : (q : Bool) → not q ≡ false → q ≡ true
-          twice true e1 = refl
-          twice false e1 = absurd (cc)
+          begun_here g.at.channel g.at.word n (length x.values) (ap (λ k. n == g.at.channel && nat_le k (g.at.word + 1)) a.count ∙ not-false (n == g.at.channel && is_last_place (placed_of d x.channel) g.at.word) (sym (ap (λ q. q && not (n == g.at.channel && is_last_place (placed_of d x.channel) g.at.word)) inside) ∙ none))
 
       small : (m n : ℕ) → n + suc m ≡ 4 → nat_lt 3 m ≡ false
       small m n four = past m (omega (arith, four))
@@ -235,14 +231,10 @@ module _ (st : ToServe) (fc : Chip) (freed : IsFree st.d st.w st.chip st.u fc) w
           skip : More → meets n ≡ false → ((x : Part) → slice_get g.parts n ≡ Some x → (placed_of d x.channel).channel.internal ≡ true → is_to_begin g.at n (length x.values) ≡ false) → Owes (release_last d l (suc m)) c
           skip more f none = subst (λ q. Owes q c) (sym (first_is m n four false f)) (more c (lifted n c a none))
 
-          inside_of : (a b : Bool) → a && b ≡ true → a ≡ true
-          inside_of true b e1 = refl
-          inside_of false b e1 = absurd (cc)
-
           one : More → (x : Part) → slice_get g.parts n ≡ Some x → (q : Bool) → pinned_by n x ≡ q → Owes (release_last d l (suc m)) c
           one more x at false f = skip more (meets_some n x at ∙ f) (λ z bt i. all_begun n z bt (ap (pinned_by n) (some_is z x (sym bt ∙ at)) ∙ f) i)
           one more x at true f = subst (λ q. Owes q c) (sym (first_is m n four true (meets_some n x at ∙ f)))
-              (release_one n x at (inside_of (placed_of d x.channel).channel.internal (not (n == g.at.channel && is_last_place (placed_of d x.channel) g.at.word)) f) job_is c a
+              (release_one n x at (and_first (placed_of d x.channel).channel.internal (not (n == g.at.channel && is_last_place (placed_of d x.channel) g.at.word)) f) job_is c a
               (λ c1 a1. subst (λ k. Owes (release_last d l k) c1) (let same : m ≡ 3 - n = omega (arith, four) in same) (more c1 a1)))
 
           by : More → (o : Option Part) → slice_get g.parts n ≡ o → Owes (release_last d l (suc m)) c

@@ -54,11 +54,8 @@ module _ (d : SpiTable) (fits : FitsSpi d) (u : ℕ) (few : u < 2) where
       from e = omega (arith, at)
 
       below : (e : ℕ) → e < 4 → bank_word (placed_of d b) Sent e 0 < STATE + block_of d b + 4 + banked k
-      below zero lt = omega (arith, at, len, some, size)
-      below (suc zero) lt = omega (arith, at, len, some, size)
-      below (suc (suc zero)) lt = omega (arith, at, len, some, size)
-      below (suc (suc (suc zero))) lt = omega (arith, at, len, some, size)
       below (suc (suc (suc (suc e)))) lt = absurd (omega (arith, lt))
+      below _ lt = omega (arith, at, len, some, size)
 
   pub may_find : (b : ℕ) (k : Channel) → channel_of d b ≡ Some k → (p : Find) → LooksAt d b k p → may d (find_move p) ≡ true
   may_find b k known (finds.Newest x) (is, internal) = subst (λ z. may d (Load (control_word z Sent)) ≡ true) (sym is) (may_store d fits (control_word (placed_of d b) Sent) 0 (own_banks d fits b k known internal Sent (control_word (placed_of d b) Sent) (own-control (trio_of (placed_of d b) Sent))))
@@ -72,11 +69,7 @@ module _ (d : SpiTable) (fits : FitsSpi d) (u : ℕ) (few : u < 2) where
   may_find b k known (finds.Held x i) is = absurd is
 
   pub or_may : (made : Move) → may d made ≡ true → is_shared made || may d made ≡ true
-  or_may made e = by (is_shared made)
-    where
-      by : (q : Bool) → q || may d made ≡ true
-      by true = refl
-      by false = e
+  or_may made e = elim (is_shared made) as (λ q. q || may d made ≡ true) [ true ↦ refl | false ↦ e ]
 
   may_front : (p : Front) (n : ℕ) (m : Memory) (D : Memory → List ℕ → Type 0) → Ends choosing_front (ranked.own_of (record { at = order_word u })) n p m D → may d (front_move p) ≡ true
   may_front p zero m D ends = absurd ends
@@ -101,41 +94,20 @@ module _ (d : SpiTable) (fits : FitsSpi d) (u : ℕ) (few : u < 2) where
 
 -- a place where something stands owes no moves
 pub none_owed : (d : SpiTable) (u : ℕ) (p : StartPlace) (f : Seen) (s : SpiState) → start_place d u p f s → start_owes p ≡ false
-none_owed d u start.Shut f s at = refl
-none_owed d u start.Running f s at = refl
-none_owed d u start.Nexts f s at = refl
-none_owed d u (start.Marks v) f s at = refl
-none_owed d u (start.Front v x p) f s at = refl
-none_owed d u (start.Find c p) f s at = refl
-none_owed d u (start.Select c x) f s at = refl
-none_owed d u (start.Width c x) f s at = refl
-none_owed d u (start.Begin c x) f s at = refl
 none_owed d u (start.Choose c p) f s at = absurd at
 none_owed d u (start.Mark c) f s at = absurd at
 none_owed d u (start.Prepare r i p) f s at = absurd at
 none_owed d u (start.Release r p) f s at = absurd at
 none_owed d u (start.Run r) f s at = absurd at
 none_owed d u start.Stand f s at = absurd at
+none_owed d u _ f s at = refl
 
 -- ---- what is left
 
 -- a place that owes moves has these left
 pub owed_left_is : (p : StartPlace) → (if start_owes p then 1 + start_more p else start_left p) ≡ start_left p
 owed_left_is start.Shut = refl
-owed_left_is start.Running = refl
-owed_left_is start.Nexts = refl
-owed_left_is (start.Marks v) = refl
-owed_left_is (start.Front v x p) = refl
-owed_left_is (start.Find c p) = refl
-owed_left_is (start.Select c x) = refl
-owed_left_is (start.Width c x) = refl
-owed_left_is (start.Begin c x) = refl
-owed_left_is (start.Choose c p) = refl
-owed_left_is (start.Mark c) = refl
-owed_left_is (start.Prepare r i p) = refl
-owed_left_is (start.Release r p) = refl
-owed_left_is (start.Run r) = refl
-owed_left_is start.Stand = refl
+owed_left_is _ = refl
 
 -- a step leaves fewer moves, or was the last one
 abbrev pub Fewer : ℕ → StartPlace × Started → Type 0
@@ -163,54 +135,35 @@ module _ (d : SpiTable) (u : ℕ) where
   found_in_few c false x = omega arith
 
   finds_fewer : (c : Chosen) (p : Find) (x : ℕ) → Fewer (21 + find_more p) (start_finds c p x (find_gave p x))
-  finds_fewer c (finds.Newest x) v = omega arith
   finds_fewer c (finds.SetUp x) v = found_in_few c (or_none v x.channel).source x
-  finds_fewer c (finds.Pinned x i) v = omega arith
-  finds_fewer c (finds.Held x i) v = by (unpacked v).source
-    where
-      by : (q : Bool) → 21 + find_more (if q then finds.Source x i else finds.Default x) < 22
-      by true = omega arith
-      by false = omega arith
-  finds_fewer c (finds.Bank x i b) v = omega arith
-  finds_fewer c (finds.Source x i) v = omega arith
-  finds_fewer c (finds.Default x) v = omega arith
+  finds_fewer c (finds.Held x i) v =
+      elim (unpacked v).source as (λ q. 21 + find_more (if q then finds.Source x i else finds.Default x) < 22)
+      [ true ↦ omega arith | false ↦ omega arith ]
+  finds_fewer c _ v = omega arith
 
   pub start_shorter : (p : StartPlace) (v : ℕ) → start_owes p ≡ false → Fewer (start_left p) (start_takes d u p v)
-  start_shorter start.Shut v e = omega arith
-  start_shorter start.Running v e = by (v == 0)
-    where
-      by : (q : Bool) → Fewer 28 (if q then (start.Nexts, started.Goes None) else (start.Running, started.Over))
-      by true = omega arith
-      by false = omega arith
-  start_shorter start.Nexts v e = omega arith
-  start_shorter (start.Marks x) v e = omega arith
+  start_shorter start.Running v e =
+      elim (v == 0) as (λ q. Fewer 28 (if q then (start.Nexts, started.Goes None) else (start.Running, started.Over)))
+      [ true ↦ omega arith | false ↦ omega arith ]
   start_shorter (start.Front x m p) v e = looks_fewer x m p v
   start_shorter (start.Find c p) v e = finds_fewer c p v
-  start_shorter (start.Select c x) v e = omega arith
-  start_shorter (start.Width c x) v e = omega arith
-  start_shorter (start.Begin c x) v e = omega arith
   start_shorter (start.Choose c p) v e = absurd (cc)
   start_shorter (start.Mark c) v e = absurd (cc)
   start_shorter (start.Prepare r i p) v e = absurd (cc)
   start_shorter (start.Release r p) v e = absurd (cc)
   start_shorter (start.Run r) v e = absurd (cc)
   start_shorter start.Stand v e = absurd (cc)
+  start_shorter _ v e = omega arith
 
   -- ---- what is no start resets nothing and begins no word
 
   calm_front : (z : Search) → (resets_chip (search_move z) ≡ false) × (begins_word (search_move z) ≡ false)
   calm_front (search.Tally at) = (refl, refl)
-  calm_front (search.Low at tally) = (refl, refl)
-  calm_front (search.High at tally low) = (refl, refl)
+  calm_front _ = (refl, refl)
 
   calm_find : (p : Find) → (resets_chip (find_move p) ≡ false) × (begins_word (find_move p) ≡ false)
   calm_find (finds.Newest x) = (refl, refl)
-  calm_find (finds.SetUp x) = (refl, refl)
-  calm_find (finds.Pinned x i) = (refl, refl)
-  calm_find (finds.Held x i) = (refl, refl)
-  calm_find (finds.Bank x i b) = (refl, refl)
-  calm_find (finds.Source x i) = (refl, refl)
-  calm_find (finds.Default x) = (refl, refl)
+  calm_find _ = (refl, refl)
 
   -- the place isn't that of the start
   abbrev pub NotStart : StartPlace → Type 0
@@ -218,14 +171,8 @@ module _ (d : SpiTable) (u : ℕ) where
   NotStart p = Unit {0}
 
   pub start_calm : (p : StartPlace) → start_owes p ≡ false → NotStart p → (resets_chip (start_move d u p) ≡ false) × (begins_word (start_move d u p) ≡ false)
-  start_calm start.Shut e n = (refl, refl)
-  start_calm start.Running e n = (refl, refl)
-  start_calm start.Nexts e n = (refl, refl)
-  start_calm (start.Marks x) e n = (refl, refl)
   start_calm (start.Front x m p) e n = calm_front p.search
   start_calm (start.Find c p) e n = calm_find p
-  start_calm (start.Select c x) e n = (refl, refl)
-  start_calm (start.Width c x) e n = (refl, refl)
   start_calm (start.Begin c x) e n = absurd n
   start_calm (start.Choose c p) e n = absurd (cc)
   start_calm (start.Mark c) e n = absurd (cc)
@@ -233,6 +180,7 @@ module _ (d : SpiTable) (u : ℕ) where
   start_calm (start.Release r p) e n = absurd (cc)
   start_calm (start.Run r) e n = absurd (cc)
   start_calm start.Stand e n = absurd (cc)
+  start_calm _ e n = (refl, refl)
 
   -- ---- places that owe moves
 
@@ -243,33 +191,19 @@ module _ (d : SpiTable) (u : ℕ) where
   GoesOwing (x, started.Over) = Unit {0}
 
   pub owed_goes : (p : StartPlace) (v : ℕ) → start_owes p ≡ true → GoesOwing (start_takes d u p v)
-  owed_goes (start.Choose c p) v e = by (has_ended (next_gave p v))
-    where
-      by : (q : Bool) → GoesOwing (start_chooses c p v q)
-      by true = refl
-      by false = refl
+  owed_goes (start.Choose c p) v e =
+      elim (has_ended (next_gave p v)) as (λ q. GoesOwing (start_chooses c p v q))
+      [ true ↦ refl | false ↦ refl ]
   owed_goes (start.Mark c) v e = prepare_owes d c.run 0
-  owed_goes (start.Prepare r i p) v e = by (prepare_ends p v)
-    where
-      by : (q : Bool) → GoesOwing (start_prepares d r i p v q)
-      by true = next_owes d r i
-      by false = refl
-  owed_goes (start.Release r p) v e = by (has_ended (take_gave p v))
-    where
-      by : (q : Bool) → GoesOwing (start_releases r p v q)
-      by true = refl
-      by false = refl
+  owed_goes (start.Prepare r i p) v e =
+      elim (prepare_ends p v) as (λ q. GoesOwing (start_prepares d r i p v q))
+      [ true ↦ next_owes d r i | false ↦ refl ]
+  owed_goes (start.Release r p) v e =
+      elim (has_ended (take_gave p v)) as (λ q. GoesOwing (start_releases r p v q))
+      [ true ↦ refl | false ↦ refl ]
   owed_goes (start.Run r) v e = refl
   owed_goes start.Stand v e = tt
-  owed_goes start.Shut v e = absurd (cc)
-  owed_goes start.Running v e = absurd (cc)
-  owed_goes start.Nexts v e = absurd (cc)
-  owed_goes (start.Marks x) v e = absurd (cc)
-  owed_goes (start.Front x m p) v e = absurd (cc)
-  owed_goes (start.Find c p) v e = absurd (cc)
-  owed_goes (start.Select c x) v e = absurd (cc)
-  owed_goes (start.Width c x) v e = absurd (cc)
-  owed_goes (start.Begin c x) v e = absurd (cc)
+  owed_goes _ v e = absurd (cc)
 
 -- ---- the hardware leaves the places
 

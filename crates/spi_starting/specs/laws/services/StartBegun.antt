@@ -23,6 +23,7 @@ use Rattle.word_shapes.specs.PriorityQueue as ranked
 use Rattle.word_shapes.specs.TripleBuffer as trio
 use Rattle.word_shapes.specs.declared.choosing.Next.TheVariants as nexts
 use Rattle.spi_sequences.specs.declared.service.start.StartPlace.TheVariants as start
+use Rattle.plain_facts.specs.Numbers.{lt_zero}
 
 -- what a start has chosen: the next job of this sequence, by the words of next jobs and of marks
 abbrev pub choosing : SpiTable → Chip → Pending → Chosen
@@ -110,12 +111,9 @@ module _ (st : ToStart) (next : next_on st.d st.u st.s.pending ≡ Some st.p) (w
 
     sends_now : (n b : ℕ) (k : Channel) → slice_get cs n ≡ Some b → channel_of d b ≡ Some k → k.internal ≡ true → SentAt d held s b k (word_of marked) (upto 0 0 n k.length)
     sends_now n b k here known internal =
-        subst (λ q. SentAt d held s b k (word_of marked) q) (sym (from_none 0 n ∙ none_before n))
+        subst (λ q. SentAt d held s b k (word_of marked) q) (sym (from_none 0 n ∙ lt_zero n))
         (sent_before (of_start st) (word_of marked) n b k here known internal kept)
       where
-        none_before : (n : ℕ) → nat_lt n 0 ≡ false
-        none_before n = grind (arith, nat_tests)
-
         kept : (i : ℕ) → trio.own_of (trio_of (placed_of d b) Sent) i ≡ true → word_of chip i ≡ word_of marked i
         kept i mine = sym (same i (not_true (own i) (λ e. let f = sym mine ∙ not_first d fits b k known internal Sent i (let high = to_order u i e in omega (arith, high, few)) in cc)) (λ e. let f = sym mine ∙ ap (trio.own_of (trio_of (placed_of d b) Sent)) e ∙ not_first d fits b k known internal Sent MARKS (omega arith) in cc))
 
@@ -127,11 +125,8 @@ module _ (st : ToStart) (next : next_on st.d st.u st.s.pending ≡ Some st.p) (w
       order = holds-agree (record { at = order_word u }) (word_of c) (word_of marked) _ (λ j mine. sym (stored_other c MARKS mark 0 j (λ e. let low = from_order u j mine in omega (arith, low, e)))) holds;
       marks = stored_same c MARKS mark 0 (omega arith) differs.whole;
       sends = sends_now;
-      holds = λ n b k here known external now. absurd (let f = sym (none_before n) ∙ now in cc);
+      holds = λ n b k here known external now. absurd (let f = sym (lt_zero n) ∙ now in cc);
     }
-      where
-        none_before : (n : ℕ) → nat_lt n 0 ≡ false
-        none_before n = grind (arith, nat_tests)
 
     marks_owed : Settling (start.Mark chose) c
     marks_owed =

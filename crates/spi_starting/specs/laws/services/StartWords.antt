@@ -5,15 +5,15 @@ use Rattle.std.proofs.Common.{◌≡◌, ◌≢◌, ◌+◌, ◌<◌, ◌&&◌, 
 use Rattle.spi_starting.specs.Terms
 use Terms.{after_start, Answer, ap, AreThere, arith, as_read, Bool, Channel, channel_at, channel_at_place}
 use Terms.{channel_number, channel_of, channels_of, Chip, chip_after, cleared_of, clears, CommitsAfter, control_word}
-use Terms.{false, FrameRole, from_order, Handler, has_channel, held_is, holds-agree, in_order, inl, inr, is_some}
+use Terms.{false, FrameRole, from_order, has_channel, held_is, holds-agree, in_order, inl, inr, is_some}
 use Terms.{is_sync_unit, is_to_begin, IsPart, Job, job_of, length, List, list_of, Main, main_over, MARKS, may_store}
 use Terms.{named_own, nat_le, nat_lt, nat_tests, next_job, None, one_owed, Option, or_none, order_word, own_banks}
 use Terms.{own_first, own_low, packed, packed_run, PartTo, PendingWrites, pinning, Placed, placed_by, placed_of}
 use Terms.{position_word, Prepare, prepare_at, prepare_by, prepare_ends, prepare_left, prepared, prepared_with, refl}
-use Terms.{release-ends, releasing, releasing_of, Reservations, Rest, Running, running_word, Sent, set_up_or}
+use Terms.{release-ends, releasing, releasing_of, Reservations, Running, running_word, Sent, set_up_or}
 use Terms.{set_up_word, settles_part, slice_get, Some, some_is, spi_owing, SpiRepresents, SpiState, SpiTable}
 use Terms.{start_owes, start_prepares, start_releases, Started, StartPlace, Store, stored_other, stored_same, subst}
-use Terms.{suc, sym, Take, take_gave, taking, Transmit, trio_fits, trio_of, TripleBuffer, true, unit_over, unit_owed}
+use Terms.{suc, sym, Take, take_gave, taking, trio_fits, trio_of, TripleBuffer, true, unit_over, unit_owed}
 use Terms.{UnitBody, UnitPlace, Units, unless_done, where_owed, word_of, zero, ℕ}
 use Rattle.spi_starting.specs.laws.{words.UnitWords.{ran_agrees}, bookkeeping.ChosenNext.{first_there, number_at}}
 use Rattle.spi_starting.specs.laws.{words.ReadyWords.{before, beside_first, beside_quiet, from_none, Ready, ready_first}}
@@ -37,15 +37,10 @@ starting d e u x = record { table = d; errand = e; unit = u; place = units.Start
 
 -- after the last move the window owes nothing
 pub over_owes : (k : UnitBody) (x : UnitPlace) (e : FrameRole) (u : ℕ) → unless_done (unit_over k x e u).1.done (unit_owed (unit_over k x e u).0) ≡ None
-over_owes k x Main zero = by (is_sync_unit k.table 1)
-  where
-    by : (sync : Bool) → unless_done (main_over k x sync).1.done (unit_owed (main_over k x sync).0) ≡ None
-    by true = refl
-    by false = refl
-over_owes k x Main (suc u) = refl
-over_owes k x Rest u = refl
-over_owes k x Handler u = refl
-over_owes k x (Transmit q) u = refl
+over_owes k x Main zero =
+    elim (is_sync_unit k.table 1) as (λ sync. unless_done (main_over k x sync).1.done (unit_owed (main_over k x sync).0) ≡ None)
+    [ true ↦ refl | false ↦ refl ]
+over_owes k x _ _ = refl
 
 prepared_owes : (r : Running) (x : Placed) → start_owes (prepared_with r x) ≡ true
 prepared_owes r x = by (x.channel.internal && nat_le x.channel.length 1)
@@ -55,21 +50,17 @@ prepared_owes r x = by (x.channel.internal && nat_le x.channel.length 1)
     by false = refl
 
 pub prepare_owes : (d : SpiTable) (r : Running) (i : ℕ) → start_owes (prepare_at d r i) ≡ true
-prepare_owes d r i = by (channel_number (list_of d r.job) i)
-  where
-    by : (o : Option ℕ) → start_owes (prepare_by d r i o) ≡ true
-    by None = prepared_owes r (channel_at_place d r.job 0)
-    by (Some c) = refl
+prepare_owes d r i =
+    elim (channel_number (list_of d r.job) i) as (λ o. start_owes (prepare_by d r i o) ≡ true)
+    [ None ↦ prepared_owes r (channel_at_place d r.job 0) | Some c ↦ refl ]
 
 abbrev pub next_place : SpiTable → Running → (place : ℕ) → StartPlace
 next_place d r i = if nat_lt i 3 then prepare_at d r (i + 1) else prepared d r
 
 pub next_owes : (d : SpiTable) (r : Running) (i : ℕ) → start_owes (next_place d r i) ≡ true
-next_owes d r i = by (nat_lt i 3)
-  where
-    by : (q : Bool) → start_owes (if q then prepare_at d r (i + 1) else prepared d r) ≡ true
-    by true = prepare_owes d r (i + 1)
-    by false = prepared_owes r (channel_at_place d r.job 0)
+next_owes d r i =
+    elim (nat_lt i 3) as (λ q. start_owes (if q then prepare_at d r (i + 1) else prepared d r) ≡ true)
+    [ true ↦ prepare_owes d r (i + 1) | false ↦ prepared_owes r (channel_at_place d r.job 0) ]
 
 begins_later : (i k : ℕ) → is_to_begin first_place (suc i) k ≡ true
 begins_later i k = grind (arith, nat_tests)

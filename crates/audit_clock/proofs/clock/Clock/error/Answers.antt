@@ -11,5 +11,5 @@ returns c w at =
     c.first_error.ensures
     ∙ (ap (λ x. first_error x c.facts-facts.result.holds) c.service.ensures
     ∙ (ap (λ hs. first_error (service_of call) hs) c.facts-facts.ensures
-    ∙ (ap (λ q. first_error (service_of call) (facts_by c.self.inside.driver call (not c.self.inside.initialised) (not q))) (c.is_locked.ensures w at)
+    ∙ (ap (λ q. first_error (service_of call) (facts_by c.self.inside.driver.table call (not c.self.inside.initialised) (not q))) (c.is_locked.ensures w at)
     ∙ ap (λ (k : ClockKept). first_error (service_of call) (facts_by k.driver call (not k.initialised) (not (is_locked w k.pll)))) c.self.view_is)))

@@ -1,0 +1,14 @@
+use Rattle.std.proofs.Common.{ap, sym, ◌∙◌, is_some}
+use Rattle.icu_machine.specs.Table.{channel_of}
+use Rattle.icu_machine.specs.declared.table.IcuTable.{IcuTable}
+use Rattle.plain_facts.specs.Truths.{clash}
+use Rattle.audit_frames.proofs.Deciding.{yes, worded}
+use Rattle.audit_modules.proofs.stamps.stamps_stand.Goals as goal
+
+pub returns-then-not-is_configured : goal.returns-then-not-is_configured
+returns-then-not-is_configured c s h = yes (λ e. clash (sym (c.is_configured.ensures.is ∙ ap (λ (d : IcuTable). is_some (channel_of d c.args.channel)) c.table.ensures) ∙ c.if-not-is_configured.true) e)
+
+pub returns : goal.returns
+returns c s h =
+    let some = sym (c.is_configured.ensures.is ∙ ap (λ (d : IcuTable). is_some (channel_of d c.args.channel)) c.table.ensures) ∙ c.if-not-is_configured.false in
+    worded (λ x e. x) (λ f. f some) (c.has_stamps.ensures s h)

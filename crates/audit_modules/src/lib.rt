@@ -1,0 +1,14 @@
+//! Where the chip and the machines of all modules agree: wherever the mask is open, at rest, and at a notice.
+#![tactic(auto)]
+
+mod agreeing;
+mod arrays;
+mod laws;
+mod outputs;
+mod pins;
+mod ram;
+mod results;
+mod stamps;
+
+pub use agreeing::{arrays_stand, outputs_stand, rests, shows};
+pub use laws::{keeps_arrays, keeps_registers, moves_keep, results_have_room};

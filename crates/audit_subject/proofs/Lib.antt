@@ -1,0 +1,3 @@
+pub mod HearLaws
+pub mod LineMasks
+pub mod TellLaws

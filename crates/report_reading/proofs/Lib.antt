@@ -1,0 +1,10 @@
+pub mod Back
+pub mod Once
+pub mod Parted
+pub mod Parting
+pub mod Places
+pub mod Printing
+pub mod Reports
+pub mod Steps_back
+pub mod Texts
+pub mod Verdicts

@@ -1,0 +1,5 @@
+pub mod Audits
+pub mod Blocks
+pub mod Fits
+pub mod Reading
+pub mod Steps
