@@ -6,8 +6,8 @@ use Rattle.port_machine.specs.Bounds.{latch_duties, latch_duty}
 use Rattle.port_machine.specs.Table.{pin_of}
 use Rattle.port_machine.specs.declared.table.Pin.{Pin}
 use Rattle.port_machine.specs.declared.table.PortTable.{PortTable}
-use Rattle.audit_clock.specs.Latches.{is_met, marks, with_marks}
-use Rattle.audit_clock.proofs.Masks.{room}
+use Rattle.audit_subject.specs.Marks.{is_met, marks, with_marks}
+use Rattle.audit_subject.proofs.Masks.{room}
 
 module _ (d : PortTable) where
   none : latch_duties d 0 ≡ []

@@ -1,6 +1,5 @@
 pub mod Fills
 pub mod LatchLaws
-pub mod Masks
 pub mod Places
 pub mod PortLevels
 pub mod PortPlaces

@@ -1,5 +1,4 @@
 pub mod ClockStands
-pub mod Latches
 pub mod Members
 pub mod PinStands
 pub mod PortPins

@@ -4,7 +4,7 @@ ghost use Rattle.std.specs.Prelude.{◌≡◌, ◌<◌, ◌+◌, ◌*◌, ◌/�
 ghost use Rattle.mcal_base.specs.Bits.{has_bit};
 ghost use Rattle.audit_frames.specs.Told.{is_of_kind};
 ghost use Rattle.port_machine.specs.Bounds as bounds;
-ghost use Rattle.audit_clock.specs.Latches as spec;
+ghost use Rattle.audit_subject.specs.Marks as spec;
 
 use crate::pin_state::has_bit;
 use mcal_base::{Move, Reg};

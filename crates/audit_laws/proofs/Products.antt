@@ -106,7 +106,7 @@ module _ {S T A B C D : Type 0} (f : A → C) (g : B → D) (m : Member S A) (n 
 
 -- ---- a module's own machine
 
-renamed_kept : {C : Type 0} (z : Happening C) → renamed kept z ≡ z
+pub renamed_kept : {C : Type 0} (z : Happening C) → renamed kept z ≡ z
 renamed_kept (Acts c times) = refl
 renamed_kept (Serves l r) = refl
 renamed_kept (Starts u None r) = refl

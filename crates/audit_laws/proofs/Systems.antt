@@ -1,4 +1,4 @@
--- The checker's machine of all modules is the drivers'.
+-- The checker's machine of all modules is the drivers', and what its runs are over is what theirs are over.
 use Rattle.std.proofs.Common.{◌≡◌}
 use Rattle.mcal_base.specs.declared.config.whole.Config.{Config}
 use Rattle.adc_machine.specs.Table as converter_table
@@ -11,18 +11,24 @@ use Rattle.port_machine.specs.Table as pin_table
 use Rattle.pwm_machine.specs.Table as pulse_table
 use Rattle.spi_machine.specs.Table as serial_table
 use Rattle.wdg_machine.specs.Table as watchdog_table
-use Rattle.mcal_drivers.specs.Setting.{system_setting, host_setting, host_pins}
+use Rattle.mcal_drivers.specs.Setting.{SystemCall, call_of, capture_setting, clock_setting, converter_setting, host_pins, host_setting, pin_setting, pulse_setting, serial_setting, system_setting, timer_setting, watchdog_setting}
 use Rattle.audit_captures.specs.Members as captures
 use Rattle.audit_clock.specs.Members.{clock_member, pins_member, watchdog_member}
 use Rattle.audit_converters.specs.Members as converters
 use Rattle.audit_pulses.specs.Members as pulses
 use Rattle.audit_serial.specs.Members as serial
 use Rattle.audit_timers.specs.Members as timers
+use Rattle.audit_machines.specs.Requests as requests
+use Rattle.audit_machines.specs.Requests.{AnyCall}
+use Rattle.audit_laws.specs.Bench.{IsOne, bench}
 use Rattle.audit_laws.specs.Calls.{any_call, kept, pair, named, state_call}
 use Rattle.audit_laws.specs.Same.{IsSame}
-use Rattle.audit_laws.specs.System.{state_member, system_member}
+use Rattle.audit_laws.specs.System.{all_setting, state_member, state_setting, system_member}
 use Rattle.audit_laws.proofs.Guests.{is_guest}
+use Rattle.audit_laws.proofs.Names.{calls_same, one_to_one}
 use Rattle.audit_laws.proofs.Products.{is_kept, is_union}
+use Rattle.audit_laws.proofs.Renaming.{same_bench}
+use Rattle.audit_laws.proofs.Settings.{guest_one, kept_one, union_one}
 
 module _ (c : Config) where
   is_host : IsSame state_call (state_member c) (host_setting c).machine (host_setting c).used
@@ -37,3 +43,21 @@ module _ (c : Config) where
   pub is_system : IsSame any_call (system_member c) (system_setting c).machine (system_setting c).used
   unfolding system_setting
   is_system = is_guest state_call (state_member c) (host_setting c).machine (host_setting c).used is_host (host_pins (pulse_table.table_of c.pwm) (wiring_of c).outputs) (port_table.table_of c.port c.dio) (λ wiring. wiring.outputs ≡ (wiring_of c).outputs)
+
+  -- ---- what runs are over
+
+  host_one : IsOne state_call (state_setting c) (host_setting c)
+  host_one = union_one (named pair pair) (named pair pair) _ _ _ _
+      (union_one pair pair _ _ _ _
+      (union_one kept kept _ _ _ _ (kept_one (clock_setting c)) (kept_one (watchdog_setting c)))
+      (union_one kept kept _ _ _ _ (kept_one (pin_setting c)) (kept_one (timer_setting c))))
+      (union_one pair pair _ _ _ _
+      (union_one kept kept _ _ _ _ (kept_one (pulse_setting c)) (kept_one (capture_setting c)))
+      (union_one kept kept _ _ _ _ (kept_one (converter_setting c)) (kept_one (serial_setting c))))
+
+  system_one : IsOne any_call (all_setting c) (system_setting c)
+  unfolding system_setting
+  system_one = guest_one state_call (state_setting c) (host_setting c) host_one (host_pins (pulse_table.table_of c.pwm) (wiring_of c).outputs) (port_table.table_of c.port c.dio) (λ wiring. wiring.outputs ≡ (wiring_of c).outputs)
+
+  pub benches_are_one : bench AnyCall (all_setting c) requests.call_of ≡ bench SystemCall (system_setting c) call_of
+  benches_are_one = same_bench (all_setting c) requests.call_of one_to_one (system_setting c) call_of system_one calls_same

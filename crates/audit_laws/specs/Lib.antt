@@ -1,3 +1,4 @@
+pub mod Bench
 pub mod Calls
 pub mod Same
 pub mod System

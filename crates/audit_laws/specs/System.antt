@@ -1,5 +1,16 @@
 -- The checker's machine of all modules under a configuration.
 use Rattle.mcal_base.specs.declared.config.whole.Config.{Config}
+use Rattle.run_model.specs.Moment.{Setting}
+use Rattle.adc_machine.specs.Bounds.{adc_setting}
+use Rattle.gpt_machine.specs.Bounds.{gpt_setting}
+use Rattle.icu_machine.specs.Bounds.{icu_setting}
+use Rattle.mcu_machine.specs.Bounds.{mcu_setting}
+use Rattle.port_machine.specs.Bounds.{port_setting}
+use Rattle.pwm_machine.specs.Bounds.{pwm_setting}
+use Rattle.spi_machine.specs.Bounds.{spi_setting}
+use Rattle.wdg_machine.specs.Bounds.{wdg_setting}
+use Rattle.audit_subject.specs.Product.{joined}
+use Rattle.audit_machines.specs.Hosting.{hosted_setting}
 use Rattle.adc_machine.specs.Table as converter_table
 use Rattle.chip_model.specs.Wiring.{wiring_of}
 use Rattle.dio_machine.specs.Table as port_table
@@ -32,3 +43,13 @@ state_member c = both
 -- with channels and ports
 abbrev pub system_member : Config → Member (SystemState SpiState) AnyCall
 system_member c = hosted (state_member c) (host_pins (pulse_table.table_of c.pwm) (wiring_of c).outputs) (port_table.table_of c.port c.dio)
+
+-- ---- and what runs of it are over
+
+abbrev pub state_setting : Config → Setting (SystemState SpiState) StateCall
+state_setting c = joined
+    (joined (joined (mcu_setting (clock_table.table_of c.mcu)) (wdg_setting (watchdog_table.table_of c.wdg))) (joined (port_setting (pin_table.table_of c.port)) (gpt_setting (timer_table.table_of c.gpt))))
+    (joined (joined (pwm_setting (pulse_table.table_of c.pwm)) (icu_setting (capture_table.table_of c.icu))) (joined (adc_setting (converter_table.table_of c.adc)) (spi_setting (serial_table.table_of c.spi))))
+
+abbrev pub all_setting : Config → Setting (SystemState SpiState) AnyCall
+all_setting c = hosted_setting (state_setting c) (host_pins (pulse_table.table_of c.pwm) (wiring_of c).outputs) (port_table.table_of c.port c.dio)

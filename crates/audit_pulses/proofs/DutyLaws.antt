@@ -6,8 +6,8 @@ use Rattle.pwm_machine.specs.Bounds.{duties, duty_of}
 use Rattle.pwm_machine.specs.Table.{channel_of}
 use Rattle.pwm_machine.specs.declared.table.Channel.{Channel}
 use Rattle.pwm_machine.specs.declared.table.PwmTable.{PwmTable}
-use Rattle.audit_pulses.specs.Duties.{is_met, marks, with_marks}
-use Rattle.audit_pulses.proofs.Masks.{room}
+use Rattle.audit_subject.specs.Marks.{is_met, marks, with_marks}
+use Rattle.audit_subject.proofs.Masks.{room}
 
 module _ (d : PwmTable) (kind : ℕ → Move → Bool) where
   none : duties d kind 0 ≡ []

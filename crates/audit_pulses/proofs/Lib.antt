@@ -1,4 +1,3 @@
 pub mod Bounds
 pub mod DutyLaws
-pub mod Masks
 pub mod Times

@@ -3,6 +3,7 @@
 ghost use Rattle.std.specs.Prelude.{◌≡◌, ◌<◌, ◌+◌, ◌*◌, ◌^◌};
 ghost use Rattle.audit_frames.specs.Told.{is_of_kind};
 ghost use Rattle.pwm_machine.specs.Bounds as bounds;
+ghost use Rattle.audit_subject.specs.Marks as masks;
 ghost use Rattle.audit_pulses.specs.Duties as spec;
 
 use mcal_base::{Move, Reg};
@@ -35,7 +36,7 @@ fn is_done(duty: Duty, channel: u32, made: Move) -> bool
 
 /// Whether it does, and yes where there is no move.
 fn is_met(duty: Duty, channel: u32, made: Option<Move>) -> bool
-    ensures { result ≡ spec.is_met made (spec.kind_of duty channel) }
+    ensures { result ≡ masks.is_met made (spec.kind_of duty channel) }
 {
     match made {
         Some(made) => is_done(duty, channel, made),
@@ -52,7 +53,7 @@ fn with_channel(
     made: Option<Move>,
 ) -> u64
     requires { 2 * mask + 1 < 2 ^ 64 }
-    ensures { result ≡ spec.with_marks made (bounds.duty_of (spec.kind_of duty) number channel) mask }
+    ensures { result ≡ masks.with_marks made (bounds.duty_of (spec.kind_of duty) number channel) mask }
 {
     match channel {
         Some(_) => u64::from(is_met(duty, number, made)) + 2 * mask,
@@ -62,7 +63,7 @@ fn with_channel(
 
 /// A bit for each configured channel, the highest in bit 0: of those to which the move does so, and of all where there is none.
 fn marks(table: &PwmTable, duty: Duty, made: Option<Move>) -> u64
-    ensures { result ≡ spec.marks made (bounds.duties table.now (spec.kind_of duty) 8) }
+    ensures { result ≡ masks.marks made (bounds.duties table.now (spec.kind_of duty) 8) }
 {
     let mut mask = 0;
     for number in 0..8u32 {
@@ -73,7 +74,7 @@ fn marks(table: &PwmTable, duty: Duty, made: Option<Move>) -> u64
 
 /// A bit for each write that a call owes: of those that the move makes, and of all where there is none.
 pub(crate) fn owed(table: &PwmTable, call: Call, made: Option<Move>) -> u64
-    ensures { result ≡ spec.marks made (bounds.must_by table.now call) }
+    ensures { result ≡ masks.marks made (bounds.must_by table.now call) }
 {
     match call {
         Call::Init => marks(table, Duty::Commit, made),

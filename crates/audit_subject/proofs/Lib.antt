@@ -1,3 +1,4 @@
 pub mod HearLaws
 pub mod LineMasks
+pub mod Masks
 pub mod TellLaws

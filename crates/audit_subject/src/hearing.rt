@@ -1,4 +1,4 @@
-ghost use Rattle.std.specs.Prelude.{◌≡◌, ◌<◌, ◌+◌, ◌^◌, IfOk};
+ghost use Rattle.std.specs.Prelude.{◌≡◌, ◌<◌, ◌+◌, ◌^◌, IfOk, IfSome};
 ghost use Rattle.mcal_base.specs.Reach.{CanApply};
 ghost use Rattle.run_model.specs.Frame.{Open};
 ghost use Rattle.run_model.specs.Moment.{Moment};
@@ -52,6 +52,7 @@ pub fn hear<S: Subject>(
     ensures hears { (m : Moment S.State S.Call) (o : Open S.Call) (s : Stepped) → IsWorld outside.old m.world → S.stands subject.old m.state →
         o.origin ≡ origin_of origin.now → StandsFor (S.setting (S.table subject.old)) frame.now o → step.now ≡ step_of s → s.received ≡ received →
         IfOk result (λ heard. Hears (S.setting (S.table subject.old)) (S.stands subject.new) m o s frame.now.terms.asked heard) }
+    ensures now { IfOk result (λ heard. IfSome heard (λ it. it.around.time ≡ outside.old.time)) }
     ensures later { IfOk result (λ _. IsAfter outside.old outside.new) }
     ensures world { (w : World) → IsWorld outside.old w → IsWorld outside.new w }
     ensures fits { IfOk result (λ _. S.fits subject.new outside.new) }

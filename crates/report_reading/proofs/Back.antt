@@ -18,7 +18,7 @@ use Rattle.mcal_base.specs.declared.directive.Request.{Request}
 use Rattle.mcal_base.specs.declared.directive.Shown.{Shown}
 use Rattle.report_reading.specs.Blocks.{Place, block_lines}
 use Rattle.report_reading.specs.Reading.{item, steps_of, held_or, ticks_of, items_by, items_of, AreBegun}
-use Rattle.report_reading.proofs.Steps_back.{begins_anew, done_told, all_told, not_held, goes_back}
+use Rattle.report_reading.proofs.StepsBack.{begins_anew, done_told, all_told, not_held, goes_back}
 use Rattle.run_model.specs.Entry as entry
 use Rattle.run_model.specs.Entry.{Entry}
 use Rattle.run_model.specs.Follows.{IsOne, Ticks, ticks_through, GoesOn, Goes, BeginsOnly, BeginsWhole, HappensOnly, Gives, deeds_in, call_held, line_held}

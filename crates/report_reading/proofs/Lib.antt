@@ -1,10 +1,12 @@
 pub mod Back
+pub mod LinesBack
 pub mod Once
 pub mod Parted
 pub mod Parting
 pub mod Places
 pub mod Printing
 pub mod Reports
-pub mod Steps_back
+pub mod RowLaws
+pub mod StepsBack
 pub mod Texts
 pub mod Verdicts

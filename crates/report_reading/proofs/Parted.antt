@@ -14,8 +14,8 @@ use Rattle.mcal_base.specs.declared.directive.Directive.{Directive}
 use Rattle.mcal_base.specs.declared.directive.Order.{Order}
 use Rattle.mcal_base.specs.declared.directive.Request.{Request}
 use Rattle.report_reading.specs.Blocks.{printed}
-use Rattle.report_reading.specs.Fits.{DirectiveFits, PurposeFits, RowsFit}
-use Rattle.report_reading.proofs.Places.{lines_fit, frames_left, shows_left}
+use Rattle.report_reading.specs.Fits.{DirectiveFits, PurposeFits}
+use Rattle.report_reading.proofs.Places.{IsPrinted, lines_printed, frames_left}
 use Rattle.report_reading.proofs.Texts.{StopsAt, stops_end, stops_later}
 use Rattle.run_model.specs.Entry.{Entry}
 use Rattle.run_model.specs.Follows.{Follows, deeds_in}
@@ -24,7 +24,7 @@ use Rattle.run_model.specs.Script.{order_at, deed_of, deeds_of}
 use Rattle.run_model.proofs.Following.{deeds_of-append}
 use Rattle.script_runner.specs.Scripts.{LinesRise}
 use Rattle.script_runner.proofs.Scripts.{at_line}
-use Rattle.trace_reader.specs.Trace.{HasLineNumbers, lines_text}
+use Rattle.trace_reader.specs.Trace.{lines_text}
 
 -- ---- items by their lines
 
@@ -106,13 +106,13 @@ text_more n (line ∷ lines) others end =
 -- the next line is of a later directive
 abbrev pub StartsLater : ℕ → List Numbered → Type 0
 StartsLater n [] = Unit {0}
-StartsLater n (line ∷ lines) = (n < line.number) × IsNumber line.number × HasLineNumbers line.says
+StartsLater n (line ∷ lines) = (n < line.number) × IsNumber line.number × IsPrinted line.says
 
 later_still : (low n : ℕ) (lines : List Numbered) → low < n → StartsLater n lines → StartsLater low lines
 later_still low n [] lt h = tt
 later_still low n (line ∷ lines) lt h = (omega (arith, lt, h.0), h.1, h.2)
 
-later_by : (low n : ℕ) (lines : List Line) (others : List Numbered) → low < n → IsNumber n → Each HasLineNumbers lines → StartsLater n others → StartsLater low (all_numbered n lines ++ others)
+later_by : (low n : ℕ) (lines : List Line) (others : List Numbered) → low < n → IsNumber n → Each IsPrinted lines → StartsLater n others → StartsLater low (all_numbered n lines ++ others)
 later_by low n [] others lt i fits h = later_still low n others lt h
 later_by low n (line ∷ lines) others lt i fits h = (lt, i, fits.0)
 
@@ -132,13 +132,13 @@ later_fit : (line : ℕ) (es : List Entry) → Each EntryFits es → Each EntryF
 later_fit line [] h = tt
 later_fit line (e ∷ es) h = each_later (e.line == line) e es (later_entries line es) h (later_fit line es h.1)
 
-pub starts_later : (low : ℕ) (ds : List Directive) (frames : List Purpose) (shows : List (List Row)) (es : List Entry) → LinesRise low ds → Each DirectiveFits ds → Each PurposeFits frames → Each RowsFit shows → Each EntryFits es →
+pub starts_later : (low : ℕ) (ds : List Directive) (frames : List Purpose) (shows : List (List Row)) (es : List Entry) → LinesRise low ds → Each DirectiveFits ds → Each PurposeFits frames → Each EntryFits es →
     StartsLater low (report_lines true frames shows ds es)
-starts_later low [] frames shows es rise d f r h = tt
-starts_later low (x ∷ xs) frames shows es rise d f r h =
+starts_later low [] frames shows es rise d f h = tt
+starts_later low (x ∷ xs) frames shows es rise d f h =
     let own = own_entries x.line es in
-    later_by low x.line (with_done (chapter_lines true x.order frames shows own)) _ rise.0 d.0.0 (lines_fit x.order frames shows own d.0.1 f r (own_fit x.line es h))
-    (starts_later x.line xs (chapter_frames x.order frames own) (chapter_shows shows own) (later_entries x.line es) rise.1 d.1 (frames_left x.order frames own d.0.1 f) (shows_left shows own r) (later_fit x.line es h))
+    later_by low x.line (with_done (chapter_lines true x.order frames shows own)) _ rise.0 d.0.0 (lines_printed x.order frames shows own d.0.1 f (own_fit x.line es h))
+    (starts_later x.line xs (chapter_frames x.order frames own) (chapter_shows shows own) (later_entries x.line es) rise.1 d.1 (frames_left x.order frames own d.0.1 f) (later_fit x.line es h))
 
 pub stops_text : (n : ℕ) (lines : List Numbered) (tally : Tally) → IsNumber n → StartsLater n lines → StopsAt n (lines_text lines ++ end_text tally)
 stops_text n [] tally i h = stops_end n tally i

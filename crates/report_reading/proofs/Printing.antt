@@ -15,7 +15,7 @@ use Rattle.mcal_base.specs.declared.directive.Reason.TheVariants.{Software, Watc
 use Rattle.mcal_base.specs.declared.directive.Request.{Request}
 use Rattle.report_reading.specs.Reading.{item}
 use Rattle.report_reading.specs.Steps.{Comes, WaitComes, StepComes, AtOnce, Awaited, lines_at, is_silent, done_behind, PrintsSteps, LastStep, ResetStep, MoreSteps, RunsOut, HasSteps}
-use Rattle.report_reading.proofs.Steps_back.{match_both}
+use Rattle.report_reading.proofs.StepsBack.{match_both}
 use Rattle.run_model.specs.Entry as entry
 use Rattle.run_model.specs.Entry.{Entry, Said}
 use Rattle.run_model.specs.Follows.{IsOne, Waits, is_awaiting, ComesAwaited, ThenComes, IsStep, GoesOn, deeds_in, ends_within, is_reached}

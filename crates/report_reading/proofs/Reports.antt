@@ -11,12 +11,12 @@ use Rattle.chip_model.specs.Chip.{Chip}
 use Rattle.mcal_base.specs.declared.directive.Directive.{Directive}
 use Rattle.mcal_base.specs.declared.directive.Request.{Request}
 use Rattle.report_reading.specs.Blocks.{own_lines, behind}
-use Rattle.report_reading.specs.Fits.{DirectiveFits, PurposeFits, RowsFit}
+use Rattle.report_reading.specs.Fits.{DirectiveFits, PurposeFits}
 use Rattle.report_reading.specs.Reading.{items_of, told_in, read_from, read_report}
-use Rattle.report_reading.proofs.Back.{gives_read}
+use Rattle.report_reading.proofs.LinesBack.{lines_back}
 use Rattle.report_reading.proofs.Parted.{AllAbove, own_are, later_are, each_parts, own_line, all_above, Finds, finds, deeds_split, text_more, starts_later, stops_text}
-use Rattle.report_reading.proofs.Places.{lines_fit, frames_left, shows_left, frames_count}
-use Rattle.report_reading.proofs.Texts.{block_own, block_told, block_behind}
+use Rattle.report_reading.proofs.Places.{lines_printed, frames_left, frames_count}
+use Rattle.report_reading.proofs.Texts.{block_own, block_behind}
 use Rattle.run_model.specs.Entry.{Entry}
 use Rattle.run_model.specs.Follows.{Follows, deeds_in}
 use Rattle.run_model.specs.Legal.{IsLegal}
@@ -25,9 +25,7 @@ use Rattle.run_model.specs.Script.{deeds_of}
 use Rattle.run_model.proofs.LegalLaws.{legal-parts}
 use Rattle.script_runner.specs.Scripts.{LinesRise, IsRun}
 use Rattle.trace_reader.specs.Reading.{line_with, parts_of}
-use Rattle.trace_reader.specs.Told.{told}
 use Rattle.trace_reader.specs.Trace.{lines_text}
-use Rattle.trace_reader.specs.declared.told.Told.{Told}
 
 -- what the last line of a report counts
 abbrev pub counted_by : List Numbered → Tally
@@ -50,7 +48,6 @@ module _ {State Call : Type 0} (g : Setting State Call) (call_of : Request → C
     pub finds : Finds g call_of script ds
     pub script_fits : Each DirectiveFits ds
     pub fits : Each EntryFits es
-    pub rows : Each RowsFit shows
     pub frames_fit : Each PurposeFits frames
     pub begun : length frames ≡ length m.opens
     pub legal : IsLegal g m (deeds_of call_of script es)
@@ -62,7 +59,7 @@ module _ {State Call : Type 0} (g : Setting State Call) (call_of : Request → C
     pub legal_first : IsLegal g m (deeds_in call_of d.order first)
     pub above : AllAbove d.line later
     pub own : own_lines d.line (parts_of (left_text (report_lines true frames shows (d ∷ ds) es))) ≡ map (λ line. line_with d.line line) (with_done (chapter_lines true d.order frames shows first))
-    pub tells : told_in (own_lines d.line (parts_of (left_text (report_lines true frames shows (d ∷ ds) es)))) ≡ map told (with_done (chapter_lines true d.order frames shows first))
+    pub read : items_of g call_of m d (told_in (own_lines d.line (parts_of (left_text (report_lines true frames shows (d ∷ ds) es))))) ≡ first
     pub rest : behind d.line (parts_of (left_text (report_lines true frames shows (d ∷ ds) es))) ≡ parts_of (left_text (report_lines true (chapter_frames d.order frames first) (chapter_shows shows first) ds later))
 
   -- the lines of a directive with these items, and those of the others
@@ -84,7 +81,6 @@ module _ {State Call : Type 0} (g : Setting State Call) (call_of : Request → C
         finds = c.finds.1;
         script_fits = c.script_fits.1;
         fits = fits.1;
-        rows = shows_left shows h.first c.rows;
         frames_fit = frames_left d.order frames h.first c.script_fits.0.1 c.frames_fit;
         begun = frames_count g call_of d.order h.first frames m c.begun legal.0;
         legal = legal.1;
@@ -93,15 +89,16 @@ module _ {State Call : Type 0} (g : Setting State Call) (call_of : Request → C
       let others = report_lines true (chapter_frames d.order frames h.first) (chapter_shows shows h.first) ds h.later in
       let text = ap (λ (xs : List Entry). left_text (lines_by frames shows d ds xs (later_entries d.line es))) first
       ∙ (ap (λ (xs : List Entry). left_text (lines_by frames shows d ds h.first xs)) later ∙ text_more d.line lines others (end_text tally)) in
-      let lines_fits = lines_fit d.order frames shows h.first c.script_fits.0.1 c.frames_fit c.rows fits.0 in
-      let stops = stops_text d.line others tally c.script_fits.0.0 (starts_later d.line ds (chapter_frames d.order frames h.first) (chapter_shows shows h.first) h.later c.rise.1 c.script_fits.1 next.frames_fit next.rows fits.1) in
+      let lines_fits = lines_printed d.order frames shows h.first c.script_fits.0.1 c.frames_fit fits.0 in
+      let stops = stops_text d.line others tally c.script_fits.0.0 (starts_later d.line ds (chapter_frames d.order frames h.first) (chapter_shows shows h.first) h.later c.rise.1 c.script_fits.1 next.frames_fit fits.1) in
+      let own_is = ap (λ (bs : List ℕ). own_lines d.line (parts_of bs)) text ∙ block_own d.line lines (left_text others) c.script_fits.0.0 lines_fits stops in
       record {
         next = next;
         fit = fits.0;
         legal_first = legal.0;
         above = above;
-        own = ap (λ (bs : List ℕ). own_lines d.line (parts_of bs)) text ∙ block_own d.line lines (left_text others) c.script_fits.0.0 lines_fits stops;
-        tells = ap (λ (bs : List ℕ). told_in (own_lines d.line (parts_of bs))) text ∙ block_told d.line lines (left_text others) c.script_fits.0.0 lines_fits stops;
+        own = own_is;
+        read = ap (λ (ls : List (List ℕ)). items_of g call_of m d (told_in ls)) own_is ∙ lines_back g call_of m frames shows d.line c.script_fits.0.0 d.order h.first c.script_fits.0.1 c.frames_fit fits.0 c.begun h.gives legal.0;
         rest = ap (λ (bs : List ℕ). behind d.line (parts_of bs)) text ∙ block_behind d.line lines (left_text others) c.script_fits.0.0 lines_fits stops;
       }
 
@@ -112,14 +109,13 @@ module _ {State Call : Type 0} (g : Setting State Call) (call_of : Request → C
       let k = cut low d ds m frames shows es c h in
       let m1 = after_all g m (deeds_in call_of d.order h.first) in
       let left = parts_of (left_text (report_lines true frames shows (d ∷ ds) es)) in
-      let items : items_of g call_of m d (told_in (own_lines d.line left)) ≡ h.first = ap (λ (ts : List Told). items_of g call_of m d ts) k.tells ∙ gives_read g call_of m frames shows d.line d.order h.first c.begun h.gives k.legal_first in
-      ap (λ (xs : List Entry). xs ++ read_from g call_of (after_all g m (deeds_in call_of d.order xs)) ds (behind d.line left)) items
+      ap (λ (xs : List Entry). xs ++ read_from g call_of (after_all g m (deeds_in call_of d.order xs)) ds (behind d.line left)) k.read
       ∙ (ap (λ (ps : List (List ℕ)). h.first ++ read_from g call_of m1 ds ps) k.rest
       ∙ (ap (λ (xs : List Entry). h.first ++ xs) (all_read ds d.line m1 (chapter_frames d.order frames h.first) (chapter_shows shows h.first) h.later k.next h.rest) ∙ sym h.is))
 
 pub reads_reports : {State Call : Type 0} (g : Setting State Call) (call_of : Request → Call) (first : Chip) (script : List Directive) (journal : List Entry) (shows : List (List Row)) →
-    LinesRise 0 script → Each DirectiveFits script → Each EntryFits journal → IsRun g first call_of script journal → Each RowsFit shows → read_report g call_of (start_moment g first) script (report true script journal shows) ≡ journal
-reads_reports g call_of first script journal shows rise d h run rows =
+    LinesRise 0 script → Each DirectiveFits script → Each EntryFits journal → IsRun g first call_of script journal → read_report g call_of (start_moment g first) script (report true script journal shows) ≡ journal
+reads_reports g call_of first script journal shows rise d h run =
     all_read g call_of script (counted_by (report_lines true [] shows script journal)) script 0 (start_moment g first) [] shows journal
-    (record { rise = rise; finds = finds g call_of 0 script rise; script_fits = d; fits = h; rows = rows; frames_fit = tt; begun = refl; legal = run.legal })
+    (record { rise = rise; finds = finds g call_of 0 script rise; script_fits = d; fits = h; frames_fit = tt; begun = refl; legal = run.legal })
     run.follows

@@ -19,28 +19,23 @@ use Rattle.trace_reader.specs.Trace.{HasLineNumbers}
 use Rattle.trace_reader.specs.declared.told.Told.{Told}
 use Rattle.trace_reader.specs.declared.told.TraceLine.{TraceLine}
 use Rattle.trace_reader.proofs.Digits.{none, none_append, no_feed, no_space, number_again, starts, starts_number}
-use Rattle.trace_reader.proofs.FeedLaws.{nl, line_feedless}
+use Rattle.report_reading.proofs.Places.{IsPrinted}
+use Rattle.report_reading.proofs.RowLaws.{printed_feedless}
+use Rattle.trace_reader.proofs.FeedLaws.{nl}
 use Rattle.trace_reader.proofs.LineByLine.{line_again, same_bytes}
 use Rattle.trace_reader.proofs.Splits.{front_word, tail_words}
+use Rattle.trace_reader.proofs.Whole.{split_front}
 
 -- ---- cut at line feeds
-
-split_case : (x : ℕ) (xs s : List ℕ) (b : Bool) → (x == 10) ≡ b → (if b then false else none nl xs) ≡ true → (none nl xs ≡ true → parts_of (xs ++ 10 ∷ s) ≡ xs ∷ parts_of s) → parts_of (x ∷ (xs ++ 10 ∷ s)) ≡ (x ∷ xs) ∷ parts_of s
-split_case x xs s true e h ih = absurd (false≢true h)
-split_case x xs s false e h ih = rw (e, ih h) refl
-
-split_front : (xs s : List ℕ) → none nl xs ≡ true → parts_of (xs ++ 10 ∷ s) ≡ xs ∷ parts_of s
-split_front [] s h = refl
-split_front (x ∷ xs) s h = split_case x xs s (x == 10) refl h (λ g. split_front xs s g)
 
 line_front : (n : ℕ) (line : Line) (s : List ℕ) → numbered n line ++ s ≡ line_with n line ++ 10 ∷ s
 line_front n line s = append_assoc (decimal n) (codes " " ++ (line_text line ++ codes "\n")) s ∙ (ap (λ (bs : List ℕ). decimal n ++ (codes " " ++ bs)) (append_assoc (line_text line) (codes "\n") s) ∙ sym (append_assoc (decimal n) (codes " " ++ line_text line) (10 ∷ s)))
 
 -- the first part of a text that begins with a line is the line
-pub line_parts : (n : ℕ) (line : Line) (s : List ℕ) → IsNumber n → HasLineNumbers line → parts_of (numbered n line ++ s) ≡ line_with n line ∷ parts_of s
-line_parts n line s h k = ap parts_of (line_front n line s) ∙ split_front (line_with n line) s (none_append nl (decimal n) (codes " " ++ line_text line) (no_feed n h) (line_feedless line k))
+pub line_parts : (n : ℕ) (line : Line) (s : List ℕ) → IsNumber n → IsPrinted line → parts_of (numbered n line ++ s) ≡ line_with n line ∷ parts_of s
+line_parts n line s h k = ap parts_of (line_front n line s) ∙ split_front (line_with n line) s (none_append nl (decimal n) (codes " " ++ line_text line) (no_feed n h) (printed_feedless line k))
 
-pub printed_parts : (n : ℕ) (lines : List Line) (s : List ℕ) → IsNumber n → Each HasLineNumbers lines → parts_of (printed n lines ++ s) ≡ map (λ line. line_with n line) lines ++ parts_of s
+pub printed_parts : (n : ℕ) (lines : List Line) (s : List ℕ) → IsNumber n → Each IsPrinted lines → parts_of (printed n lines ++ s) ≡ map (λ line. line_with n line) lines ++ parts_of s
 printed_parts n [] s h k = refl
 printed_parts n (line ∷ lines) s h k =
     ap parts_of (append_assoc (numbered n line) (printed n lines) s)
@@ -140,7 +135,7 @@ stops_by n text part (next ∷ parts) e h = record { own = ap (own_lines n) e �
 pub stops_nowhere : (n : ℕ) → StopsAt n []
 stops_nowhere n = record { own = refl; rest = refl }
 
-pub stops_later : (n k : ℕ) (line : Line) (text : List ℕ) → IsNumber n → IsNumber k → n < k → HasLineNumbers line → StopsAt n (numbered k line ++ text)
+pub stops_later : (n k : ℕ) (line : Line) (text : List ℕ) → IsNumber n → IsNumber k → n < k → IsPrinted line → StopsAt n (numbered k line ++ text)
 stops_later n k line text h i lt fits = stops_by n (numbered k line ++ text) (line_with k line) (parts_of text) (line_parts k line text i fits) (later_begins n k line h i lt)
 
 stops_letter : (n : ℕ) (text : List ℕ) → IsNumber n → StopsAt n (101 ∷ text)
@@ -172,20 +167,17 @@ behind_are n [] text stops = stops.rest
 behind_are n (line ∷ lines) text stops =
     behind_more n line (map (λ line. line_with n line) lines ++ parts_of text) (some_parts (map (λ line. line_with n line) lines) text) ∙ behind_are n lines text stops
 
-told_again : (n : ℕ) (lines : List Line) → IsNumber n → Each HasLineNumbers lines → told_in (map (λ line. line_with n line) lines) ≡ map told lines
+pub told_again : (n : ℕ) (lines : List Line) → IsNumber n → Each HasLineNumbers lines → told_in (map (λ line. line_with n line) lines) ≡ map told lines
 told_again n [] h k = refl
 told_again n (line ∷ lines) h k =
     ap (λ (o : Option TraceLine). told_by o ++ told_in (map (λ line. line_with n line) lines)) (line_again n line h k.0)
     ∙ ap (λ (ts : List Told). told line ∷ ts) (told_again n lines h k.1)
 
--- the lines of a directive at the front of a text, what they tell, and what is behind them
-pub block_own : (n : ℕ) (lines : List Line) (text : List ℕ) → IsNumber n → Each HasLineNumbers lines → StopsAt n text → own_lines n (parts_of (printed n lines ++ text)) ≡ map (λ line. line_with n line) lines
+-- the lines of a directive at the front of a text, and what is behind them
+pub block_own : (n : ℕ) (lines : List Line) (text : List ℕ) → IsNumber n → Each IsPrinted lines → StopsAt n text → own_lines n (parts_of (printed n lines ++ text)) ≡ map (λ line. line_with n line) lines
 block_own n lines text h k stops = ap (own_lines n) (printed_parts n lines text h k) ∙ own_lines_are n lines text stops
 
-pub block_told : (n : ℕ) (lines : List Line) (text : List ℕ) → IsNumber n → Each HasLineNumbers lines → StopsAt n text → told_in (own_lines n (parts_of (printed n lines ++ text))) ≡ map told lines
-block_told n lines text h k stops = ap told_in (block_own n lines text h k stops) ∙ told_again n lines h k
-
-pub block_behind : (n : ℕ) (lines : List Line) (text : List ℕ) → IsNumber n → Each HasLineNumbers lines → StopsAt n text → behind n (parts_of (printed n lines ++ text)) ≡ parts_of text
+pub block_behind : (n : ℕ) (lines : List Line) (text : List ℕ) → IsNumber n → Each IsPrinted lines → StopsAt n text → behind n (parts_of (printed n lines ++ text)) ≡ parts_of text
 block_behind n lines text h k stops = ap (behind n) (printed_parts n lines text h k) ∙ behind_are n lines text stops
 
 -- ---- the bytes of lines

@@ -11,7 +11,7 @@ use Rattle.bench_report.specs.declared.tally.Tally.{Tally}
 use Rattle.chip_model.specs.Chip.{Chip}
 use Rattle.mcal_base.specs.declared.directive.Directive.{Directive}
 use Rattle.mcal_base.specs.declared.directive.Request.{Request}
-use Rattle.report_reading.specs.Audits.{Audits, Ends, Unended, Unserved, Next, Refused, AuditsReport, IsReportOf, RowsFitIn}
+use Rattle.report_reading.specs.Audits.{Audits, Ends, Unended, Unserved, Next, Refused, AuditsReport, IsReportOf}
 use Rattle.report_reading.specs.Blocks.{Place, IsBlock, place_from, block_lines, place_after, own_lines, behind, text_of, printed}
 use Rattle.report_reading.specs.Fits.{DirectiveFits}
 use Rattle.report_reading.specs.Reading.{IsPlace, read_report}
@@ -128,9 +128,8 @@ module _ {State Call : Type 0} (g : Setting State Call) (call_of : Request → C
   all_counted m lines = same_tally (counted_on (place_from m).tally lines) (counted_by lines) (none_before _) (none_before _) (none_before _) (none_before _) (none_before _)
 
   pub passes_runs : (first : Chip) (script : List Directive) (text : List ℕ) (lines : ℕ) → LinesRise 0 script → Each DirectiveFits script →
-      ((journal : List Entry) → IsReportOf g call_of showing first script text journal → RowsFitIn g call_of showing first script journal) →
       AuditsReport g call_of showing first script text (Passed lines) → IsReportOf g call_of showing first script text (read_report g call_of (start_moment g first) script text)
-  passes_runs first script text lines rise fits rows audits =
+  passes_runs first script text lines rise fits audits =
       let m = start_moment g first in
       let r = passed_rest script script 0 (place_from m) 1 (parts_of text) lines refl rise (finds g call_of 0 script rise) audits in
       let ls = lines_from g call_of showing script (place_from m) script r.items in
@@ -139,7 +138,7 @@ module _ {State Call : Type 0} (g : Setting State Call) (call_of : Request → C
         run = record { follows = r.follows; legal = r.legal };
         prints = ap (λ (t : Tally). lines_text ls ++ end_text t) (sym (all_counted m ls)) ∙ (sym r.text ∙ join_with_byte-slice_split 10 text);
       } in
-      let read = reads_reports g call_of first script r.items (shows_from g call_of showing script m r.items) rise fits r.fit is.run (rows r.items is) in
+      let read = reads_reports g call_of first script r.items (shows_from g call_of showing script m r.items) rise fits r.fit is.run in
       subst (λ (journal : List Entry). IsReportOf g call_of showing first script text journal) (sym read ∙ ap (read_report g call_of m script) is.prints) is
 
   -- ---- the report of a run is passed
@@ -182,13 +181,13 @@ module _ {State Call : Type 0} (g : Setting State Call) (call_of : Request → C
         (subst (λ (n : ℕ). Audits g call_of showing later ds (line + length (own_lines d.line left)) (behind d.line left) (Passed n)) count
         (subst (λ (ps : List (List ℕ)). Audits g call_of showing later ds (line + length (own_lines d.line left)) ps (Passed (line + length (own_lines d.line left) + length others))) (sym rest) ih))
 
-  pub runs_pass : (first : Chip) (script : List Directive) (text : List ℕ) (journal : List Entry) → LinesRise 0 script → Each DirectiveFits script → RowsFitIn g call_of showing first script journal →
+  pub runs_pass : (first : Chip) (script : List Directive) (text : List ℕ) (journal : List Entry) → LinesRise 0 script → Each DirectiveFits script →
       IsReportOf g call_of showing first script text journal → AuditsReport g call_of showing first script text (Passed (1 + length (report_lines true [] (shows_from g call_of showing script (start_moment g first) journal) script journal)))
-  runs_pass first script text journal rise fits rows is =
+  runs_pass first script text journal rise fits is =
       let m = start_moment g first in
       let p = place_from m in
       let ls = lines_from g call_of showing script p script journal in
       subst (λ (bs : List ℕ). Audits g call_of showing p script 1 (parts_of bs) (Passed (1 + length ls))) is.prints
       (all_pass script (counted_by ls) script 0 p 1 journal
-      (record { rise = rise; finds = finds g call_of 0 script rise; script_fits = fits; fits = is.fits; rows = rows; frames_fit = tt; begun = refl; legal = is.run.legal })
+      (record { rise = rise; finds = finds g call_of 0 script rise; script_fits = fits; fits = is.fits; frames_fit = tt; begun = refl; legal = is.run.legal })
       is.run.follows (sym (all_counted m ls)))

@@ -14,7 +14,7 @@ use Rattle.run_model.specs.Legal.{IsServed}
 use Rattle.run_model.specs.Moment.{Setting, start_moment}
 use Rattle.script_runner.specs.Scripts.{IsRun, LinesRise}
 use Rattle.report_reading.specs.Blocks.{Place, IsBlock, place_from, place_after, own_lines, behind, text_of}
-use Rattle.report_reading.specs.Fits.{DirectiveFits, RowsFit}
+use Rattle.report_reading.specs.Fits.{DirectiveFits}
 use Rattle.report_reading.specs.Reading.{IsPlace, read_report}
 use Rattle.trace_reader.specs.Reading.{parts_of}
 use Rattle.report_reading.specs.declared.verdict.Verdict.{Verdict}
@@ -58,26 +58,22 @@ pub record IsReportOf {State Call : Type 0} (g : Setting State Call) (call_of : 
   pub run : IsRun g first call_of script journal
   pub prints : report true script journal (shows_from g call_of showing script (start_moment g first) journal) ≡ text
 
--- the rows that a journal shows have numbers of 32 bits
-abbrev pub RowsFitIn : {State Call : Type 0} → Setting State Call → (Request → Call) → Showing State → Chip → List Directive → (journal : List Entry) → Type 0
-RowsFitIn g call_of showing first script journal = Each RowsFit (shows_from g call_of showing script (start_moment g first) journal)
-
 -- Two verdicts of what is left of a report are one.
 abbrev pub AnswersOnce : {State Call : Type 0} → Setting State Call → (Request → Call) → Showing State → Type 0
 AnswersOnce {State} {Call} g call_of showing =
     (p : Place State Call) (script : List Directive) (line : ℕ) (left : List (List ℕ)) (one other : Verdict) → IsPlace p → Each DirectiveFits script
     → Audits g call_of showing p script line left one → Audits g call_of showing p script line left other → one ≡ other
 
--- A report that is passed is that of a run, whose journal it tells: where each run of the script shows numbers of 32 bits.
+-- A report that is passed is that of a run, whose journal it tells.
 abbrev pub PassesRuns : {State Call : Type 0} → Setting State Call → (Request → Call) → Showing State → Type 0
 PassesRuns {State} {Call} g call_of showing =
     (first : Chip) (script : List Directive) (text : List ℕ) (lines : ℕ)
-    → LinesRise 0 script → Each DirectiveFits script → ((journal : List Entry) → IsReportOf g call_of showing first script text journal → RowsFitIn g call_of showing first script journal)
+    → LinesRise 0 script → Each DirectiveFits script
     → AuditsReport g call_of showing first script text (Passed lines) → IsReportOf g call_of showing first script text (read_report g call_of (start_moment g first) script text)
 
 -- The report of a run is passed, and has so many lines.
 abbrev pub RunsPass : {State Call : Type 0} → Setting State Call → (Request → Call) → Showing State → Type 0
 RunsPass {State} {Call} g call_of showing =
     (first : Chip) (script : List Directive) (text : List ℕ) (journal : List Entry)
-    → LinesRise 0 script → Each DirectiveFits script → RowsFitIn g call_of showing first script journal → IsReportOf g call_of showing first script text journal
+    → LinesRise 0 script → Each DirectiveFits script → IsReportOf g call_of showing first script text journal
     → AuditsReport g call_of showing first script text (Passed (1 + length (report_lines true [] (shows_from g call_of showing script (start_moment g first) journal) script journal)))

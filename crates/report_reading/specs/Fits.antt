@@ -1,13 +1,10 @@
--- The numbers of a script, of the frames that it begins and of the rows that are shown, as far as a report prints them.
-use Rattle.bench_report.specs.Numbers.{IsNumber, Each}
-use Rattle.bench_report.specs.Rows.{Row}
+-- The numbers of a script and of the frames that it begins, as far as a report prints them.
+use Rattle.bench_report.specs.Numbers.{IsNumber}
 use Rattle.bench_report.specs.declared.frames.Purpose.{Purpose}
 use Rattle.bench_report.specs.declared.frames.Purpose.TheVariants as purposes
 use Rattle.mcal_base.specs.declared.directive.Directive.{Directive}
 use Rattle.mcal_base.specs.declared.directive.Order.{Order}
 use Rattle.mcal_base.specs.declared.directive.Order.TheVariants as orders
-use Rattle.std.specs.Prelude.{List}
-use Rattle.trace_reader.specs.Trace.{HasNameNumbers, HasValueNumbers}
 
 -- the line whose handler an order begins has 32 bits
 abbrev pub OrderFits : Order → Type 0
@@ -23,10 +20,3 @@ DirectiveFits d = IsNumber d.line × OrderFits d.order
 abbrev pub PurposeFits : Purpose → Type 0
 PurposeFits (purposes.Call service) = Unit {0}
 PurposeFits (purposes.Handler line) = IsNumber line
-
--- each number of a row, and of the rows of a show
-abbrev pub RowFits : Row → Type 0
-RowFits row = HasNameNumbers row.name × Each HasValueNumbers row.values
-
-abbrev pub RowsFit : List Row → Type 0
-RowsFit rows = Each RowFits rows

@@ -27,7 +27,7 @@ use Rattle.run_model.specs.Moment.{Setting, Moment, start_moment, after, after_a
 use Rattle.run_model.specs.Script.{beginnings_of}
 use Rattle.run_model.specs.declared.item.Stepped.{Stepped}
 use Rattle.script_runner.specs.Scripts.{IsRun, LinesRise}
-use Rattle.report_reading.specs.Fits.{DirectiveFits, PurposeFits, RowsFit}
+use Rattle.report_reading.specs.Fits.{DirectiveFits, PurposeFits}
 use Rattle.report_reading.specs.Blocks.{Place, IsBlock, place_after, block_lines, own_lines, behind}
 use Rattle.trace_reader.specs.Reading.{read_line, parts_of}
 use Rattle.trace_reader.specs.Told.{told}
@@ -188,5 +188,4 @@ abbrev pub ReadsReports : {State Call : Type 0} → Setting State Call → (Requ
 ReadsReports {State} {Call} g call_of showing =
     (first : Chip) (script : List Directive) (journal : List Entry)
     → LinesRise 0 script → Each DirectiveFits script → Each EntryFits journal → IsRun g first call_of script journal
-    → Each RowsFit (shows_from g call_of showing script (start_moment g first) journal)
     → read_report g call_of (start_moment g first) script (report true script journal (shows_from g call_of showing script (start_moment g first) journal)) ≡ journal

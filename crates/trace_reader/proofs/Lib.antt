@@ -8,6 +8,7 @@ pub mod LineByLine
 pub mod LineLaws
 pub mod NameLaws
 pub mod RegisterLaws
+pub mod Short
 pub mod Splits
 pub mod Steps
 pub mod Whole

@@ -49,7 +49,7 @@ read_none lines rest e = ap (read_parts lines) e
 
 -- ---- lines
 
-append_assoc_line : (n : ℕ) (line : Line) → line_with n line ++ codes "\n" ≡ numbered n line
+pub append_assoc_line : (n : ℕ) (line : Line) → line_with n line ++ codes "\n" ≡ numbered n line
 append_assoc_line n line = append_assoc (decimal n) (codes " " ++ line_text line) (codes "\n") ∙ ap (λ (bs : List ℕ). decimal n ++ (codes " " ++ bs)) refl
 
 told_is : (n : ℕ) (text : List ℕ) (read : Line) (t : TraceLine) (b : Bool) → bytes_eq (line_with n read) text ≡ b → (if b then Some (record { number = n; told = told read }) else None) ≡ Some t → IsLineOf (text ++ codes "\n") t

@@ -102,7 +102,7 @@ split_case : (x : ℕ) (xs s : List ℕ) (b : Bool) → (x == 10) ≡ b → (if 
 split_case x xs s true e h ih = absurd (false≢true h)
 split_case x xs s false e h ih = rw (e, ih h) refl
 
-split_front : (xs s : List ℕ) → none nl xs ≡ true → parts_of (xs ++ 10 ∷ s) ≡ xs ∷ parts_of s
+pub split_front : (xs s : List ℕ) → none nl xs ≡ true → parts_of (xs ++ 10 ∷ s) ≡ xs ∷ parts_of s
 split_front [] s h = refl
 split_front (x ∷ xs) s h = split_case x xs s (x == 10) refl h (λ g. split_front xs s g)
 

@@ -45,6 +45,13 @@ HasLineNumbers Done = Unit {0}
 abbrev pub IsWithin : Numbered → Type 0
 IsWithin line = IsNumber line.number × HasLineNumbers line.says
 
+-- a step, the wait before one, or a reset
+abbrev pub MovesOn : Line → Type 0
+MovesOn (Makes depth made value received event) = Unit {0}
+MovesOn (Waits ticks) = Unit {0}
+MovesOn (Restarts reason dropped) = Unit {0}
+MovesOn _ = ⊥
+
 -- ---- texts
 
 -- the text of lines and of the last line, which counts them

@@ -12,6 +12,6 @@ mod registers;
 mod tally;
 mod told;
 
-pub use laws::reads_traces;
+pub use laws::{MOST_MOVING, reads_traces};
 pub use read::{TraceFault, read_line, read_trace};
 pub use told::{Mark, Reply, Step, Told, TraceLine};

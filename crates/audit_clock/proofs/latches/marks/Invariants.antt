@@ -1,7 +1,7 @@
 -- The pins so far.
 use Rattle.std.proofs.Common.{◌≡◌}
 use Rattle.port_machine.specs.Bounds.{latch_duties}
-use Rattle.audit_clock.specs.Latches as spec
+use Rattle.audit_subject.specs.Marks as spec
 use Rattle.audit_clock.proofs.latches.marks.Given as goal
 
 abbrev pub invariant-loop-number : goal.invariant-loop-number

@@ -1,4 +1,4 @@
--- The latches that `Port_Init` owes, as bits of a mask.
+-- What a call owes, as bits of a mask.
 use Rattle.std.specs.Prelude.{ℕ, ◌+◌, ◌*◌, Bool, true, List, [], ◌∷◌, map, Option, Some, None}
 use Rattle.std.specs.Simd.Lanes.{mask_l}
 use Rattle.mcal_base.specs.Bits.{bit_of}

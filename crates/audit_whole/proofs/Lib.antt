@@ -1,0 +1,5 @@
+pub mod Joins
+pub mod Limits
+pub mod LineLaws
+pub mod ServiceLaws
+pub mod WaitLaws

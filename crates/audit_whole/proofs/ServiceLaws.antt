@@ -1,0 +1,28 @@
+-- The call that a request asks for is one of the service that it names.
+use Rattle.std.proofs.Common.{◌≡◌, refl}
+use Rattle.adc_machine.specs.Checks as converters
+use Rattle.dio_machine.specs.Checks as ports
+use Rattle.gpt_machine.specs.Checks as timers
+use Rattle.icu_machine.specs.Checks as captures
+use Rattle.mcal_base.specs.declared.directive.Request.{Request}
+use Rattle.mcal_base.specs.declared.service.Service.{Service}
+use Rattle.mcal_base.specs.declared.service.Service.TheVariants.{McuInit}
+use Rattle.mcu_machine.specs.Checks as clock
+use Rattle.port_machine.specs.Checks as pins
+use Rattle.pwm_machine.specs.Checks as pulses
+use Rattle.spi_machine.specs.Checks as serials
+use Rattle.wdg_machine.specs.Checks as watchdog
+use Rattle.audit_base.specs.Product.{either}
+use Rattle.audit_machines.specs.Requests.{call_of}
+use Rattle.audit_whole.specs.Whole.{AnyCall}
+
+-- the service of a call of any module
+abbrev pub service_of : AnyCall → Service
+service_of = either (either (either (either clock.service_of watchdog.service_of) (either pins.service_of timers.service_of)) (either (either pulses.service_of captures.service_of) (either converters.service_of serials.service_of))) ports.service_of
+
+as_named : (r : Request) (s : Service) → service_of (call_of (record r { service = s })) ≡ s
+as_named r McuInit = refl
+as_named r _ = refl
+
+pub serves : (r : Request) → service_of (call_of r) ≡ r.service
+serves r = as_named r r.service

@@ -1,0 +1,5 @@
+use Rattle.audit_whole.proofs.Limits.{few_channels}
+use Rattle.audit_whole.proofs.laws.channels_are_few.Goals as goal
+
+pub returns : goal.returns
+returns c t d outputs channel limits e = few_channels t channel limits e

@@ -1,0 +1,9 @@
+pub mod ChipLaws
+pub mod DeedLaws
+pub mod HearLaws
+pub mod HeldLaws
+pub mod LeftLaws
+pub mod LineLaws
+pub mod ServedLaws
+pub mod ServedParts
+pub mod SoundLaws

@@ -1,0 +1,82 @@
+-- Masks of lines are compared as lines are, one by one.
+use Rattle.std.proofs.Common.{◌≡◌, ◌⊎◌, inl, inr, ℕ, suc, ◌+◌, ◌*◌, ◌^◌, ◌<◌, nat_lt, ◌≤◌, Bool, true, false, ◌==◌, refl, sym, ◌∙◌, ap, arith, add-one}
+use Rattle.std.specs.Prelude.{bit_or}
+use Rattle.std.proofs.lemmas.Nat.{one_shl}
+use Rattle.mcal_base.specs.Bits.{has_bit, bit_of, bits_of}
+use Rattle.mcal_base.proofs.BitLaws.{has_bit-bits_of, has_bit-bits_of_above}
+use Rattle.plain_facts.specs.Numbers.{eq_is, eq_from, lt_from}
+use Rattle.plain_facts.specs.Truths.{if_true, off_on}
+use Rattle.audit_frames.specs.Decides.{Decides}
+use Rattle.audit_frames.specs.Masks.{covers, with_bit}
+use Rattle.audit_frames.proofs.MaskLaws.{covers_says, covers_shows, same_bits}
+use Rattle.audit_subject.proofs.LineMasks.{marked}
+
+-- what isn't true is false
+pub not_true : (b : Bool) → (b ≡ true → ⊥) → b ≡ false
+not_true true h = absurd (h refl)
+not_true false h = refl
+
+-- and what isn't false is true
+pub not_false : (b : Bool) → (b ≡ false → ⊥) → b ≡ true
+not_false true h = refl
+not_false false h = absurd (h refl)
+
+below_or_above : (l : ℕ) → (l < 32) ⊎ (32 ≤ l)
+below_or_above l = grind arith
+
+-- a bit of the mask of a test's lines is one of 32, of which the test holds
+bit_below : (test : ℕ → Bool) (l : ℕ) → has_bit (bits_of test 32) l ≡ true → l < 32
+bit_below test l on = elim (below_or_above l) [
+  | inl below ↦ below
+  | inr above ↦ off_on (sym (has_bit-bits_of_above test 32 l above) ∙ on)
+]
+
+bit_holds : (test : ℕ → Bool) (l : ℕ) → has_bit (bits_of test 32) l ≡ true → test l ≡ true
+bit_holds test l on = sym (has_bit-bits_of test 32 l (bit_below test l on)) ∙ on
+
+-- and where the test holds of no greater line, a bit is set exactly where the test holds
+bit_where : (test : ℕ → Bool) → ((l : ℕ) → test l ≡ true → l < 32) → (b : Bool) (l : ℕ) → test l ≡ b → has_bit (bits_of test 32) l ≡ b
+bit_where test small true l e = has_bit-bits_of test 32 l (small l e) ∙ e
+bit_where test small false l e = not_true _ (λ on. off_on (sym e ∙ bit_holds test l on))
+
+pub bit_is : (test : ℕ → Bool) → ((l : ℕ) → test l ≡ true → l < 32) → (l : ℕ) → has_bit (bits_of test 32) l ≡ test l
+bit_is test small l = bit_where test small (test l) l refl
+
+-- ---- a mask of the lines so far
+
+next : (test : ℕ → Bool) (n : ℕ) → bits_of test (suc n) ≡ bit_of (test n) * 2 ^ n + bits_of test n
+unfolding bits_of
+next test n = refl
+
+-- a line of which the test holds is marked
+pub with_line : (test : ℕ → Bool) (n found : ℕ) → n < 64 → test n ≡ true → found ≡ bits_of test n → with_bit found n ≡ bits_of test (n + 1)
+with_line test n found lt on e =
+    if_true (nat_lt n 64) (bit_or found (2 ^ n)) found (lt_from n 64 lt) ∙ (sym (ap (λ b. bit_or found b) (one_shl n 64 lt)) ∙ marked test n found lt on e)
+
+-- and another one isn't
+pub without_line : (test : ℕ → Bool) (n found : ℕ) → test n ≡ false → found ≡ bits_of test n → found ≡ bits_of test (n + 1)
+without_line test n found off e = rw (add-one, next test n, off) (omega (arith, e))
+
+-- ---- masks of all lines
+
+module _ (test seen : ℕ → Bool) (mask : ℕ) (same : (l : ℕ) → has_bit mask l ≡ seen l) (small : (l : ℕ) → test l ≡ true → l < 32) where
+  -- each line of the test is seen
+  pub each_seen : Decides (covers (bits_of test 32) mask) ((l : ℕ) → test l ≡ true → seen l ≡ true)
+  each_seen = record {
+    says = λ e l on. sym (same l) ∙ covers_says (bits_of test 32) mask e l (bit_is test small l ∙ on);
+    shows = λ h. covers_shows (bits_of test 32) mask (λ l on. same l ∙ h l (bit_holds test l on));
+  }
+
+  -- no other line is seen
+  pub none_else : Decides (covers mask (bits_of test 32)) ((l : ℕ) → test l ≡ false → seen l ≡ false)
+  none_else = record {
+    says = λ e l off. not_true (seen l) (λ on. off_on (sym off ∙ bit_holds test l (covers_says mask (bits_of test 32) e l (same l ∙ on))));
+    shows = λ h. covers_shows mask (bits_of test 32) (λ l on. bit_is test small l ∙ not_false (test l) (λ off. off_on (sym (h l off) ∙ (sym (same l) ∙ on))));
+  }
+
+  -- exactly these lines are seen
+  pub all_same : Decides (mask == bits_of test 32) ((l : ℕ) → seen l ≡ test l)
+  all_same = record {
+    says = λ e l. sym (same l) ∙ (ap (λ x. has_bit x l) (eq_is mask (bits_of test 32) e) ∙ bit_is test small l);
+    shows = λ h. eq_from mask (bits_of test 32) (same_bits mask (bits_of test 32) (λ l. same l ∙ (h l ∙ sym (bit_is test small l))));
+  }

@@ -1,0 +1,11 @@
+-- The module says it of the run.
+use Rattle.std.proofs.Common.{subst}
+use Rattle.run_model.specs.Frame.{Entered}
+use Rattle.audit_frames.specs.StandsFor.{IsBegun}
+use Rattle.report_auditor.specs.Deeds.{opening}
+use Rattle.report_auditor.proofs.auditor.Auditor.line_terms.Goals as goal
+
+pub returns : goal.returns
+returns g c t p stands =
+    let s = rw (← c.self.view_is) at stands in
+    subst (λ x. IsBegun (g.P.Subject.setting x) c.line_terms.result (opening (g.P.Subject.setting x) (Entered c.args.line) 0)) s.kept_of c.line_terms.ensures

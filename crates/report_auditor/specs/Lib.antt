@@ -1,0 +1,5 @@
+pub mod Asking
+pub mod Auditing
+pub mod ChipRules
+pub mod Deeds
+pub mod Serving

@@ -1,0 +1,198 @@
+ghost use Rattle.std.specs.Prelude.{◌≡◌, ◌||◌, ℕ, false, not};
+ghost use Rattle.chip_model.specs.Chip.{is_pending};
+ghost use Rattle.std.specs.Bool.{OnTrue};
+ghost use Rattle.mcal_base.specs.Bits.{bits_of};
+ghost use Rattle.mcal_base.specs.declared.moves.Unit as units;
+ghost use Rattle.run_model.specs.Legal.{AreGoing, IsQuiet, IsServed, QuietAtRest};
+ghost use Rattle.run_model.specs.World.{World};
+ghost use Rattle.audit_base.specs.Outside.{IsWorld};
+ghost use Rattle.audit_frames.specs.Decides.{Decides};
+ghost use Rattle.audit_frames.specs.Masks as masks;
+ghost use Rattle.report_reading.specs.Blocks.{Place};
+ghost use Rattle.report_auditor.specs.Auditing.{Stands};
+ghost use Rattle.report_auditor.specs.Serving.{KeepsTime, LinesAgree, OpenRight};
+
+use crate::auditor::{Auditor, same_left};
+use crate::whole::Whole;
+use audit_base::{Outside, Part};
+use audit_frames::with_bit;
+use mcal_base::Unit;
+
+/// How many lines there are.
+const LINES: u32 = 32;
+
+/// The lines that are due, as the bits of a mask.
+fn due_lines<P: Part>(part: &P, outside: &Outside) -> u64
+    ensures { (w : World) (s : P.State) → P.fits part.now outside.now → IsWorld outside.now w → P.stands part.now s →
+        result ≡ bits_of ((P.member (P.table part.now)).machine.due w s) 32 }
+{
+    let mut found = 0;
+    for line in 0..LINES {
+        if part.due(outside, line) {
+            found = with_bit(found, line);
+        }
+    }
+    found
+}
+
+/// The lines that configured objects use.
+fn used_lines<P: Part>(part: &P) -> u64
+    ensures { result ≡ bits_of (P.member (P.table part.now)).lines 32 }
+{
+    let mut found = 0;
+    for line in 0..LINES {
+        if part.has_line(line) {
+            found = with_bit(found, line);
+        }
+    }
+    found
+}
+
+/// Whether each bit of the first mask is one of the second.
+fn covers(need: u64, have: u64) -> bool
+    ensures { result ≡ masks.covers need have }
+{
+    need & have == need
+}
+
+/// Whether none of four is so.
+fn none_is(one: bool, two: bool, three: bool, four: bool) -> bool
+    ensures { result ≡ not (one || two || three || four) }
+{
+    !(one || two || three || four)
+}
+
+/// Whether no unit may start or abort.
+fn units_rest<P: Part>(part: &P, outside: &Outside) -> bool
+    requires fits { P.fits part.now outside.now }
+    ensures { (w : World) (s : P.State) → IsWorld outside.now w → P.stands part.now s →
+        Decides result ((u : units.Unit) → (P.member (P.table part.now)).machine.startable w s u ≡ false) }
+{
+    let one = part.startable(outside, Unit::Adc0);
+    let two = part.startable(outside, Unit::Adc1);
+    let three = part.startable(outside, Unit::Spi0);
+    let four = part.startable(outside, Unit::Spi1);
+    none_is(one, two, three, four)
+}
+
+impl<P: Whole> Auditor<P> {
+    /// Whether time goes on at the machines' rate.
+    fn keeps_rate(&self) -> bool
+        ensures right { (t : P.Table) (p : Place P.State P.Call) → Stands P.setting P.table P.stands t self.now p →
+            Decides result (p.moment.chip.clock.rate ≡ (P.setting t).machine.rate p.moment.state) }
+        ensures rate { OnTrue result (self.now.chip.clock.rate ≡ P.ticks self.now.parts) }
+    {
+        let shown = self.bus.rate();
+        let asked = self.parts.rate();
+        shown == asked
+    }
+
+    /// Whether it does, and the watchdog has as much of it left as they say.
+    fn keeps_time(&self) -> bool
+        ensures time { (t : P.Table) (p : Place P.State P.Call) → Stands P.setting P.table P.stands t self.now p →
+            Decides result (KeepsTime (P.setting t) p.moment) }
+        ensures rate { OnTrue result (self.now.chip.clock.rate ≡ P.ticks self.now.parts) }
+    {
+        if !self.keeps_rate() {
+            return false;
+        }
+        same_left(self.bus.expiry(), self.parts.expires(&self.outside))
+    }
+
+    /// Whether each line that is due is pending, and each that is pending is used.
+    fn lines_agree(&self) -> bool
+        requires fits { P.fits self.now.parts self.now.outside }
+        ensures { (t : P.Table) (p : Place P.State P.Call) → Stands P.setting P.table P.stands t self.now p →
+            Decides result (LinesAgree (P.setting t) p.moment) }
+    {
+        let pending = self.bus.pending_lines() as u64;
+        if !covers(due_lines(&self.parts, &self.outside), pending) {
+            return false;
+        }
+        covers(pending, used_lines(&self.parts))
+    }
+
+    /// Whether chip and machines agree in what they do wherever the mask is open, where it is.
+    fn is_open_right(&self) -> bool
+        requires fits { P.fits self.now.parts self.now.outside }
+        ensures { (t : P.Table) (p : Place P.State P.Call) → Stands P.setting P.table P.stands t self.now p →
+            Decides result (OpenRight (P.setting t) p.moment) }
+    {
+        if self.bus.masked() {
+            return true;
+        }
+        if !self.lines_agree() {
+            return false;
+        }
+        let origins = self.origins.as_slice();
+        self.parts.agrees_open(&self.outside, &self.bus, origins)
+    }
+
+    /// Whether those lines are pending that are due, and no others.
+    fn has_due_lines(&self) -> bool
+        requires fits { P.fits self.now.parts self.now.outside }
+        ensures { (t : P.Table) (p : Place P.State P.Call) → Stands P.setting P.table P.stands t self.now p →
+            Decides result ((l : ℕ) → is_pending p.moment.chip l ≡ (P.setting t).machine.due p.moment.world p.moment.state l) }
+    {
+        let pending = self.bus.pending_lines() as u64;
+        let due = due_lines(&self.parts, &self.outside);
+        pending == due
+    }
+
+    /// Whether they agree in what they do with no frame under way.
+    fn is_quiet(&self) -> bool
+        requires fits { P.fits self.now.parts self.now.outside }
+        requires within { P.within self.now.parts }
+        ensures { (t : P.Table) (p : Place P.State P.Call) → Stands P.setting P.table P.stands t self.now p →
+            Decides result (IsQuiet (P.setting t) p.moment) }
+    {
+        if !units_rest(&self.parts, &self.outside) {
+            return false;
+        }
+        if !self.has_due_lines() {
+            return false;
+        }
+        self.parts.agrees_at_rest(&self.outside, &self.bus)
+    }
+
+    /// Whether they do so, where no frame is under way.
+    fn is_quiet_at_rest(&self) -> bool
+        requires fits { P.fits self.now.parts self.now.outside }
+        requires within { P.within self.now.parts }
+        ensures { (t : P.Table) (p : Place P.State P.Call) → Stands P.setting P.table P.stands t self.now p →
+            Decides result (QuietAtRest (P.setting t) p.moment p.moment.opens) }
+    {
+        match self.frames.top() {
+            Some(_) => true,
+            None => self.is_quiet(),
+        }
+    }
+
+    /// Whether each frame can go on within its bounds. Those below the newest one can.
+    fn are_going(&self) -> bool
+        ensures { (t : P.Table) (p : Place P.State P.Call) → Stands P.setting P.table P.stands t self.now p →
+            Decides result (AreGoing (P.setting t) p.moment.opens) }
+    {
+        self.frames.is_going()
+    }
+
+    /// Whether the moment is one of a legal run: chip and machine agree as far as they have to.
+    pub fn is_served(&self) -> bool
+        requires fits { P.fits self.now.parts self.now.outside }
+        requires within { P.within self.now.parts }
+        ensures served { (t : P.Table) (p : Place P.State P.Call) → Stands P.setting P.table P.stands t self.now p →
+            Decides result (IsServed (P.setting t) p.moment) }
+        ensures rate { OnTrue result (self.now.chip.clock.rate ≡ P.ticks self.now.parts) }
+    {
+        if !self.keeps_time() {
+            return false;
+        }
+        if !self.are_going() {
+            return false;
+        }
+        if !self.is_open_right() {
+            return false;
+        }
+        self.is_quiet_at_rest()
+    }
+}

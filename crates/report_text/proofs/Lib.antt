@@ -1,0 +1,7 @@
+pub mod Counting
+pub mod Cutting
+pub mod Lasts
+pub mod Nexts
+pub mod Owning
+pub mod Taking
+pub mod Telling

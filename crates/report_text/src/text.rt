@@ -1,0 +1,186 @@
+ghost use Rattle.std.specs.Prelude.{◌≡◌, ◌+◌, ◌<◌, ◌++◌, ◌==◌, IfOk, MatchOption, IfSome, OnOk, [], ◌∷◌, length, take, drop, false, true, count_by, codes, decimal, string_bytes};
+ghost use Rattle.bench_report.specs.Lines.{line_of, numbered};
+ghost use Rattle.bench_report.specs.Numbers.{IsNumber};
+ghost use Rattle.report_reading.specs.Blocks.{own_lines};
+ghost use Rattle.trace_reader.specs.Reading.{parts_of};
+ghost use Rattle.report_text.specs.Unread as spec;
+
+use crate::ending::Ending;
+use bench_report::{Line, Tally};
+use memchr::memchr;
+use std::alloc::{AllocError, Global};
+use std::marker::Model;
+use trace_reader::{MOST_MOVING, Told, read_line};
+
+/// A report as far as it isn't read yet, with the number of the script line whose block is read.
+#[derive(Drop)]
+pub struct Report<'a> {
+    left: &'a [u8],
+    // How many lines were read.
+    read: u32,
+    number: u32,
+    // The number with a space, as the lines of the block begin.
+    mark: String,
+    // The line that was printed last.
+    printed: String,
+}
+
+impl<'a> Model for Report<'a> {
+    ghost use Rattle.std.specs.Prelude.{◌≡◌, ◌+◌, ◌<◌, ◌++◌, length, codes, decimal, string_bytes};
+    ghost use Rattle.report_text.specs.Unread as unread;
+
+    ghost Value = { unread.Unread };
+
+    ghost view = { λ r. record { left = r.left.now; read = r.read; number = r.number } };
+
+    ghost invariant = { λ r. (string_bytes r.mark ≡ decimal r.number ++ codes " ") × (r.read + length r.left.now < 4294967295) };
+}
+
+/// What is behind a text at the front of another; none where it doesn't stand there.
+fn behind<'a>(front: &[u8], text: &'a [u8]) -> Option<&'a [u8]>
+    ensures { MatchOption result (spec.comes front.now text.now ≡ false) (λ rest. (spec.comes front.now text.now ≡ true) × (rest.now ≡ drop (length front.now) text.now) × (length rest.now + length front.now ≡ length text.now)) }
+{
+    text.strip_prefix(front)
+}
+
+/// Where the first line of a text ends, before its line feed; none where no whole line comes.
+fn line_end(text: &[u8]) -> Option<usize>
+    ensures line { MatchOption result (parts_of text.now ≡ text.now ∷ []) (λ end. parts_of text.now ≡ take end text.now ∷ parts_of (drop (end + 1) text.now)) }
+    ensures within { IfSome result (λ end. end < length text.now) }
+{
+    memchr(b'\n', text)
+}
+
+/// How a line of the block of a script line begins.
+fn mark_of(alloc: Global, number: u32) -> Result<String, AllocError>
+    ensures { IfOk result (λ mark. string_bytes mark ≡ decimal number ++ codes " ") }
+{
+    format!(in alloc; "{number} ")
+}
+
+impl<'a> Report<'a> {
+    /// A report of which nothing was read. No block is begun: that of line 0 stands in its place.
+    pub fn new(alloc: Global, text: &'a [u8]) -> Result<Report<'a>, AllocError>
+        requires { length text.now < 4294967295 }
+        ensures { IfOk result (λ report. report ≡ spec.unread text.now) }
+    {
+        let mark = mark_of(alloc, 0)?;
+        Ok(Report {
+            left: text,
+            read: 0,
+            number: 0,
+            mark,
+            printed: String::new(alloc),
+        })
+    }
+
+    /// The number, from 1, of the line that comes next.
+    pub fn next_line(&self) -> u32
+        ensures { result ≡ self.now.read + 1 }
+    {
+        self.read + 1
+    }
+
+    /// The block of a script line begins.
+    pub fn begin(&mut self, alloc: Global, number: u32) -> Result<(), AllocError>
+        ensures { OnOk result (self.new ≡ spec.begun number self.old) }
+    {
+        let mark = mark_of(alloc, number)?;
+        self.mark = mark;
+        self.number = number;
+        Ok(())
+    }
+
+    /// Where the next line ends, before its line feed; none where no whole line of the block comes.
+    fn own_end(&self) -> Option<usize>
+        ensures line { MatchOption result (spec.own self.now ≡ []) (λ end. spec.own self.now ≡ take end self.now.left ∷ own_lines self.now.number (parts_of (drop (end + 1) self.now.left))) }
+        ensures within { IfSome result (λ end. end < length self.now.left) }
+    {
+        let end = line_end(self.left)?;
+        let _rest = behind(self.mark.as_bytes(), &self.left[..end])?;
+        Some(end)
+    }
+
+    /// Whether no more line of the block comes.
+    pub fn block_is_over(&self) -> bool
+        ensures { result ≡ spec.is_empty (spec.own self.now) }
+    {
+        match self.own_end() {
+            Some(_) => false,
+            None => true,
+        }
+    }
+
+    /// What the next line of the block tells, which is then taken; none where no such line comes, or one that is longer than
+    /// any that tells a step, a wait or a reset, or none of a report's.
+    pub fn take_told(&mut self, alloc: Global) -> Result<Option<Told>, AllocError>
+        ensures told { IfOk result (λ told. told ≡ spec.told_next self.old) }
+        ensures taken { IfOk result (λ told. self.new ≡ spec.after_told self.old told) }
+        ensures number { IfOk result (λ _. IsNumber self.old.number) }
+    {
+        let Some(end) = self.own_end() else {
+            return Ok(None);
+        };
+        if end > MOST_MOVING {
+            return Ok(None);
+        }
+        match read_line(alloc, &self.left[..end])? {
+            Some(line) => {
+                self.left = &self.left[end + 1..];
+                self.read += 1;
+                Ok(Some(line.told))
+            }
+            None => Ok(None),
+        }
+    }
+
+    /// Whether the next line is this one, with the number of the block; then it is taken.
+    pub fn takes(&mut self, line: Line<'_>) -> Result<bool, AllocError>
+        ensures right { IfOk result (λ right. right ≡ spec.comes (numbered self.old.number (line_of line.entry)) self.old.left) }
+        ensures taken { IfOk result (λ right. self.new ≡ spec.taken right (numbered self.old.number (line_of line.entry)) 1 self.old) }
+        ensures number { IfOk result (λ _. IsNumber self.old.number) }
+    {
+        let number = self.number;
+        self.printed.clear();
+        write!(self.printed, "{number} {line}\n")?;
+        match behind(self.printed.as_bytes(), self.left) {
+            Some(left) => {
+                self.left = left;
+                self.read += 1;
+                Ok(true)
+            }
+            None => Ok(false),
+        }
+    }
+
+    /// Whether the lines of a text come next; then they are taken.
+    pub fn takes_text(&mut self, text: &str) -> bool
+        ensures right { result ≡ spec.comes text.now self.old.left }
+        ensures taken { self.new ≡ spec.taken result text.now (count_by (λ b. b == 10) text.now) self.old }
+    {
+        let text = text.as_bytes();
+        match behind(text, self.left) {
+            Some(left) => {
+                let lines = text.iter().filter(|byte| **byte == b'\n').count();
+                self.left = left;
+                self.read += lines as u32;
+                true
+            }
+            None => false,
+        }
+    }
+
+    /// What is left where the last line must come, which counts the others.
+    pub fn end(&mut self, tally: &Tally) -> Result<Ending, AllocError>
+        ensures ending { IfOk result (λ ending. spec.Ends tally.now self.old.left ending) }
+        ensures left { self.new ≡ self.old }
+    {
+        self.printed.clear();
+        write!(self.printed, "{tally}")?;
+        match behind(self.printed.as_bytes(), self.left) {
+            Some([]) => Ok(Ending::Alone),
+            Some(_) => Ok(Ending::Followed),
+            None => Ok(Ending::Missing),
+        }
+    }
+}
