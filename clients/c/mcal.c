@@ -308,11 +308,10 @@ static void finish(Told *told, boolean moved) {
   if (frames == 0) refresh();
 }
 
-/* Calls a service with arguments as text; an empty answer where it is held. Without a hook its first steps are asked for in the
-   same go. */
-static Told call(const char *service, const char *format, ...) {
+/* Calls a service with arguments as text, and tells its answer, an empty one where it is held. Without a hook its first steps
+   are asked for in the same go. */
+static void call(Told *told, const char *service, const char *format, ...) {
   char line[160], *end = line + sizeof line, *to;
-  Told told;
   boolean in_one_go = !goes_by_steps();
   va_list arguments;
   to = put_number(put_word(line, end, in_one_go ? "next do " : "call "), Mcal_Level);
@@ -322,14 +321,13 @@ static Told call(const char *service, const char *format, ...) {
   va_start(arguments, format);
   put(to, end, format, arguments);
   va_end(arguments);
-  ask_line(line, &told);
-  if (told.held[0]) {
-    Mcal_OnHeld(service, told.held);
-    clear(&told);
+  ask_line(line, told);
+  if (told->held[0]) {
+    Mcal_OnHeld(service, told->held);
+    clear(told);
   } else {
-    finish(&told, in_one_go);
+    finish(told, in_one_go);
   }
-  return told;
 }
 
 /* The place of the answer's name among these, the last of which is NULL; of no answer this one. */
@@ -489,72 +487,75 @@ static void fill(uint32 channel, const Spi_DataBufferType *words, uint32 count) 
 
 /* ---- the services */
 
-#define ONE(service, type) void service(type first) { call(#service, "%u", (unsigned)first); }
-#define NONE(service) void service(void) { call(#service, ""); }
-#define INIT(module) void module##_Init(const module##_ConfigType *ConfigPtr) { (void)ConfigPtr; call(#module "_Init", ""); }
+#define ONE(service, type) void service(type first) { Told t; call(&t, #service, "%u", (unsigned)first); }
+#define NONE(service) void service(void) { Told t; call(&t, #service, ""); }
+#define INIT(module) void module##_Init(const module##_ConfigType *ConfigPtr) { Told t; (void)ConfigPtr; call(&t, #module "_Init", ""); }
 
 INIT(Mcu)
-Std_ReturnType Mcu_InitRamSection(Mcu_RamSectionType section) { Told t = call("Mcu_InitRamSection", "%u", (unsigned)section); return ok(&t); }
-Std_ReturnType Mcu_InitClock(Mcu_ClockType setting) { Told t = call("Mcu_InitClock", "%u", (unsigned)setting); return ok(&t); }
-Std_ReturnType Mcu_DistributePllClock(void) { Told t = call("Mcu_DistributePllClock", ""); return ok(&t); }
-Mcu_PllStatusType Mcu_GetPllStatus(void) { Told t = call("Mcu_GetPllStatus", ""); return (Mcu_PllStatusType)named(&t, MCU_PLL_STATUS_UNDEFINED, NAMES("MCU_PLL_LOCKED", "MCU_PLL_UNLOCKED", "MCU_PLL_STATUS_UNDEFINED")); }
-Mcu_ResetType Mcu_GetResetReason(void) { Told t = call("Mcu_GetResetReason", ""); return (Mcu_ResetType)named(&t, MCU_RESET_UNDEFINED, NAMES("MCU_POWER_ON_RESET", "MCU_WATCHDOG_RESET", "MCU_SW_RESET", "MCU_RESET_UNDEFINED")); }
+Std_ReturnType Mcu_InitRamSection(Mcu_RamSectionType section) { Told t; call(&t, "Mcu_InitRamSection", "%u", (unsigned)section); return ok(&t); }
+Std_ReturnType Mcu_InitClock(Mcu_ClockType setting) { Told t; call(&t, "Mcu_InitClock", "%u", (unsigned)setting); return ok(&t); }
+Std_ReturnType Mcu_DistributePllClock(void) { Told t; call(&t, "Mcu_DistributePllClock", ""); return ok(&t); }
+Mcu_PllStatusType Mcu_GetPllStatus(void) { Told t; call(&t, "Mcu_GetPllStatus", ""); return (Mcu_PllStatusType)named(&t, MCU_PLL_STATUS_UNDEFINED, NAMES("MCU_PLL_LOCKED", "MCU_PLL_UNLOCKED", "MCU_PLL_STATUS_UNDEFINED")); }
+Mcu_ResetType Mcu_GetResetReason(void) { Told t; call(&t, "Mcu_GetResetReason", ""); return (Mcu_ResetType)named(&t, MCU_RESET_UNDEFINED, NAMES("MCU_POWER_ON_RESET", "MCU_WATCHDOG_RESET", "MCU_SW_RESET", "MCU_RESET_UNDEFINED")); }
 NONE(Mcu_PerformReset)
 ONE(Mcu_SetMode, Mcu_ModeType)
 
 INIT(Port)
-void Port_SetPinDirection(Port_PinType pin, Port_PinDirectionType direction) { call("Port_SetPinDirection", "%u %s", (unsigned)pin, direction == PORT_PIN_OUT ? "PORT_PIN_OUT" : "PORT_PIN_IN"); }
+void Port_SetPinDirection(Port_PinType pin, Port_PinDirectionType direction) { Told t; call(&t, "Port_SetPinDirection", "%u %s", (unsigned)pin, direction == PORT_PIN_OUT ? "PORT_PIN_OUT" : "PORT_PIN_IN"); }
 NONE(Port_RefreshPortDirection)
 void Port_SetPinMode(Port_PinType pin, Port_PinModeType mode) {
   static const char *const modes[] = { "PORT_PIN_MODE_ADC", "PORT_PIN_MODE_DIO", "PORT_PIN_MODE_ICU", "PORT_PIN_MODE_PWM", "PORT_PIN_MODE_SPI" };
-  call("Port_SetPinMode", "%u %s", (unsigned)pin, mode < 5 ? modes[mode] : "INVALID");
+  Told t;
+  call(&t, "Port_SetPinMode", "%u %s", (unsigned)pin, mode < 5 ? modes[mode] : "INVALID");
 }
 
 INIT(Gpt)
 NONE(Gpt_DeInit)
-Gpt_ValueType Gpt_GetTimeElapsed(Gpt_ChannelType channel) { Told t = call("Gpt_GetTimeElapsed", "%u", (unsigned)channel); return number(&t); }
-Gpt_ValueType Gpt_GetTimeRemaining(Gpt_ChannelType channel) { Told t = call("Gpt_GetTimeRemaining", "%u", (unsigned)channel); return number(&t); }
-void Gpt_StartTimer(Gpt_ChannelType channel, Gpt_ValueType value) { call("Gpt_StartTimer", "%u %u", (unsigned)channel, (unsigned)value); }
+Gpt_ValueType Gpt_GetTimeElapsed(Gpt_ChannelType channel) { Told t; call(&t, "Gpt_GetTimeElapsed", "%u", (unsigned)channel); return number(&t); }
+Gpt_ValueType Gpt_GetTimeRemaining(Gpt_ChannelType channel) { Told t; call(&t, "Gpt_GetTimeRemaining", "%u", (unsigned)channel); return number(&t); }
+void Gpt_StartTimer(Gpt_ChannelType channel, Gpt_ValueType value) { Told t; call(&t, "Gpt_StartTimer", "%u %u", (unsigned)channel, (unsigned)value); }
 ONE(Gpt_StopTimer, Gpt_ChannelType)
 ONE(Gpt_EnableNotification, Gpt_ChannelType)
 ONE(Gpt_DisableNotification, Gpt_ChannelType)
-void Gpt_SetMode(Gpt_ModeType mode) { call("Gpt_SetMode", "%s", mode == GPT_MODE_NORMAL ? "GPT_MODE_NORMAL" : mode == GPT_MODE_SLEEP ? "GPT_MODE_SLEEP" : "INVALID"); }
+void Gpt_SetMode(Gpt_ModeType mode) { Told t; call(&t, "Gpt_SetMode", "%s", mode == GPT_MODE_NORMAL ? "GPT_MODE_NORMAL" : mode == GPT_MODE_SLEEP ? "GPT_MODE_SLEEP" : "INVALID"); }
 ONE(Gpt_EnableWakeup, Gpt_ChannelType)
 ONE(Gpt_DisableWakeup, Gpt_ChannelType)
 ONE(Gpt_CheckWakeup, EcuM_WakeupSourceType)
 
 INIT(Pwm)
 NONE(Pwm_DeInit)
-void Pwm_SetDutyCycle(Pwm_ChannelType channel, uint16 duty) { call("Pwm_SetDutyCycle", "%u %u", (unsigned)channel, (unsigned)duty); }
-void Pwm_SetPeriodAndDuty(Pwm_ChannelType channel, Pwm_PeriodType period, uint16 duty) { call("Pwm_SetPeriodAndDuty", "%u %u %u", (unsigned)channel, (unsigned)period, (unsigned)duty); }
+void Pwm_SetDutyCycle(Pwm_ChannelType channel, uint16 duty) { Told t; call(&t, "Pwm_SetDutyCycle", "%u %u", (unsigned)channel, (unsigned)duty); }
+void Pwm_SetPeriodAndDuty(Pwm_ChannelType channel, Pwm_PeriodType period, uint16 duty) { Told t; call(&t, "Pwm_SetPeriodAndDuty", "%u %u %u", (unsigned)channel, (unsigned)period, (unsigned)duty); }
 ONE(Pwm_SetOutputToIdle, Pwm_ChannelType)
-Pwm_OutputStateType Pwm_GetOutputState(Pwm_ChannelType channel) { Told t = call("Pwm_GetOutputState", "%u", (unsigned)channel); return (Pwm_OutputStateType)named(&t, PWM_LOW, NAMES("PWM_LOW", "PWM_HIGH")); }
-void Pwm_EnableNotification(Pwm_ChannelType channel, Pwm_EdgeNotificationType edges) { call("Pwm_EnableNotification", "%u %s", (unsigned)channel, edges == PWM_RISING_EDGE ? "PWM_RISING_EDGE" : edges == PWM_FALLING_EDGE ? "PWM_FALLING_EDGE" : "PWM_BOTH_EDGES"); }
+Pwm_OutputStateType Pwm_GetOutputState(Pwm_ChannelType channel) { Told t; call(&t, "Pwm_GetOutputState", "%u", (unsigned)channel); return (Pwm_OutputStateType)named(&t, PWM_LOW, NAMES("PWM_LOW", "PWM_HIGH")); }
+void Pwm_EnableNotification(Pwm_ChannelType channel, Pwm_EdgeNotificationType edges) { Told t; call(&t, "Pwm_EnableNotification", "%u %s", (unsigned)channel, edges == PWM_RISING_EDGE ? "PWM_RISING_EDGE" : edges == PWM_FALLING_EDGE ? "PWM_FALLING_EDGE" : "PWM_BOTH_EDGES"); }
 ONE(Pwm_DisableNotification, Pwm_ChannelType)
 
 INIT(Icu)
 NONE(Icu_DeInit)
-void Icu_SetActivationCondition(Icu_ChannelType channel, Icu_ActivationType edges) { call("Icu_SetActivationCondition", "%u %s", (unsigned)channel, edges == ICU_RISING_EDGE ? "ICU_RISING_EDGE" : edges == ICU_FALLING_EDGE ? "ICU_FALLING_EDGE" : edges == ICU_BOTH_EDGES ? "ICU_BOTH_EDGES" : "INVALID"); }
+void Icu_SetActivationCondition(Icu_ChannelType channel, Icu_ActivationType edges) { Told t; call(&t, "Icu_SetActivationCondition", "%u %s", (unsigned)channel, edges == ICU_RISING_EDGE ? "ICU_RISING_EDGE" : edges == ICU_FALLING_EDGE ? "ICU_FALLING_EDGE" : edges == ICU_BOTH_EDGES ? "ICU_BOTH_EDGES" : "INVALID"); }
 ONE(Icu_EnableNotification, Icu_ChannelType)
 ONE(Icu_DisableNotification, Icu_ChannelType)
-Icu_InputStateType Icu_GetInputState(Icu_ChannelType channel) { Told t = call("Icu_GetInputState", "%u", (unsigned)channel); return (Icu_InputStateType)named(&t, ICU_IDLE, NAMES("ICU_ACTIVE", "ICU_IDLE")); }
+Icu_InputStateType Icu_GetInputState(Icu_ChannelType channel) { Told t; call(&t, "Icu_GetInputState", "%u", (unsigned)channel); return (Icu_InputStateType)named(&t, ICU_IDLE, NAMES("ICU_ACTIVE", "ICU_IDLE")); }
 ONE(Icu_EnableEdgeDetection, Icu_ChannelType)
 ONE(Icu_DisableEdgeDetection, Icu_ChannelType)
 ONE(Icu_ResetEdgeCount, Icu_ChannelType)
 ONE(Icu_EnableEdgeCount, Icu_ChannelType)
 ONE(Icu_DisableEdgeCount, Icu_ChannelType)
-Icu_EdgeNumberType Icu_GetEdgeNumbers(Icu_ChannelType channel) { Told t = call("Icu_GetEdgeNumbers", "%u", (unsigned)channel); return number(&t); }
+Icu_EdgeNumberType Icu_GetEdgeNumbers(Icu_ChannelType channel) { Told t; call(&t, "Icu_GetEdgeNumbers", "%u", (unsigned)channel); return number(&t); }
 void Icu_StartTimestamp(Icu_ChannelType channel, Icu_ValueType *buffer, uint16 size, uint16 interval) {
-  Told t = call("Icu_StartTimestamp", "%u %u %u", (unsigned)channel, (unsigned)size, (unsigned)interval);
+  Told t;
+  call(&t, "Icu_StartTimestamp", "%u %u %u", (unsigned)channel, (unsigned)size, (unsigned)interval);
   if (t.ended && !t.has_error && channel < 8) stamps[channel] = buffer, has_arrays = TRUE;
 }
 ONE(Icu_StopTimestamp, Icu_ChannelType)
-Icu_IndexType Icu_GetTimestampIndex(Icu_ChannelType channel) { Told t = call("Icu_GetTimestampIndex", "%u", (unsigned)channel); return (Icu_IndexType)number(&t); }
+Icu_IndexType Icu_GetTimestampIndex(Icu_ChannelType channel) { Told t; call(&t, "Icu_GetTimestampIndex", "%u", (unsigned)channel); return (Icu_IndexType)number(&t); }
 ONE(Icu_StartSignalMeasurement, Icu_ChannelType)
 ONE(Icu_StopSignalMeasurement, Icu_ChannelType)
-Icu_ValueType Icu_GetTimeElapsed(Icu_ChannelType channel) { Told t = call("Icu_GetTimeElapsed", "%u", (unsigned)channel); return number(&t); }
+Icu_ValueType Icu_GetTimeElapsed(Icu_ChannelType channel) { Told t; call(&t, "Icu_GetTimeElapsed", "%u", (unsigned)channel); return number(&t); }
 void Icu_GetDutyCycleValues(Icu_ChannelType channel, Icu_DutyCycleType *values) {
-  Told t = call("Icu_GetDutyCycleValues", "%u", (unsigned)channel);
+  Told t;
+  call(&t, "Icu_GetDutyCycleValues", "%u", (unsigned)channel);
   values->ActiveTime = number_at(&t, 0);
   values->PeriodTime = number_at(&t, 1);
 }
@@ -565,14 +566,16 @@ Std_ReturnType Adc_SetupResultBuffer(Adc_GroupType group, Adc_ValueGroupType *bu
   static const char *const names[] = { "0", "1" };
   Adc_ValueGroupType **known = results[group & 15u];
   unsigned place = !known[0] || known[0] == buffer ? 0u : 1u;
-  Told t = call("Adc_SetupResultBuffer", "%u %s", (unsigned)group, buffer ? names[place] : "null");
+  Told t;
+  call(&t, "Adc_SetupResultBuffer", "%u %s", (unsigned)group, buffer ? names[place] : "null");
   if (ok(&t) == E_OK && group < 16) known[place] = buffer, has_arrays = TRUE;
   return ok(&t);
 }
 ONE(Adc_StartGroupConversion, Adc_GroupType)
 ONE(Adc_StopGroupConversion, Adc_GroupType)
 Std_ReturnType Adc_ReadGroup(Adc_GroupType group, Adc_ValueGroupType *to) {
-  Told t = call("Adc_ReadGroup", "%u", (unsigned)group);
+  Told t;
+  call(&t, "Adc_ReadGroup", "%u", (unsigned)group);
   for (uint32 place = 0; place < t.count; place++) to[place] = (Adc_ValueGroupType)t.words[place];
   return ok(&t);
 }
@@ -580,10 +583,11 @@ ONE(Adc_EnableHardwareTrigger, Adc_GroupType)
 ONE(Adc_DisableHardwareTrigger, Adc_GroupType)
 ONE(Adc_EnableGroupNotification, Adc_GroupType)
 ONE(Adc_DisableGroupNotification, Adc_GroupType)
-Adc_StatusType Adc_GetGroupStatus(Adc_GroupType group) { Told t = call("Adc_GetGroupStatus", "%u", (unsigned)group); return (Adc_StatusType)named(&t, ADC_IDLE, NAMES("ADC_IDLE", "ADC_BUSY", "ADC_COMPLETED", "ADC_STREAM_COMPLETED")); }
+Adc_StatusType Adc_GetGroupStatus(Adc_GroupType group) { Told t; call(&t, "Adc_GetGroupStatus", "%u", (unsigned)group); return (Adc_StatusType)named(&t, ADC_IDLE, NAMES("ADC_IDLE", "ADC_BUSY", "ADC_COMPLETED", "ADC_STREAM_COMPLETED")); }
 static Adc_ValueGroupType *chosen(Adc_GroupType group);
 Adc_StreamNumSampleType Adc_GetStreamLastPointer(Adc_GroupType group, Adc_ValueGroupType **sample) {
-  Told t = call("Adc_GetStreamLastPointer", "%u", (unsigned)group);
+  Told t;
+  call(&t, "Adc_GetStreamLastPointer", "%u", (unsigned)group);
   Adc_ValueGroupType *buffer = chosen(group);
   *sample = t.count > 1 && buffer ? buffer + t.words[1] : NULL;
   return (Adc_StreamNumSampleType)number(&t);
@@ -602,14 +606,16 @@ static Adc_ValueGroupType *chosen(Adc_GroupType group) {
 }
 
 INIT(Spi)
-Std_ReturnType Spi_DeInit(void) { Told t = call("Spi_DeInit", ""); return ok(&t); }
+Std_ReturnType Spi_DeInit(void) { Told t; call(&t, "Spi_DeInit", ""); return ok(&t); }
 Std_ReturnType Spi_WriteIB(Spi_ChannelType channel, const Spi_DataBufferType *words) {
   if (words && channel < 16) fill(channel, words, lengths[channel]);
-  Told t = call("Spi_WriteIB", "%u %s", (unsigned)channel, words ? "src" : "null");
+  Told t;
+  call(&t, "Spi_WriteIB", "%u %s", (unsigned)channel, words ? "src" : "null");
   return ok(&t);
 }
 Std_ReturnType Spi_ReadIB(Spi_ChannelType channel, Spi_DataBufferType *to) {
-  Told t = call("Spi_ReadIB", "%u", (unsigned)channel);
+  Told t;
+  call(&t, "Spi_ReadIB", "%u", (unsigned)channel);
   for (uint32 place = 0; place < t.count; place++) to[place] = (Spi_DataBufferType)t.words[place];
   return ok(&t);
 }
@@ -620,7 +626,8 @@ Std_ReturnType Spi_SetupEB(Spi_ChannelType channel, const Spi_DataBufferType *so
     external[channel].length = length;
     has_arrays = TRUE;
   }
-  Told t = call("Spi_SetupEB", "%u %s %s %u", (unsigned)channel, source ? "src" : "null", destination ? "dst" : "null", (unsigned)length);
+  Told t;
+  call(&t, "Spi_SetupEB", "%u %s %s %u", (unsigned)channel, source ? "src" : "null", destination ? "dst" : "null", (unsigned)length);
   return ok(&t);
 }
 static void fill_sources(void) {
@@ -629,38 +636,41 @@ static void fill_sources(void) {
 }
 Std_ReturnType Spi_AsyncTransmit(Spi_SequenceType sequence) {
   fill_sources();
-  Told t = call("Spi_AsyncTransmit", "%u", (unsigned)sequence);
+  Told t;
+  call(&t, "Spi_AsyncTransmit", "%u", (unsigned)sequence);
   return ok(&t);
 }
 Std_ReturnType Spi_SyncTransmit(Spi_SequenceType sequence) {
   fill_sources();
-  Told t = call("Spi_SyncTransmit", "%u", (unsigned)sequence);
+  Told t;
+  call(&t, "Spi_SyncTransmit", "%u", (unsigned)sequence);
   return ok(&t);
 }
 ONE(Spi_Cancel, Spi_SequenceType)
 #define STATUS NAMES("SPI_UNINIT", "SPI_IDLE", "SPI_BUSY")
-Spi_StatusType Spi_GetStatus(void) { Told t = call("Spi_GetStatus", ""); return (Spi_StatusType)named(&t, SPI_UNINIT, STATUS); }
-Spi_JobResultType Spi_GetJobResult(Spi_JobType job) { Told t = call("Spi_GetJobResult", "%u", (unsigned)job); return (Spi_JobResultType)named(&t, SPI_JOB_FAILED, NAMES("SPI_JOB_OK", "SPI_JOB_PENDING", "SPI_JOB_FAILED", "SPI_JOB_QUEUED")); }
-Spi_SeqResultType Spi_GetSequenceResult(Spi_SequenceType sequence) { Told t = call("Spi_GetSequenceResult", "%u", (unsigned)sequence); return (Spi_SeqResultType)named(&t, SPI_SEQ_FAILED, NAMES("SPI_SEQ_OK", "SPI_SEQ_PENDING", "SPI_SEQ_FAILED", "SPI_SEQ_CANCELED")); }
-Spi_StatusType Spi_GetHWUnitStatus(Spi_HWUnitType unit) { Told t = call("Spi_GetHWUnitStatus", "%u", (unsigned)unit); return (Spi_StatusType)named(&t, SPI_UNINIT, STATUS); }
-Std_ReturnType Spi_SetAsyncMode(Spi_AsyncModeType mode) { Told t = call("Spi_SetAsyncMode", "%s", mode == SPI_POLLING_MODE ? "SPI_POLLING_MODE" : "SPI_INTERRUPT_MODE"); return ok(&t); }
+Spi_StatusType Spi_GetStatus(void) { Told t; call(&t, "Spi_GetStatus", ""); return (Spi_StatusType)named(&t, SPI_UNINIT, STATUS); }
+Spi_JobResultType Spi_GetJobResult(Spi_JobType job) { Told t; call(&t, "Spi_GetJobResult", "%u", (unsigned)job); return (Spi_JobResultType)named(&t, SPI_JOB_FAILED, NAMES("SPI_JOB_OK", "SPI_JOB_PENDING", "SPI_JOB_FAILED", "SPI_JOB_QUEUED")); }
+Spi_SeqResultType Spi_GetSequenceResult(Spi_SequenceType sequence) { Told t; call(&t, "Spi_GetSequenceResult", "%u", (unsigned)sequence); return (Spi_SeqResultType)named(&t, SPI_SEQ_FAILED, NAMES("SPI_SEQ_OK", "SPI_SEQ_PENDING", "SPI_SEQ_FAILED", "SPI_SEQ_CANCELED")); }
+Spi_StatusType Spi_GetHWUnitStatus(Spi_HWUnitType unit) { Told t; call(&t, "Spi_GetHWUnitStatus", "%u", (unsigned)unit); return (Spi_StatusType)named(&t, SPI_UNINIT, STATUS); }
+Std_ReturnType Spi_SetAsyncMode(Spi_AsyncModeType mode) { Told t; call(&t, "Spi_SetAsyncMode", "%s", mode == SPI_POLLING_MODE ? "SPI_POLLING_MODE" : "SPI_INTERRUPT_MODE"); return ok(&t); }
 NONE(Spi_MainFunction_Handling)
 
 static const char *level_name(Dio_LevelType level) { return level == STD_LOW ? "STD_LOW" : "STD_HIGH"; }
 static Dio_LevelType level(const Told *told) { return (Dio_LevelType)named(told, STD_LOW, NAMES("STD_LOW", "STD_HIGH")); }
 static unsigned group_id(const Dio_ChannelGroupType *group) { return group ? group->id : 0xFFu; }
-Dio_LevelType Dio_ReadChannel(Dio_ChannelType channel) { Told t = call("Dio_ReadChannel", "%u", (unsigned)channel); return level(&t); }
-void Dio_WriteChannel(Dio_ChannelType channel, Dio_LevelType to) { call("Dio_WriteChannel", "%u %s", (unsigned)channel, level_name(to)); }
-Dio_LevelType Dio_FlipChannel(Dio_ChannelType channel) { Told t = call("Dio_FlipChannel", "%u", (unsigned)channel); return level(&t); }
-Dio_PortLevelType Dio_ReadPort(Dio_PortType port) { Told t = call("Dio_ReadPort", "%u", (unsigned)port); return (Dio_PortLevelType)number(&t); }
-void Dio_WritePort(Dio_PortType port, Dio_PortLevelType to) { call("Dio_WritePort", "%u %u", (unsigned)port, (unsigned)to); }
-Dio_PortLevelType Dio_ReadChannelGroup(const Dio_ChannelGroupType *group) { Told t = call("Dio_ReadChannelGroup", "%u", group_id(group)); return (Dio_PortLevelType)number(&t); }
-void Dio_WriteChannelGroup(const Dio_ChannelGroupType *group, Dio_PortLevelType to) { call("Dio_WriteChannelGroup", "%u %u", group_id(group), (unsigned)to); }
+Dio_LevelType Dio_ReadChannel(Dio_ChannelType channel) { Told t; call(&t, "Dio_ReadChannel", "%u", (unsigned)channel); return level(&t); }
+void Dio_WriteChannel(Dio_ChannelType channel, Dio_LevelType to) { Told t; call(&t, "Dio_WriteChannel", "%u %s", (unsigned)channel, level_name(to)); }
+Dio_LevelType Dio_FlipChannel(Dio_ChannelType channel) { Told t; call(&t, "Dio_FlipChannel", "%u", (unsigned)channel); return level(&t); }
+Dio_PortLevelType Dio_ReadPort(Dio_PortType port) { Told t; call(&t, "Dio_ReadPort", "%u", (unsigned)port); return (Dio_PortLevelType)number(&t); }
+void Dio_WritePort(Dio_PortType port, Dio_PortLevelType to) { Told t; call(&t, "Dio_WritePort", "%u %u", (unsigned)port, (unsigned)to); }
+Dio_PortLevelType Dio_ReadChannelGroup(const Dio_ChannelGroupType *group) { Told t; call(&t, "Dio_ReadChannelGroup", "%u", group_id(group)); return (Dio_PortLevelType)number(&t); }
+void Dio_WriteChannelGroup(const Dio_ChannelGroupType *group, Dio_PortLevelType to) { Told t; call(&t, "Dio_WriteChannelGroup", "%u %u", group_id(group), (unsigned)to); }
 
 INIT(Wdg)
 Std_ReturnType Wdg_SetMode(WdgIf_ModeType mode) {
   static const char *const modes[] = { "WDGIF_OFF_MODE", "WDGIF_SLOW_MODE", "WDGIF_FAST_MODE" };
-  Told t = call("Wdg_SetMode", "%s", (unsigned)mode < 3 ? modes[mode] : "INVALID");
+  Told t;
+  call(&t, "Wdg_SetMode", "%s", (unsigned)mode < 3 ? modes[mode] : "INVALID");
   return ok(&t);
 }
 ONE(Wdg_SetTriggerCondition, uint16)

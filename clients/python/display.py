@@ -10,11 +10,21 @@ SpiSequence = [ { SpiSequenceId = 0, SpiInterruptibleSequence = false, SpiJobAss
 '''
 
 
+class Display:
+    """Shows the words that it is sent, and answers each with how many they are."""
+
+    def __init__(self):
+        self.shown = bytearray()
+
+    def __call__(self, word):
+        self.shown.append(word)
+        return len(self.shown)
+
+
 def main():
-    shown = []
+    display, done = Display(), []
     with Board(CONFIGURATION) as board:
-        board.device(0, lambda word: (shown.append(word), len(shown))[1])
-        done = []
+        board.device(0, display)
         board.on('SpiSeqEndNotification', 0, lambda: done.append(board.Spi_GetSequenceResult(0)))
         board.Spi_Init()
         board.fill(0, 72, 105, 33)
@@ -25,7 +35,7 @@ def main():
             board.tick(64)
             if not board.serve():
                 break
-        print('shown', bytes(shown).decode(), 'read', *board.Spi_ReadIB(0), 'ended', *done)
+        print('shown', display.shown.decode(), 'read', *board.Spi_ReadIB(0), 'ended', *done)
 
 
 if __name__ == '__main__':

@@ -113,6 +113,8 @@ class Board:
     # ---- the pipe
 
     def _send(self, text):
+        if self._pipe.stdin.closed:
+            raise Refused('the power is off')
         try:
             self._pipe.stdin.write(text.encode() + b'\n')
             self._pipe.stdin.flush()

@@ -4,6 +4,7 @@
 
 #include <stdarg.h>
 #include <stddef.h>
+#include <string.h>
 
 #include "Std_Types.h"
 
@@ -12,9 +13,9 @@ static inline char *next_word(char **rest) {
   char *word = *rest, *end;
   while (*word == ' ') word++;
   if (!*word) return NULL;
-  for (end = word; *end && *end != ' ';) end++;
-  *rest = *end ? end + 1 : end;
-  *end = 0;
+  end = strchr(word, ' ');
+  *rest = end ? end + 1 : word + strlen(word);
+  if (end) *end = 0;
   return word;
 }
 
@@ -41,8 +42,10 @@ static inline char *put_number(char *to, uint32 value) {
 }
 
 static inline char *put_word(char *to, const char *end, const char *word) {
-  while (*word && to < end) *to++ = *word++;
-  return to;
+  size_t length = strlen(word), room = (size_t)(end - to);
+  if (length > room) length = room;
+  memcpy(to, word, length);
+  return to + length;
 }
 
 /* Puts a format, with an `unsigned` for %u and a word for %s, at the end of a line that has room up to a place. */

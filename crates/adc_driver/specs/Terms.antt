@@ -11,8 +11,8 @@ pub use Rattle.std.proofs.lemmas.List.Sums.{count_by-le-length, sum_by-cons, sum
 pub use Rattle.std.proofs.lemmas.Option.{get_or_from_slice_get, slice_get_within}
 pub use Rattle.std.specs.List.{fold, list_any, range_with_len}
 pub use Rattle.std.specs.Option.{option_map}
-pub use Rattle.plain_facts.specs.{Numbers.{eq_self, lt_from, lt_is, lt_isnt, positive, same_or_other}}
-pub use Rattle.plain_facts.specs.{Options.{some_same}, Truths.{and_false, and_first, and_second}}
+pub use Rattle.mcal_base.specs.facts.{Numbers.{eq_self, lt_from, lt_is, lt_isnt, positive, same_or_other}}
+pub use Rattle.mcal_base.specs.facts.{Options.{some_same}, Truths.{and_false, and_first, and_second}}
 pub use Rattle.mcal_base.proofs.BitLaws.{has_bit-or}
 pub use Rattle.mcal_base.specs.{Bits.{has_bit}, Layout.{is_within}, declared.TheConstants.{WORDS}}
 pub use Rattle.mcal_base.specs.{declared.answer.Answer.{Answer}, declared.answer_name.AnswerName.TheVariants.{ENotOk}}

@@ -12,9 +12,9 @@ pub use Rattle.std.proofs.lemmas.Nat.Bits.{bit_at-lt, bit_at-zero, same_from_bit
 pub use Rattle.std.proofs.lemmas.Option.{slice_get_within}
 pub use Rattle.std.specs.Int.{bit_at}
 pub use Rattle.std.specs.List.{AllByRecursion, list_all, list_any, range_with_len}
-pub use Rattle.plain_facts.specs.{Numbers.{eq_is, eq_other, eq_self, le_since, lt_from, same_or_other}}
-pub use Rattle.plain_facts.specs.{Options.{none_some, some_same}, Truths.{and_false, and_first, and_second, and_true}}
-pub use Rattle.plain_facts.specs.{Truths.{clash, clear_apart, if_same, off_on, or_false, set_apart}}
+pub use Rattle.mcal_base.specs.facts.{Numbers.{eq_is, eq_other, eq_self, le_since, lt_from, same_or_other}}
+pub use Rattle.mcal_base.specs.facts.{Options.{none_some, some_same}, Truths.{and_false, and_first, and_second, and_true}}
+pub use Rattle.mcal_base.specs.facts.{Truths.{clash, clear_apart, if_same, off_on, or_false, set_apart}}
 pub use Rattle.mcal_base.proofs.BitLaws.{has_bit-above, has_bit-or, has_bit-pow_other, has_bit-pow_same}
 pub use Rattle.mcal_base.proofs.BitLaws.{has_bit-without, has_bit-zero}
 pub use Rattle.mcal_base.specs.{Bits.{bit_of, has_bit, without}, declared.TheConstants.{WORDS}}

@@ -2,7 +2,7 @@
 use Rattle.std.proofs.Common.{◌≡◌, ℕ, zero, suc, ◌<◌, ◌≤◌, Bool, true, false, cond, ◌&&◌, ◌||◌, ◌==◌, nat_lt, List, [], ◌∷◌, Option, Some, None, refl, subst, arith}
 use Rattle.std.specs.Prelude.{slice_get, if◌then◌else◌, is_some, slice_index_or}
 use Rattle.std.proofs.lemmas.Bool.Decides.{nat_tests}
-use Rattle.plain_facts.specs.Truths.{and_first}
+use Rattle.mcal_base.specs.facts.Truths.{and_first}
 use Rattle.adc_machine.specs.Laws.{IsNext, IsBefore}
 use Rattle.adc_machine.specs.Table.{group_of, all_groups}
 use Rattle.adc_machine.specs.Turns.{AdcState, group_at, is_on, waits_for, rank_of, number_in, comes_before, first_of, next_among, next_group}

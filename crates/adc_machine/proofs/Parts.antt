@@ -1,7 +1,7 @@
 -- The parts of a state that was changed.
 use Rattle.std.proofs.Common.{◌≡◌, ◌≢◌, ℕ, zero, suc, ◌<◌, Bool, true, false, cond, ◌==◌, [], ◌∷◌, Option, None, refl, ◌∙◌, ap, arith}
 use Rattle.std.specs.Prelude.{slice_index_or}
-use Rattle.plain_facts.specs.Numbers.{eq_other, eq_self}
+use Rattle.mcal_base.specs.facts.Numbers.{eq_other, eq_self}
 use Rattle.adc_machine.specs.Groups.{GroupState, Round, untouched}
 use Rattle.adc_machine.specs.Table.{by_group}
 use Rattle.adc_machine.specs.Turns.{AdcState, group_at, round_at, with_group, with_round}

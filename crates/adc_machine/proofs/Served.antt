@@ -1,6 +1,6 @@
 -- A group after a serving of its round.
 use Rattle.std.proofs.Common.{◌≡◌, ◌≢◌, ℕ, ◌+◌, ◌-◌, ◌<◌, ◌==◌, Bool, true, false, cond, List, [], ◌∷◌, ◌++◌, length, Option, Some, None, refl, sym, ◌∙◌, ap}
-use Rattle.plain_facts.specs.Numbers.{eq_from, eq_other}
+use Rattle.mcal_base.specs.facts.Numbers.{eq_from, eq_other}
 use Rattle.run_model.specs.World.{World}
 use Rattle.run_model.specs.Machine.{Serves, Outcome, outcome, tells_nothing}
 use Rattle.adc_machine.specs.Groups.{Round, Status, Idle, Busy, Completed, StreamCompleted, status_after, is_continuous, is_full, place_in, samples_of, values_of, trigger_input, with_round_of}

@@ -9,8 +9,8 @@ pub use Rattle.std.proofs.lemmas.Bool.Decides.{nat_tests}
 pub use Rattle.std.proofs.lemmas.List.{length-drop, length_push, take_all}
 pub use Rattle.std.proofs.lemmas.Nat.{mod-mul-add}
 pub use Rattle.std.specs.Option.{option_map}
-pub use Rattle.plain_facts.specs.{Numbers.{eq_is, eq_other, eq_self, le_since, lt_is, lt_isnt, same_or_other}}
-pub use Rattle.plain_facts.specs.{Options.{none_some, some_same}, Truths.{and_false, clash, off_on}}
+pub use Rattle.mcal_base.specs.facts.{Numbers.{eq_is, eq_other, eq_self, le_since, lt_is, lt_isnt, same_or_other}}
+pub use Rattle.mcal_base.specs.facts.{Options.{none_some, some_same}, Truths.{and_false, clash, off_on}}
 pub use Rattle.mcal_base.proofs.BitLaws.{has_bit-without}
 pub use Rattle.mcal_base.specs.{Bits.{bit_of, has_bit}, declared.TheConstants.{WORDS}, declared.answer.Answer.{Answer}}
 pub use Rattle.mcal_base.specs.{declared.answer_name.AnswerName.TheVariants.{EOk}, declared.layout.TheConstants.{USERS}}

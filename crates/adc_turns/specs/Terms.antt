@@ -10,7 +10,7 @@ pub use Rattle.std.proofs.lemmas.List.{get_or-map, length-map}
 pub use Rattle.std.proofs.lemmas.List.FromFn.{length-range_with_len}
 pub use Rattle.std.proofs.lemmas.Option.{slice_get_within}
 pub use Rattle.std.specs.List.{list_any, range_with_len}
-pub use Rattle.plain_facts.specs.{Numbers.{eq_is, eq_isnt, eq_other, eq_self, same_or_other}, Truths.{and_second}}
+pub use Rattle.mcal_base.specs.facts.{Numbers.{eq_is, eq_isnt, eq_other, eq_self, same_or_other}, Truths.{and_second}}
 pub use Rattle.mcal_base.specs.{Bits.{bit_of, has_bit}, declared.answer.Answer.{Answer}, declared.moves.Event.{Event}}
 pub use Rattle.mcal_base.specs.{declared.moves.Move.{Move}, declared.moves.Move.TheVariants.{Load, Mask, Note, Read}}
 pub use Rattle.mcal_base.specs.{declared.moves.Move.TheVariants.{Report, Store, Unmask, Write}}

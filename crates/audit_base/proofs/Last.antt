@@ -2,7 +2,7 @@
 use Rattle.std.proofs.Common.{◌≡◌, ◌≢◌, ◌⊎◌, inl, inr, ℕ, zero, suc, ◌+◌, ◌-◌, ◌<◌, ◌≤◌, nat_lt, cond, ◌==◌, ◌&&◌, List, [], ◌∷◌, ◌++◌, length, refl, ◌∙◌, sym, ap, subst, arith, take, get_or, Some, Vec, Global}
 use Rattle.std.specs.Prelude.{slice_get, slice_set}
 use Rattle.std.proofs.lemmas.List.{take_more}
-use Rattle.plain_facts.specs.Numbers.{same_or_other, eq_self, eq_turned}
+use Rattle.mcal_base.specs.facts.Numbers.{same_or_other, eq_self, eq_turned}
 use Rattle.run_model.specs.World.{Sample, sample_at}
 use Rattle.audit_base.specs.Inputs.{level_from, level_before, level_of}
 use Rattle.audit_base.specs.declared.samples.Taken.{Taken}

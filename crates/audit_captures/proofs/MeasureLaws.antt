@@ -5,7 +5,7 @@ use Rattle.std.specs.List.{filter_map}
 use Rattle.std.proofs.lemmas.Bool.Decides.{nat_tests}
 use Rattle.std.proofs.lemmas.List.{append-nil}
 use Rattle.std.specs.Option.{option_map, option_or}
-use Rattle.plain_facts.specs.Truths.{and_second}
+use Rattle.mcal_base.specs.facts.Truths.{and_second}
 use Rattle.icu_machine.specs.Edges.{Edge, is_same, time_between, last_of, value_of, up_to, beginning_at, measures, newest}
 use Rattle.mcal_base.specs.declared.config.icu.IcuSignalMeasurementProperty.{IcuSignalMeasurementProperty as Property}
 use Rattle.mcal_base.specs.declared.config.icu.IcuSignalMeasurementProperty.TheVariants.{HighTime, LowTime, PeriodTime, DutyCycle}

@@ -4,7 +4,7 @@ use Rattle.std.specs.Prelude.{◌==◌, if◌then◌else◌, Option}
 use Rattle.std.proofs.lemmas.List.{get_or_past, get_or-set_same, get_or-set_other}
 use Rattle.std.proofs.lemmas.Grind.{get_or-set_at, common_steps}
 use Rattle.std.proofs.lemmas.Bool.Decides.{nat_tests}
-use Rattle.plain_facts.specs.Numbers.{lt_is, lt_isnt, same_or_other}
+use Rattle.mcal_base.specs.facts.Numbers.{lt_is, lt_isnt, same_or_other}
 use Rattle.icu_machine.specs.Edges as edges
 use Rattle.icu_machine.specs.Machine as machine
 use Rattle.icu_machine.specs.Machine.{IcuState, capture_at, with_capture, by_channel, stamp_in}

@@ -4,7 +4,7 @@ use Rattle.std.specs.List.{range_with_len, list_all}
 use Rattle.adc_machine.specs.Machine.{is_unit_line, is_trigger_line}
 use Rattle.adc_machine.specs.Words.{is_for_lines}
 use Rattle.mcal_base.specs.Bits.{has_bit}
-use Rattle.plain_facts.specs.Numbers.{eq_other, lt_from}
+use Rattle.mcal_base.specs.facts.Numbers.{eq_other, lt_from}
 
 -- the lines from a number on
 abbrev pub from_line : ℕ → List ℕ

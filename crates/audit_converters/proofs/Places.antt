@@ -3,7 +3,7 @@ use Rattle.std.proofs.Common.{◌≡◌, ◌≢◌, ◌⊎◌, inl, inr, ℕ, ze
 use Rattle.std.specs.Prelude.{option_map}
 use Rattle.std.specs.List.{AllByRecursion}
 use Rattle.std.proofs.lemmas.List.{get_or-set_same, get_or-set_other, get_or_past}
-use Rattle.plain_facts.specs.Numbers.{eq_other, eq_self, same_or_other}
+use Rattle.mcal_base.specs.facts.Numbers.{eq_other, eq_self, same_or_other}
 use Rattle.adc_machine.specs.Groups as machine
 use Rattle.adc_machine.specs.Groups.{GroupState, untouched}
 use Rattle.adc_machine.specs.Table.{by_group}

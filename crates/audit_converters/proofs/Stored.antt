@@ -3,7 +3,7 @@ use Rattle.std.proofs.Common.{◌≡◌, ◌≢◌, ◌⊎◌, inl, inr, ℕ, su
 use Rattle.std.specs.Prelude.{if◌then◌else◌}
 use Rattle.std.proofs.lemmas.List.{get_or-set_same, get_or-set_other}
 use Rattle.std.proofs.Math.Nat.{suc-mul}
-use Rattle.plain_facts.specs.Numbers.{same_or_other, eq_self, eq_other, lt_is, lt_from}
+use Rattle.mcal_base.specs.facts.Numbers.{same_or_other, eq_self, eq_other, lt_is, lt_from}
 use Rattle.run_model.specs.World.{with_at}
 use Rattle.adc_machine.specs.Groups.{Results, held_in, is_same, stored_from}
 use Rattle.adc_machine.specs.declared.call.ResultBuffer.{ResultBuffer}

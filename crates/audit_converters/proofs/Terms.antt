@@ -18,7 +18,7 @@ pub use Rattle.audit_base.specs.Tells.{gives}
 pub use Rattle.det_errors.specs.Rows.{first_error}
 pub use Rattle.mcal_base.specs.declared.answer_name.AnswerName.TheVariants.{EOk}
 pub use Rattle.mcal_base.specs.declared.directive.Order.TheVariants.{Trigger}
-pub use Rattle.plain_facts.specs.Numbers.{lt_from, lt_since}
+pub use Rattle.mcal_base.specs.facts.Numbers.{lt_from, lt_since}
 pub use Rattle.run_model.specs.Machine.{Aborts, Acts, Moves, outcome, Starts, tells_nothing}
 pub use Rattle.run_model.specs.World.{Sample}
 pub use Rattle.run_model.specs.Machine.{answers, named, named_with, numbers, tells_error}

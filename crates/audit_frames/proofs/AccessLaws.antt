@@ -10,8 +10,8 @@ use Rattle.mcal_base.specs.declared.moves.Move.TheVariants.{Read, Write, Load, S
 use Rattle.mcal_base.specs.declared.register.Reg.{Reg}
 use Rattle.mcal_base.specs.declared.register.Reg.TheVariants.{TimerLow, TimerHigh, PulseCommit, PulseIdle, CaptureCountLow, CaptureCountHigh, CaptureTimeLow, CaptureTimeHigh}
 use Rattle.mcal_base.specs.declared.service.Service.{Service}
-use Rattle.plain_facts.specs.Numbers.{eq_from, eq_is, eq_other, lt_from, lt_is, same_or_other}
-use Rattle.plain_facts.specs.Truths.{and_first, and_second, or_false}
+use Rattle.mcal_base.specs.facts.Numbers.{eq_from, eq_is, eq_other, lt_from, lt_is, same_or_other}
+use Rattle.mcal_base.specs.facts.Truths.{and_first, and_second, or_false}
 use Rattle.run_model.specs.Frame as frame
 use Rattle.run_model.specs.Frame.{Origin, Called, Entered, reads_after, writes_after, since_after}
 use Rattle.run_model.specs.Legal as legal

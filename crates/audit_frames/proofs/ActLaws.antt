@@ -10,7 +10,7 @@ use Rattle.mcal_base.specs.declared.moves.Event.TheVariants.{Act, Serve, Abort, 
 use Rattle.mcal_base.specs.declared.moves.Move.{Move}
 use Rattle.mcal_base.specs.declared.moves.Move.TheVariants.{Read}
 use Rattle.mcal_base.specs.declared.register.Reg.{Reg}
-use Rattle.plain_facts.specs.Truths.{off_on, on_off, or_true}
+use Rattle.mcal_base.specs.facts.Truths.{off_on, on_off, or_true}
 use Rattle.run_model.specs.Frame as frame
 use Rattle.run_model.specs.Frame.{Origin, Called, Entered, ActedAt, acted_by, acted_at_by, is_reset_service, report_as}
 use Rattle.run_model.specs.Legal.{ActsLow, HalvesRight, WritesNothing, ErrorsRight, MadeUnless, AllMade, HasMade}

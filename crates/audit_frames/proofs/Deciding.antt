@@ -3,8 +3,8 @@ use Rattle.std.proofs.Common.{◌≡◌, ℕ, zero, suc, ◌<◌, ◌≤◌, Boo
 use Rattle.std.specs.Prelude.{nat_lt, nat_le, slice_index_or, is_some}
 use Rattle.std.specs.List.{list_any, Contains}
 use Rattle.std.proofs.lemmas.Bool.Decides.{nat_tests}
-use Rattle.plain_facts.specs.Numbers.{eq_is, eq_from, lt_is, lt_from}
-use Rattle.plain_facts.specs.Truths.{and_first, and_second, off_on}
+use Rattle.mcal_base.specs.facts.Numbers.{eq_is, eq_from, lt_is, lt_from}
+use Rattle.mcal_base.specs.facts.Truths.{and_first, and_second, off_on}
 use Rattle.audit_frames.specs.Decides.{Decides}
 
 pub and_join : (a b : Bool) → a ≡ true → b ≡ true → a && b ≡ true

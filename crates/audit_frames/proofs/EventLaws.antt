@@ -9,7 +9,7 @@ use Rattle.mcal_base.specs.declared.moves.Move.TheVariants.{Read, Write}
 use Rattle.mcal_base.specs.declared.moves.Unit as units
 use Rattle.mcal_base.specs.declared.moves.Unit.TheVariants.{Adc0, Adc1, Spi0, Spi1}
 use Rattle.mcal_base.specs.declared.register.Reg.TheVariants.{ConverterGo, ConverterAbort, SerialData}
-use Rattle.plain_facts.specs.Truths.{off_on, on_off}
+use Rattle.mcal_base.specs.facts.Truths.{off_on, on_off}
 use Rattle.run_model.specs.Frame.{Origin, Called, Entered, Open, is_wait, window_after}
 use Rattle.run_model.specs.Legal as legal
 use Rattle.run_model.specs.Legal.{IsNext, StandsAt, unit_number}

@@ -6,7 +6,7 @@ use Rattle.mcal_base.proofs.BitLaws.{has_bit-and, has_bit-or, has_bit-zero}
 use Rattle.mcal_base.specs.Bits.{has_bit}
 use Rattle.mcal_base.specs.declared.moves.Event.{Event}
 use Rattle.mcal_base.specs.declared.moves.Event.TheVariants.{Act, Serve, Abort, Start}
-use Rattle.plain_facts.specs.Truths.{and_first, and_second, off_on, or_false}
+use Rattle.mcal_base.specs.facts.Truths.{and_first, and_second, off_on, or_false}
 use Rattle.run_model.specs.Frame.{Origin, Called, Entered, Open, polled_by, served_by}
 use Rattle.run_model.specs.Legal.{has_line, lines_from, IsNext, has_met, is_left_waiting}
 use Rattle.run_model.specs.Machine.{Machine}

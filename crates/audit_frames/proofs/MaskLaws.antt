@@ -6,8 +6,8 @@ use Rattle.std.specs.List.{list_any, list_all}
 use Rattle.std.proofs.lemmas.Nat.Bits.{bit_at-lt, same_from_bits}
 use Rattle.mcal_base.proofs.BitLaws.{has_bit-above, has_bit-and, has_bit-or, has_bit-pow_same, has_bit-pow_other}
 use Rattle.mcal_base.specs.Bits.{has_bit}
-use Rattle.plain_facts.specs.Numbers.{eq_from, eq_is, eq_other, eq_self, lt_from, same_or_other}
-use Rattle.plain_facts.specs.Truths.{and_first, and_second, off_on, on_off}
+use Rattle.mcal_base.specs.facts.Numbers.{eq_from, eq_is, eq_other, eq_self, lt_from, same_or_other}
+use Rattle.mcal_base.specs.facts.Truths.{and_first, and_second, off_on, on_off}
 use Rattle.run_model.specs.Legal.{has_line}
 use Rattle.audit_frames.specs.Decides.{Decides}
 use Rattle.audit_frames.specs.Masks.{with_bit, with_bits, has_any, covers}

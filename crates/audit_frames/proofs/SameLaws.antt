@@ -9,7 +9,7 @@ use Rattle.mcal_base.specs.declared.notice.NoticeKind.{NoticeKind}
 use Rattle.mcal_base.specs.declared.notice.NoticeKind.TheVariants as kinds
 use Rattle.mcal_base.specs.declared.service.Service.{Service}
 use Rattle.mcal_base.specs.declared.service.Service.TheVariants as services
-use Rattle.plain_facts.specs.Truths.{off_on, on_off}
+use Rattle.mcal_base.specs.facts.Truths.{off_on, on_off}
 use Rattle.audit_frames.specs.Decides.{Decides}
 use Rattle.audit_frames.specs.Same.{kind_number, error_number, service_number, same_truth, same_notice, same_report}
 use Rattle.audit_frames.proofs.Deciding.{both, equal, no, three, worded, yes}

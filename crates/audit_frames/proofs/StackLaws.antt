@@ -4,7 +4,7 @@ use Rattle.std.specs.Prelude.{cond, is_some, nat_le, nat_lt, slice_index_or}
 use Rattle.std.proofs.lemmas.Bool.Decides.{nat_tests}
 use Rattle.std.specs.List.{list_all}
 use Rattle.mcal_base.proofs.BitLaws.{has_bit-zero}
-use Rattle.plain_facts.specs.Truths.{off_on}
+use Rattle.mcal_base.specs.facts.Truths.{off_on}
 use Rattle.mcal_base.specs.declared.answer.Answer.{Answer}
 use Rattle.run_model.specs.Causes as causes
 use Rattle.run_model.specs.Frame.{Open, top_after}

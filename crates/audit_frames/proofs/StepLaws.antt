@@ -8,8 +8,8 @@ use Rattle.mcal_base.specs.Reach.{CanApply}
 use Rattle.mcal_base.specs.declared.answer.Answer.{Answer}
 use Rattle.mcal_base.specs.declared.moves.Event.{Event}
 use Rattle.mcal_base.specs.declared.moves.Event.TheVariants.{Act, Serve, Abort, Start}
-use Rattle.plain_facts.specs.Truths.{and_first, and_second}
-use Rattle.plain_facts.specs.Options.{some_is}
+use Rattle.mcal_base.specs.facts.Truths.{and_first, and_second}
+use Rattle.mcal_base.specs.facts.Options.{some_is}
 use Rattle.run_model.specs.declared.item.Stepped.{Stepped}
 use Rattle.run_model.specs.Frame as frame
 use Rattle.run_model.specs.Frame.{Origin, Called, Entered, Open, outcome_at, state_after, open_after}

@@ -2,8 +2,8 @@
 use Rattle.std.proofs.Common.{◌≡◌, ℕ, zero, suc, ◌+◌, ◌<◌, ◌≤◌, ◌==◌, Bool, true, false, List, [], ◌∷◌, length, get_or, slice_index_or, sym, ◌∙◌, subst, arith, ◌⊎◌, inl, inr}
 use Rattle.std.specs.List.{Contains, flat_map}
 use Rattle.std.proofs.lemmas.List.Elements.{All-contains, All-from_get_or, Contains-get_or, Contains-append_left, Contains-append_right, Contains-append_cases, Contains-push}
-use Rattle.plain_facts.specs.Numbers.{eq_is, eq_from}
-use Rattle.plain_facts.specs.Truths.{off_on}
+use Rattle.mcal_base.specs.facts.Numbers.{eq_is, eq_from}
+use Rattle.mcal_base.specs.facts.Truths.{off_on}
 use Rattle.audit_frames.specs.Decides.{Decides}
 use Rattle.audit_frames.proofs.Deciding.{yes, no, worded}
 use borrow.Author.Count.{below_more}

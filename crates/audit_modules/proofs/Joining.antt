@@ -24,8 +24,8 @@ use Rattle.mcal_base.specs.declared.module_name.ModuleName.TheVariants.{Icu, Adc
 use Rattle.mcal_base.specs.declared.notice.Notice.{Notice}
 use Rattle.mcal_base.specs.declared.notice.NoticeKind.{NoticeKind}
 use Rattle.mcal_base.specs.declared.notice.NoticeKind.TheVariants.{SpiJobEndNotification, SpiSeqEndNotification}
-use Rattle.plain_facts.specs.Numbers.{lt_is, lt_isnt}
-use Rattle.plain_facts.specs.Truths.{off_on}
+use Rattle.mcal_base.specs.facts.Numbers.{lt_is, lt_isnt}
+use Rattle.mcal_base.specs.facts.Truths.{off_on}
 use Rattle.port_machine.specs.Bounds.{PinsAgree}
 use Rattle.port_machine.specs.Machine.{PortState}
 use Rattle.spi_jobs.specs.declared.channel.Channel.{Channel}

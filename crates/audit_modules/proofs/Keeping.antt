@@ -11,8 +11,8 @@ use Rattle.mcal_base.specs.declared.moves.Move.TheVariants.{Read, Write, Load, S
 use Rattle.mcal_base.specs.declared.register.Reg.{Reg}
 use Rattle.mcal_base.specs.declared.register.Reg.TheVariants.{TimerLow, CaptureCountLow, CaptureTimeLow, ConverterAbort, PinFlip, EnableSet, EnableClear, SerialData}
 use Rattle.mcu_machine.specs.Bounds.{RamAgrees}
-use Rattle.plain_facts.specs.Numbers.{lt_is}
-use Rattle.plain_facts.specs.Truths.{off_on}
+use Rattle.mcal_base.specs.facts.Numbers.{lt_is}
+use Rattle.mcal_base.specs.facts.Truths.{off_on}
 use Rattle.port_machine.specs.Bounds.{PinsAgree}
 use Rattle.pwm_machine.specs.Bounds.{OutputsAgree}
 use Rattle.run_model.specs.World.{World}

@@ -79,7 +79,7 @@ fn has_arrays(serials: &Serials, bus: &Bus, channel: u32) -> bool
 }
 
 /// Whether the arrays of all channels have the machine's words.
-pub(crate) fn arrays_agree(serials: &Serials, bus: &Bus) -> bool
+pub fn arrays_agree(serials: &Serials, bus: &Bus) -> bool
     ensures { Decides result ((c : ℕ) → HoldsArrays (word_of bus.now) serials.now.configured.table (state_of serials.now) c) }
 {
     for channel in 0..channel_count(&serials.table().channels) {

@@ -26,7 +26,7 @@ fn has_output(pulses: &Pulses, bus: &Bus, unit: u32, now: u64) -> bool
 }
 
 /// Whether the outputs of all pulse units are the machine's.
-pub(crate) fn outputs_agree(pulses: &Pulses, bus: &Bus, now: u64) -> bool
+pub fn outputs_agree(pulses: &Pulses, bus: &Bus, now: u64) -> bool
     ensures { (w : World) → w.now ≡ now → Decides result (OutputsAgree pulses.now.driver bus.now.pulses w pulses.now.state) }
 {
     for unit in 0..UNITS {

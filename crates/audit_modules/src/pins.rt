@@ -72,7 +72,7 @@ pub(crate) fn pins_agree(pins: &Pins, block: &PinBlock) -> bool
 }
 
 /// The same, unless the pins are busy.
-pub(crate) fn pins_stand(pins: &Pins, block: &PinBlock, busy: bool) -> bool
+pub fn pins_stand(pins: &Pins, block: &PinBlock, busy: bool) -> bool
     ensures { (s : PortState) → StandsFor pins.now s → Decides result (PinsUnless busy block.now s) }
 {
     if busy {

@@ -19,7 +19,7 @@ fn has_word(clock: &Clock, bus: &Bus, number: u32) -> bool
 }
 
 /// Whether all RAM words are the machine's.
-pub(crate) fn ram_agrees(clock: &Clock, bus: &Bus) -> bool
+pub fn ram_agrees(clock: &Clock, bus: &Bus) -> bool
     ensures { (s : McuState) → StandsFor clock.now s → Decides result (RamAgrees bus.now.ram s) }
 {
     for number in 0..RAM {

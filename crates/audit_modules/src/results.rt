@@ -92,7 +92,7 @@ pub(crate) fn results_stand(converters: &Converters, bus: &Bus, group: u32) -> b
 }
 
 /// Whether the results of all groups are the machine's.
-pub(crate) fn results_agree(converters: &Converters, bus: &Bus) -> bool
+pub fn results_agree(converters: &Converters, bus: &Bus) -> bool
     requires { HasRoom converters.now.table }
     ensures { (s : AdcState) → StandsFor converters.now s → Decides result ((g : ℕ) → HoldsResults (word_of bus.now) converters.now.table s g) }
 {

@@ -66,7 +66,7 @@ pub(crate) fn stamps_stand(captures: &Captures, bus: &Bus, channel: u32) -> bool
 }
 
 /// Whether the stamps of all configured channels are the machine's.
-pub(crate) fn stamps_agree(captures: &Captures, bus: &Bus) -> bool
+pub fn stamps_agree(captures: &Captures, bus: &Bus) -> bool
     ensures { (s : IcuState) → StandsFor captures.now s → Decides result ((c : ℕ) → StampsIf captures.now.driver bus.now s c) }
 {
     for channel in 0..CHANNELS {

@@ -5,8 +5,8 @@ use Rattle.mcal_base.specs.Bits.{has_bit}
 use Rattle.mcal_base.specs.declared.moves.Move.{Move}
 use Rattle.mcal_base.specs.declared.moves.Move.TheVariants.{Read}
 use Rattle.mcal_base.specs.declared.register.Reg.TheVariants.{SerialWait}
-use Rattle.plain_facts.specs.Numbers.{eq_is}
-use Rattle.plain_facts.specs.Truths.{off_on}
+use Rattle.mcal_base.specs.facts.Numbers.{eq_is}
+use Rattle.mcal_base.specs.facts.Truths.{off_on}
 use Rattle.run_model.specs.Frame.{Entered}
 use Rattle.run_model.specs.Legal.{has_line}
 use Rattle.run_model.specs.World.{World}

@@ -1,8 +1,8 @@
 -- What a call that sends a sequence finds of what its unit carries out.
 use Rattle.std.proofs.Common.{◌≡◌, ℕ, Bool, true, false, ◌&&◌, ◌||◌, not, cond, Option, Some, None, refl, sym, ap, ◌∙◌}
 use Rattle.std.specs.Prelude.{option_map}
-use Rattle.plain_facts.specs.Options.{some_is}
-use Rattle.plain_facts.specs.Truths.{and_second}
+use Rattle.mcal_base.specs.facts.Options.{some_is}
+use Rattle.mcal_base.specs.facts.Truths.{and_second}
 use Rattle.run_model.specs.World.{World}
 use Rattle.spi_machine.specs.Machine.{error_of_sending, may_end, not_sent, sending_ends, sends_on, sent, sent_first, sent_from, sent_on}
 use Rattle.spi_machine.specs.Pending.{has_further, is_of}

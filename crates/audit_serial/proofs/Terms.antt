@@ -8,7 +8,7 @@ pub use Rattle.mcal_base.specs.declared.answer_name.AnswerName.TheVariants.{EOk,
 pub use Rattle.run_model.specs.Machine.{answers, named, named_with, outcome, outcome_with, tells_error, tells_nothing}
 pub use Rattle.audit_base.specs.Deeds.{begun_of, came}
 pub use Rattle.audit_base.specs.Tells.{gives}
-pub use Rattle.plain_facts.specs.Numbers.{eq_from, eq_other}
+pub use Rattle.mcal_base.specs.facts.Numbers.{eq_from, eq_other}
 pub use Rattle.spi_machine.specs.Channels.{ChannelState, filled, initialised, untouched, written_from}
 pub use Rattle.spi_machine.specs.Machine.{accepted, act_by, ended, faulted_carrying, faulted_run, initial, next_by, result_by, sequence_result_by, acts_by, after_last, begins_on, channel_work, cancelled, cancelled_by, job_done, next_at, sent_at, sent_first, sent_word, sequence_after, sequence_work, start_of, work, carried_for, carries_job, carries_on, job_begun, job_started, job_words, sequence_begun, with_word, pending_of, run_of, sent, sent_by, sent_from, sent_on, served, start_by, stored, unit_of, unless_busy}
 pub use Rattle.spi_machine.specs.Numbered.{first_items, with_item}

@@ -6,7 +6,7 @@ use Rattle.std.proofs.Math.Nat.{two-pow-succ}
 use Rattle.std.proofs.lemmas.Bool.Decides.{nat_tests}
 use Rattle.std.proofs.lemmas.Simd.{bit_mask_l, mask_l-lt}
 use Rattle.mcal_base.specs.Bits.{has_bit}
-use Rattle.plain_facts.specs.Numbers.{lt_from, lt_zero}
+use Rattle.mcal_base.specs.facts.Numbers.{lt_from, lt_zero}
 
 is_one : (b : Bool) → (cond b 1 0 == 1) ≡ b
 is_one true = refl

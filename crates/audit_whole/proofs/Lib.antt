@@ -1,5 +1,4 @@
-pub mod Joins
+pub mod AtRestLaws
 pub mod Limits
-pub mod LineLaws
-pub mod ServiceLaws
-pub mod WaitLaws
+pub mod ShownLaws
+pub mod SizeLaws

@@ -1,1 +1,6 @@
+pub mod Aspects
+pub mod Resting
+pub mod Sizes
+pub mod Touching
 pub mod Whole
+pub mod laws

@@ -1,6 +1,6 @@
 ghost use Rattle.std.specs.Prelude.{◌≡◌, ◌<◌, ℕ, List, Option, true};
+ghost use Rattle.config_facts.specs.Valid.{IsValid};
 ghost use Rattle.dio_machine.specs.declared.table.DioTable.{DioTable};
-ghost use Rattle.mcal_base.specs.Layout.{WithinLimits};
 ghost use Rattle.mcal_base.specs.declared.config.whole.Config.{Config};
 ghost use Rattle.mcal_base.specs.declared.directive.Request.{Request};
 ghost use Rattle.mcal_base.specs.declared.moves.Move.TheVariants.{Read};
@@ -44,7 +44,7 @@ pub fn calls_serve()
         (⟦<AllModules as Part>⟧.member (t, d, outputs)).machine.service_of (call_of r) ≡ r.service }
 {}
 
-/// What is kept of a configuration is within the chip's limits, where the configuration is.
+/// What is kept of a configuration that was read is within the chip's limits.
 pub fn tables_are_within()
-    ensures { (c : Config) → WithinLimits c → InLimits (tables_of c (table_of c.spi)) }
+    ensures { (c : Config) → IsValid c → InLimits (tables_of c (table_of c.spi)) }
 {}

@@ -3,7 +3,7 @@ use Rattle.std.proofs.Common.{◌≡◌, ℕ, ◌+◌, ◌≤◌, ◌==◌, List
 use Rattle.std.specs.Prelude.{◌&&◌}
 use Rattle.std.specs.List.{filter}
 use Rattle.std.proofs.lemmas.Bool.{and_from, not-true}
-use Rattle.plain_facts.specs.Truths.{and_first, and_second}
+use Rattle.mcal_base.specs.facts.Truths.{and_first, and_second}
 use Rattle.mcal_base.specs.Names.{service_text}
 use Rattle.mcal_base.specs.declared.service.Service.{Service}
 use Rattle.bench_script.specs.Scanned.{begins}

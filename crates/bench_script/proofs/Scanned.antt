@@ -5,7 +5,7 @@ use Rattle.std.specs.List.{slice_split, onto_first, position, position_or_len, f
 use Rattle.std.specs.Str.Lines.{lines, lines_of_parts, strip_carriage_return}
 use Rattle.std.proofs.lemmas.Bool.{ne_eqb}
 use Rattle.std.proofs.lemmas.Bool.Decides.{nat_tests}
-use Rattle.plain_facts.specs.Truths.{and_false}
+use Rattle.mcal_base.specs.facts.Truths.{and_false}
 use Rattle.bench_script.specs.Lines.{before_comment, is_plain, is_text, is_blank, words_of}
 use Rattle.bench_script.specs.Scanned.{begins, first_line, after_line, words_of_line, line_words, is_letter, with_word}
 use Rattle.bench_script.specs.Orders.{order_of}

@@ -1,7 +1,7 @@
 -- A table of a test has at each place what the test says of it.
 use Rattle.std.proofs.Common.{◌≡◌, ℕ, zero, suc, ◌+◌, ◌<◌, List, [], ◌∷◌, Bool, true, false, not, cond, length, refl, sym, arith, get_or, ap, ◌∙◌}
 use Rattle.std.specs.Prelude.{◌&&◌}
-use Rattle.plain_facts.specs.Truths.{and_first, and_second}
+use Rattle.mcal_base.specs.facts.Truths.{and_first, and_second}
 use Rattle.bench_script.specs.Scanned.{is_table}
 
 same : (a b : Bool) → cond a b (not b) ≡ true → a ≡ b

@@ -3,22 +3,33 @@ use Rattle.std.specs.Prelude.{ℕ, ◌==◌, ◌&&◌, ◌||◌, not, nat_le, Li
 use Rattle.std.specs.List.{list_all, before_first, slice_split, join_with_byte}
 use Rattle.std.specs.Str.Lines.{strip_carriage_return}
 
+-- is a line of this text
+abbrev pub is_line : (mark : List ℕ) → List ℕ → Bool
+is_line mark line = bytes_eq line mark
+
+-- What stands before the first line that is the mark, and what stands after it, of a text cut at its line feeds: the parts before that one, each with its line feed, and those after it.
+-- Only a part before a line feed loses its carriage return.
+abbrev pub split_parts : (mark : List ℕ) → List (List ℕ) → Option (List ℕ × List ℕ)
+split_parts mark [] = None
+split_parts mark (part ∷ []) = if is_line mark part then Some ([], []) else None
+split_parts mark (part ∷ next ∷ parts) =
+    if is_line mark (strip_carriage_return part) then Some ([], join_with_byte 10 (next ∷ parts))
+    else option_map (λ p. (part ++ 10 ∷ p.0, p.1)) (split_parts mark (next ∷ parts))
+
+-- the same of a text
+abbrev pub split_at : (mark text : List ℕ) → Option (List ℕ × List ℕ)
+split_at mark text = split_parts mark (slice_split (λ b. b == 10) text)
+
 -- is the line that ends the configuration
 abbrev pub is_separator : List ℕ → Bool
-is_separator line = bytes_eq line (codes "---")
+is_separator line = is_line (codes "---") line
 
--- The configuration and the script, of a file cut at its line feeds: the parts before the first that is the separator, each with its line feed, and those after it.
--- Only a part before a line feed loses its carriage return.
+-- the configuration and the script of a bench file, also of one that is cut at its line feeds
 abbrev pub file_of_parts : List (List ℕ) → Option (List ℕ × List ℕ)
-file_of_parts [] = None
-file_of_parts (part ∷ []) = if is_separator part then Some ([], []) else None
-file_of_parts (part ∷ next ∷ parts) =
-    if is_separator (strip_carriage_return part) then Some ([], join_with_byte 10 (next ∷ parts))
-    else option_map (λ p. (part ++ 10 ∷ p.0, p.1)) (file_of_parts (next ∷ parts))
+file_of_parts parts = split_parts (codes "---") parts
 
--- the configuration and the script of a bench file
 abbrev pub file : List ℕ → Option (List ℕ × List ℕ)
-file text = file_of_parts (slice_split (λ b. b == 10) text)
+file text = split_at (codes "---") text
 
 -- what stands before a comment
 abbrev pub before_comment : List ℕ → List ℕ

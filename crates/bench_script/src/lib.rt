@@ -15,6 +15,6 @@ mod words;
 
 pub use fault::ScriptFault;
 pub use grammar::reads_the_grammar;
-pub use lines::split_file;
+pub use lines::{split_at, split_file};
 pub use script::read_script;
 pub use services::service_named;

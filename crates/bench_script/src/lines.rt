@@ -1,4 +1,4 @@
-ghost use Rattle.std.specs.Prelude.{◌≡◌, ◌==◌, ◌<◌, ◌≤◌, [], ◌∷◌, ◌++◌, ℕ, List, Option, true, false, Some, None, MatchOption, IfSome, IfOk, OnOk, length, map, option_map};
+ghost use Rattle.std.specs.Prelude.{◌≡◌, ◌+◌, ◌==◌, ◌<◌, ◌≤◌, [], ◌∷◌, ◌++◌, ℕ, List, Option, true, false, Some, None, MatchOption, IfSome, IfOk, OnOk, length, map, option_map};
 ghost use Rattle.std.specs.List.{position};
 ghost use Rattle.std.specs.Str.Lines.{strip_carriage_return};
 ghost use Rattle.bench_script.specs.Lines as spec;
@@ -28,24 +28,32 @@ fn without_return(line: &[u8]) -> &[u8]
     }
 }
 
+/// What stands before the first line that is the mark, and what stands after that line.
+pub fn split_at<'a>(text: &'a [u8], mark: &[u8]) -> Option<(&'a [u8], &'a [u8])>
+    ensures parts { option_map (λ p. (p.0.now, p.1.now)) result ≡ spec.split_at mark.now text.now }
+    ensures shorter { IfSome result (λ p. length p.0.now + length p.1.now ≤ length text.now) }
+{
+    let mut start = 0;
+    while let Some(feed) = place_of(b'\n', &text[start..]) {
+        let end = start + feed;
+        if without_return(&text[start..end]) == mark {
+            return Some((&text[..start], &text[end + 1..]));
+        }
+        start = end + 1;
+    }
+    if &text[start..] == mark {
+        Some((&text[..start], &[]))
+    } else {
+        None
+    }
+}
+
 /// The configuration and the script of a bench file. The first line that is `---` stands between them.
 pub fn split_file(text: &[u8]) -> Option<(&[u8], &[u8])>
     ensures parts { option_map (λ p. (p.0.now, p.1.now)) result ≡ spec.file text.now }
     ensures shorter { IfSome result (λ p. length p.1.now ≤ length text.now) }
 {
-    let mut start = 0;
-    while let Some(feed) = place_of(b'\n', &text[start..]) {
-        let end = start + feed;
-        if without_return(&text[start..end]) == SEPARATOR {
-            return Some((&text[..start], &text[end + 1..]));
-        }
-        start = end + 1;
-    }
-    if &text[start..] == SEPARATOR {
-        Some((&text[..start], &[]))
-    } else {
-        None
-    }
+    split_at(text, SEPARATOR)
 }
 
 /// What comes after the line feed of a line of which the rest is a comment. Not inlined, so that the loop over a line

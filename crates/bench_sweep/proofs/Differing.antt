@@ -7,7 +7,7 @@ use Rattle.std.proofs.lemmas.List.Sums.{fails_before_first}
 use Rattle.std.proofs.lemmas.Option.{get_or_from_slice_get, same_Some, slice_get-get_or, slice_get_within}
 use Rattle.std.proofs.lemmas.Slice.Eq.{bytes_eq-Decides}
 use Rattle.std.proofs.lemmas.Bool.{and_from, and_parts}
-use Rattle.plain_facts.specs.Numbers.{lt_isnt}
+use Rattle.mcal_base.specs.facts.Numbers.{lt_isnt}
 use Rattle.bench_sweep.specs.declared.outcomes.Outcome.{Outcome}
 use Rattle.bench_sweep.specs.declared.outcomes.Told.{Told}
 use Rattle.bench_sweep.specs.Lines.{or_length}

@@ -22,7 +22,7 @@ use Rattle.mcal_system.specs.Setting.{system_setting, call_of}
 use Rattle.bench_top.specs.Calls.{Stream}
 use Rattle.bench_top.specs.declared.top.Outcome.{Outcome}
 use Rattle.bench_top.specs.Judged.{Ending, Judgement, Prints}
-use Rattle.bench_top.specs.Outcomes.{Concludes, Keeps, LeavesRun}
+use Rattle.bench_top.specs.Outcomes.{Concludes, Ends, Keeps, LeavesRun}
 use Rattle.bench_top.proofs.Judging.{forgot_of}
 
 -- the devices were called by the steps of a run's journal
@@ -105,3 +105,14 @@ pub left_so : (devices : ℕ) (j : Judgement) (outcome : Outcome) (sink : Stream
     sink.faults_after ≡ sink.faults_before → LeavesRun devices j es → Keeps devices j es → Concludes devices j outcome sink
 left_so devices j outcome sink es four e same still leaves keeps =
     forgot_of devices j outcome sink four same still (subst (λ (xs : List Entry). LeavesRun devices j xs) (sym e) leaves) (subst (λ (xs : List Entry). Keeps devices j xs) (sym e) keeps)
+
+-- by whatever number, bytes and journal it is told with what a call ends that runs nothing
+pub ends_so : (devices : ℕ) (j : Judgement) (ending : Ending) (status : ℕ) (text : List ℕ) (entries : List Entry) → status ≡ ending.status → text ≡ ending.text → entries ≡ [] → Ends devices j ending [] →
+    Ends devices j (record { status = status; text = text }) entries
+ends_so devices j ending status text entries e f none ends =
+    subst (λ (xs : List Entry). Ends devices j (record { status = status; text = text }) xs) (sym none)
+    (subst (λ (n : ℕ). Ends devices j (record { status = n; text = text }) []) (sym e) (subst (λ (t : List ℕ). Ends devices j (record { status = ending.status; text = t }) []) (sym f) ends))
+
+-- a judgement that is another one
+pub concludes_so : (devices : ℕ) (j : Judgement) (printed : Ending) (outcome : Outcome) (sink : Stream) → j ≡ Prints printed → Concludes devices (Prints printed) outcome sink → Concludes devices j outcome sink
+concludes_so devices j printed outcome sink e c = subst (λ (k : Judgement). Concludes devices k outcome sink) (sym e) c

@@ -46,7 +46,7 @@ script_is task bytes config directives h = config_is task bytes h.back config h.
 abbrev pub PrintsAt : ℕ → Judgement → Type 0
 PrintsAt status j = (ending : Ending) × ((j ≡ Prints ending) × (ending.status ≡ status))
 
-bad_status : (fault : ScriptFault) → is_long fault ≡ false → (ending_of (refusals.Script fault)).status ≡ 7
+pub bad_status : (fault : ScriptFault) → is_long fault ≡ false → (ending_of (refusals.Script fault)).status ≡ 7
 bad_status (Long line) h = cc
 bad_status (NotText line) h = refl
 bad_status (Word line) h = refl

@@ -4,7 +4,7 @@ use Rattle.std.specs.Prelude.{◌&&◌, bytes_eq, codes, if◌then◌else◌, op
 use Rattle.std.specs.Str.Parse.{digits_value}
 use Rattle.std.proofs.lemmas.Bool.Decides.{nat_tests}
 use Rattle.bench_top.specs.Words.{form_of, is_between, is_decimal, generated_of, number_between}
-use Rattle.bench_top.specs.declared.words.Form.TheVariants.{File, Gen}
+use Rattle.bench_top.specs.declared.words.Form.TheVariants.{File, Gen, Audit}
 use Rattle.bench_top.specs.declared.words.Printing.TheVariants.{Plain, Traced, Tail}
 use Rattle.bench_top.specs.declared.words.Task.TheVariants.{Check, Run}
 
@@ -31,10 +31,11 @@ generated_by (Some x) None seed count h = cc
 generated_by None b seed count h = cc
 
 -- only three words ask for a generated bench
-one_not : (check run : Bool) (seed count : ℕ) → (if check then Some (File Check) else if run then Some (File (Run Plain)) else None) ≡ Some (Gen seed count) → ⊥
-one_not true run seed count h = cc
-one_not false true seed count h = cc
-one_not false false seed count h = cc
+one_not : (check run audit : Bool) (seed count : ℕ) → (if check then Some (File Check) else if run then Some (File (Run Plain)) else if audit then Some Audit else None) ≡ Some (Gen seed count) → ⊥
+one_not true run audit seed count h = cc
+one_not false true audit seed count h = cc
+one_not false false true seed count h = cc
+one_not false false false seed count h = cc
 
 two_not : (run trace : Bool) (seed count : ℕ) → (if run then (if trace then Some (File (Run Traced)) else None) else None) ≡ Some (Gen seed count) → ⊥
 two_not true true seed count h = cc
@@ -55,7 +56,7 @@ three_by false tail false lines a b seed count h = cc
 -- it has so many directives at most
 pub generated_within : (words : List (List ℕ)) (seed count : ℕ) → form_of words ≡ Some (Gen seed count) → count ≤ 20000
 generated_within [] seed count h = cc
-generated_within (word ∷ []) seed count h = absurd (one_not (bytes_eq word (codes "check")) (bytes_eq word (codes "run")) seed count h)
+generated_within (word ∷ []) seed count h = absurd (one_not (bytes_eq word (codes "check")) (bytes_eq word (codes "run")) (bytes_eq word (codes "audit")) seed count h)
 generated_within (word ∷ option ∷ []) seed count h = absurd (two_not (bytes_eq word (codes "run")) (bytes_eq option (codes "--trace")) seed count h)
 generated_within (word ∷ first ∷ second ∷ []) seed count h =
     within 8 20000 second count

@@ -18,12 +18,17 @@ use Rattle.bench_top.specs.declared.refusal.Refusal.{Refusal}
 use Rattle.bench_top.specs.declared.refusal.Refusal.TheVariants as refusals
 use Rattle.bench_top.specs.declared.top.Outcome.{Outcome}
 use Rattle.bench_top.specs.declared.words.Form.{Form}
-use Rattle.bench_top.specs.declared.words.Form.TheVariants.{File, Gen}
+use Rattle.bench_top.specs.declared.words.Form.TheVariants.{File, Gen, Audit}
 use Rattle.bench_top.specs.declared.words.Printing.{Printing}
 use Rattle.bench_top.specs.declared.words.Task.{Task}
 use Rattle.bench_top.specs.declared.words.Task.TheVariants.{Check, Run}
 use Rattle.bench_top.specs.Calls.{Stream, MeetsFault, Writes}
-use Rattle.bench_top.specs.Judged.{Ending, Judgement, Prints, Runs, Generates, ending_of, judged, judged_whole, judged_script, configuration_of, judged_bytes, judged_parts, judged_file, too_many_bytes, too_long_report}
+use Rattle.report_reading.specs.declared.verdict.Verdict.{Verdict}
+use Rattle.report_reading.specs.declared.verdict.Verdict.TheVariants.{Passed, Fault}
+use Rattle.bench_top.specs.Audited.{InputParts, audited_parts, verdict_status}
+use Rattle.bench_top.specs.declared.parts.NoParts.{NoParts}
+use Rattle.bench_top.specs.declared.parts.NoParts.TheVariants as missing
+use Rattle.bench_top.specs.Judged.{Ending, Judgement, Prints, Runs, Generates, Audits, audited_by, audited_config, audited_script, ending_of, judged, judged_input, judged_whole, judged_script, configuration_of, judged_bytes, judged_parts, judged_file, parts_ending, too_many_audited, too_many_bytes, too_long_report}
 use Rattle.bench_top.specs.Outcomes.{Concludes, Ends, IsEnded, IsCutOff, Keeps, LeavesRun, WritesFront, reported}
 use Rattle.bench_top.specs.Runs.{IsWholeRun, report_of}
 use Rattle.bench_top.specs.Tail.{is_traced, printed}
@@ -52,22 +57,36 @@ pub long_by : (b : Bool) (printing : Printing) (report : List ℕ) → is_too_lo
 long_by true printing report h more = rw h refl
 long_by false printing report h more = absurd (let few = ltb-false most_bytes (length report) h in omega (arith, more, few))
 
+-- a bench file ends with none of the statuses of wrong words, of a fault of the source, and of a report that is refused
+abbrev IsFileStatus : ℕ → Type 0
+IsFileStatus status = (status ≢ 1) × (status ≢ 2) × (status ≢ 8)
+
+refused_status : (r : Refusal) → IsFileStatus (ending_of r).status
+refused_status refusals.NoSeparator = (λ e. cc, λ e. cc, λ e. cc)
+refused_status (refusals.Configuration fault) = (λ e. cc, λ e. cc, λ e. cc)
+refused_status (refusals.Script (Long line)) = (λ e. cc, λ e. cc, λ e. cc)
+refused_status (refusals.Script (NotText line)) = (λ e. cc, λ e. cc, λ e. cc)
+refused_status (refusals.Script (Word line)) = (λ e. cc, λ e. cc, λ e. cc)
+refused_status (refusals.Script (Count line)) = (λ e. cc, λ e. cc, λ e. cc)
+refused_status (refusals.Script (Number line)) = (λ e. cc, λ e. cc, λ e. cc)
+refused_status (refusals.Script NoMemory) = (λ e. cc, λ e. cc, λ e. cc)
+
+reported_status : (b : Bool) (printing : Printing) (report : List ℕ) → is_too_long report ≡ b → IsFileStatus (reported printing report).status
+reported_status true printing report h = rw h (λ f. cc, λ f. cc, λ f. cc)
+reported_status false printing report h = rw h (λ f. cc, λ f. cc, λ f. cc)
+
+-- an audit ends with one of the first two as little
 abbrev NotBefore : ℕ → Type 0
 NotBefore status = (status ≢ 1) × (status ≢ 2)
 
-refused_before : (r : Refusal) → NotBefore (ending_of r).status
-refused_before refusals.NoSeparator = (λ e. cc, λ e. cc)
-refused_before (refusals.Configuration fault) = (λ e. cc, λ e. cc)
-refused_before (refusals.Script (Long line)) = (λ e. cc, λ e. cc)
-refused_before (refusals.Script (NotText line)) = (λ e. cc, λ e. cc)
-refused_before (refusals.Script (Word line)) = (λ e. cc, λ e. cc)
-refused_before (refusals.Script (Count line)) = (λ e. cc, λ e. cc)
-refused_before (refusals.Script (Number line)) = (λ e. cc, λ e. cc)
-refused_before (refusals.Script NoMemory) = (λ e. cc, λ e. cc)
+verdict_before : (verdict : Verdict) → NotBefore (verdict_status verdict)
+verdict_before (Passed lines) = (λ e. cc, λ e. cc)
+verdict_before (Fault line) = (λ e. cc, λ e. cc)
 
-reported_before : (b : Bool) (printing : Printing) (report : List ℕ) → is_too_long report ≡ b → NotBefore (reported printing report).status
-reported_before true printing report h = rw h (λ f. cc, λ f. cc)
-reported_before false printing report h = rw h (λ f. cc, λ f. cc)
+part_before : (part : NoParts) → NotBefore (parts_ending part).status
+part_before missing.NoSeparator = (λ e. cc, λ e. cc)
+part_before missing.NoReport = (λ e. cc, λ e. cc)
+part_before missing.TooLong = (λ e. cc, λ e. cc)
 
 -- ---- too many bytes, and as many as may come
 
@@ -76,6 +95,12 @@ many_are task bytes h = grind (arith, nat_tests, h)
 
 pub few_are : (task : Task) (bytes : List ℕ) → length bytes ≤ 1048576 → judged_bytes task bytes ≡ judged_file task (file bytes)
 few_are task bytes h = grind (arith, nat_tests, h)
+
+pub many_audited : (bytes : List ℕ) → 268435456 < length bytes → judged_input bytes ≡ Prints too_many_audited
+many_audited bytes h = grind (arith, nat_tests, h)
+
+pub few_audited : (bytes : List ℕ) → length bytes ≤ 268435456 → judged_input bytes ≡ audited_by (audited_parts bytes)
+few_audited bytes h = grind (arith, nat_tests, h)
 
 -- ---- what becomes of a call, with so many devices
 
@@ -103,6 +128,7 @@ module _ (devices : ℕ) where
   left_empty (Prints printed) entries e = e
   left_empty (Runs printing config script) entries e = inl e
   left_empty (Generates seed count) entries e = inl e
+  left_empty (Audits config script report) entries e = e
 
   -- what was cut off of a text that is printed
   pub printed_front : (printed : Ending) (outcome : Outcome) (sink : Stream) → IsCutOff devices (Prints printed) outcome sink → WritesFront sink printed.text × (outcome.journal.entries ≡ [])
@@ -127,7 +153,7 @@ module _ (devices : ℕ) where
       (subst (λ (k : ℕ). Concludes devices (Prints (record { status = k; text = text })) outcome sink) e c)
 
   -- a call that writes the text with which it is to end
-  pub concludes_of : (j : Judgement) (ending : Ending) (outcome : Outcome) (sink : Stream) → Ends devices j ending outcome.journal.entries → Keeps devices j outcome.journal.entries → ending.status ≢ 4 → outcome.status ≤ 7 →
+  pub concludes_of : (j : Judgement) (ending : Ending) (outcome : Outcome) (sink : Stream) → Ends devices j ending outcome.journal.entries → Keeps devices j outcome.journal.entries → ending.status ≢ 4 → outcome.status ≤ 8 →
       (outcome.status ≢ 3 → outcome.status ≡ ending.status) → (outcome.status ≢ 3 → Writes sink ending.text) → (outcome.status ≢ 3 → sink.faults_after ≡ sink.faults_before) →
       (outcome.status ≡ 3 → MeetsFault sink) → (outcome.status ≡ 3 → WritesFront sink ending.text) → Concludes devices j outcome sink
   concludes_of j ending outcome sink ends keeps four known is wrote still fault front =
@@ -170,22 +196,22 @@ module _ (devices : ℕ) where
       let over = subst (λ (r : List ℕ). most_bytes < length r) whole more in
       inl (run, ap (λ (t : List ℕ). record { status = 5; text = t }) is ∙ long_by (is_too_long (whole_report printing config script entries)) printing (whole_report printing config script entries) refl over)
 
-  -- ---- a file never ends with the status of wrong words or of a fault of the source
+  -- ---- a bench file ends with none of three statuses, and an audit with none of two
 
   -- a judgement of a file
   abbrev IsOfFile : Judgement → Type 0
-  IsOfFile j = (ending : Ending) (entries : List Entry) → Ends devices j ending entries → NotBefore ending.status
+  IsOfFile j = (ending : Ending) (entries : List Entry) → Ends devices j ending entries → IsFileStatus ending.status
 
   prints_after : (r : Refusal) → IsOfFile (Prints (ending_of r))
-  prints_after r ending entries e = subst (λ (x : Ending). NotBefore x.status) (sym e.0) (refused_before r)
+  prints_after r ending entries e = subst (λ (x : Ending). IsFileStatus x.status) (sym e.0) (refused_status r)
 
   runs_after : (printing : Printing) (config : Config) (script : List Directive) → IsOfFile (Runs printing config script)
   runs_after printing config script ending entries (inl e) =
-      subst (λ (x : Ending). NotBefore x.status) (sym e.1) (reported_before (is_too_long (whole_report printing config script entries)) printing (whole_report printing config script entries) refl)
-  runs_after printing config script ending entries (inr e) = subst (λ (x : Ending). NotBefore x.status) (sym e.1) (λ f. cc, λ f. cc)
+      subst (λ (x : Ending). IsFileStatus x.status) (sym e.1) (reported_status (is_too_long (whole_report printing config script entries)) printing (whole_report printing config script entries) refl)
+  runs_after printing config script ending entries (inr e) = subst (λ (x : Ending). IsFileStatus x.status) (sym e.1) (λ f. cc, λ f. cc, λ f. cc)
 
   whole_after : (task : Task) (config : Config) (script : List Directive) → IsOfFile (judged_whole task config script)
-  whole_after Check config script ending entries e = subst (λ (x : Ending). NotBefore x.status) (sym e.0) (λ f. cc, λ f. cc)
+  whole_after Check config script ending entries e = subst (λ (x : Ending). IsFileStatus x.status) (sym e.0) (λ f. cc, λ f. cc, λ f. cc)
   whole_after (Run printing) config script ending entries e = runs_after printing config script ending entries e
 
   script_after : (task : Task) (config : Config) (r : Result (List Directive) ScriptFault) → IsOfFile (judged_script task config r)
@@ -203,18 +229,51 @@ module _ (devices : ℕ) where
   bytes_after : (task : Task) (bytes : List ℕ) (many : Bool) → nat_lt 1048576 (length bytes) ≡ many → IsOfFile (judged_bytes task bytes)
   bytes_after task bytes true h =
       subst (λ (j : Judgement). IsOfFile j) (sym (many_are task bytes (ltb-true 1048576 (length bytes) h)))
-      (λ ending entries e. subst (λ (x : Ending). NotBefore x.status) (sym e.0) (λ f. cc, λ f. cc))
+      (λ ending entries e. subst (λ (x : Ending). IsFileStatus x.status) (sym e.0) (λ f. cc, λ f. cc, λ f. cc))
   bytes_after task bytes false h =
       let few : length bytes ≤ 1048576 = let no = ltb-false 1048576 (length bytes) h in omega (arith, no) in
       subst (λ (j : Judgement). IsOfFile j) (sym (few_are task bytes few)) (file_after task (file bytes))
 
-  -- whatever the words and the bytes, a judgement has status 1 for words of no form alone, and never status 2
-  pub status_after : (form : Option Form) (bytes : List ℕ) (ending : Ending) (entries : List Entry) → Ends devices (judged form bytes) ending entries → (ending.status ≡ 1 → form ≡ None) × (ending.status ≢ 2)
-  status_after None bytes ending entries e = (λ f. refl, λ f. let g : ending.status ≡ 1 = ap (λ (x : Ending). x.status) e.0 in absurd (omega (arith, f, g)))
+  -- a judgement of a bench file with a report behind it
+  abbrev IsOfAudit : Judgement → Type 0
+  IsOfAudit j = (ending : Ending) (entries : List Entry) → Ends devices j ending entries → NotBefore ending.status
+
+  audit_prints : (printed : Ending) → NotBefore printed.status → IsOfAudit (Prints printed)
+  audit_prints printed h ending entries e = subst (λ (x : Ending). NotBefore x.status) (sym e.0) h
+
+  audit_refused : (r : Refusal) → IsOfAudit (Prints (ending_of r))
+  audit_refused r = let s = refused_status r in audit_prints (ending_of r) (s.0, s.1)
+
+  audit_script : (config : Config) (r : Result (List Directive) ScriptFault) (report : List ℕ) → IsOfAudit (audited_script config r report)
+  audit_script config (Ok script) report ending entries e = subst (λ (x : Ending). NotBefore x.status) (sym e.0.told) (verdict_before e.0.verdict)
+  audit_script config (Err fault) report ending entries e = audit_refused (refusals.Script fault) ending entries e
+
+  audit_config : (r : Result Config ConfigFault) (text report : List ℕ) → IsOfAudit (audited_config r text report)
+  audit_config (Ok config) text report = audit_script config (script text) report
+  audit_config (Err fault) text report = audit_refused (refusals.Configuration fault)
+
+  audit_parts : (r : Result InputParts NoParts) → IsOfAudit (audited_by r)
+  audit_parts (Ok parts) = audit_config (configuration_of parts.configuration) parts.script parts.report
+  audit_parts (Err part) = audit_prints (parts_ending part) (part_before part)
+
+  input_after : (bytes : List ℕ) (many : Bool) → nat_lt 268435456 (length bytes) ≡ many → IsOfAudit (judged_input bytes)
+  input_after bytes true h =
+      subst (λ (j : Judgement). IsOfAudit j) (sym (many_audited bytes (ltb-true 268435456 (length bytes) h))) (audit_prints too_many_audited (λ f. cc, λ f. cc))
+  input_after bytes false h =
+      let few : length bytes ≤ 268435456 = let no = ltb-false 268435456 (length bytes) h in omega (arith, no) in
+      subst (λ (j : Judgement). IsOfAudit j) (sym (few_audited bytes few)) (audit_parts (audited_parts bytes))
+
+  -- whatever the words and the bytes, a judgement has status 1 for words of no form alone, never status 2, and status 8 for audits alone
+  pub status_after : (form : Option Form) (bytes : List ℕ) (ending : Ending) (entries : List Entry) → Ends devices (judged form bytes) ending entries →
+      (ending.status ≡ 1 → form ≡ None) × (ending.status ≢ 2) × (ending.status ≡ 8 → form ≡ Some Audit)
+  status_after None bytes ending entries e =
+      let g : ending.status ≡ 1 = ap (λ (x : Ending). x.status) e.0 in (λ f. refl, λ f. absurd (omega (arith, f, g)), λ f. absurd (omega (arith, f, g)))
   status_after (Some (File task)) bytes ending entries e =
-      let after = bytes_after task bytes (nat_lt 1048576 (length bytes)) refl ending entries e in (λ f. absurd (after.0 f), after.1)
+      let after = bytes_after task bytes (nat_lt 1048576 (length bytes)) refl ending entries e in (λ f. absurd (after.0 f), after.1, λ f. absurd (after.2 f))
   status_after (Some (Gen seed count)) bytes ending entries e =
-      let g : ending.status ≡ 0 = ap (λ (x : Ending). x.status) e.1 in (λ f. absurd (omega (arith, f, g)), λ f. absurd (omega (arith, f, g)))
+      let g : ending.status ≡ 0 = ap (λ (x : Ending). x.status) e.1 in (λ f. absurd (omega (arith, f, g)), λ f. absurd (omega (arith, f, g)), λ f. absurd (omega (arith, f, g)))
+  status_after (Some Audit) bytes ending entries e =
+      let after = input_after bytes (nat_lt 268435456 (length bytes)) refl ending entries e in (λ f. absurd (after.0 f), after.1, λ f. refl)
 
   -- only a run leaves a journal, and its status is 0 or 5
   by_report : (long : Bool) (printing : Printing) (report : List ℕ) → is_too_long report ≡ long → (reported printing report).status ≢ 0 → (reported printing report).status ≢ 5 → ⊥
@@ -228,3 +287,4 @@ module _ (devices : ℕ) where
       absurd (by_report (is_too_long report) printing report refl (λ f. zero (ap (λ (x : Ending). x.status) e.1 ∙ f)) (λ f. five (ap (λ (x : Ending). x.status) e.1 ∙ f)))
   nothing_after (Runs printing config script) ending entries (inr e) zero five = absurd (five (ap (λ (x : Ending). x.status) e.1))
   nothing_after (Generates seed count) ending entries e zero five = absurd (zero (ap (λ (x : Ending). x.status) e.1))
+  nothing_after (Audits config script report) ending entries e zero five = e.1

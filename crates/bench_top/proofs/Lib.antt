@@ -1,3 +1,4 @@
+pub mod Auditing
 pub mod Calling
 pub mod Configurations
 pub mod Deciding

@@ -10,7 +10,7 @@ use Rattle.board_promises.specs.Promised.{KeepsPromises}
 use Rattle.board_promises.proofs.Kept.{followed_keeps, stopped_keeps as stop_keeps, nothing_kept}
 use Rattle.bench_generator.specs.Board.{board}
 use Rattle.bench_generator.specs.Generated.{generated}
-use Rattle.bench_top.specs.Judged.{Judgement, Prints, Runs, Generates}
+use Rattle.bench_top.specs.Judged.{Judgement, Prints, Runs, Generates, Audits}
 use Rattle.bench_top.specs.Outcomes.{Keeps}
 use Rattle.bench_top.specs.Runs.{IsWholeRun, IsStoppedRun}
 
@@ -28,3 +28,4 @@ pub empty_keeps : (devices : ℕ) (j : Judgement) (entries : List Entry) → ent
 empty_keeps devices (Prints ending) entries e = tt
 empty_keeps devices (Runs printing config script) entries e = keeps_at devices config script entries e
 empty_keeps devices (Generates seed count) entries e = keeps_at devices board (generated seed count) entries e
+empty_keeps devices (Audits config script report) entries e = tt

@@ -10,31 +10,44 @@ use Rattle.run_model.specs.Exchanges.{AreToldBy}
 use Rattle.bench_report.specs.Limit.{most_bytes}
 use Rattle.bench_script.specs.Lines.{file}
 use Rattle.mcal_system.specs.Runs.{bound_of}
-use Rattle.bench_top.specs.Calls.{Call, MeetsFault}
+use Rattle.serial_devices.specs.Lines.{Line}
+use Rattle.bench_top.specs.Calls.{Call, MeetsFault, Stream}
 use Rattle.bench_top.specs.Contract.{KeepsContract}
 use Rattle.bench_top.specs.Groups.{FrontOf, IsComplete, IsExact, IsSpared, IsUndisturbed, KeepsJournal, RunsGenerated, TellsReads, TellsUsage, TellsWrites, WantsMemory}
-use Rattle.bench_top.specs.Judged.{Ending, Judgement, Prints, Runs, Generates, judged, judged_file, too_many_bytes, usage, read_fault}
+use Rattle.bench_top.specs.Judged.{Ending, Judgement, Prints, Runs, Generates, judged, judged_file, judged_input, too_many_audited, too_many_bytes, usage, read_fault}
 use Rattle.bench_top.specs.Outcomes.{Concludes, IsEnded, Keeps, LeavesInput, LeavesRun}
 use Rattle.bench_top.specs.Runs.{report_of}
 use Rattle.bench_top.specs.Statuses.{IsDecided}
+use Rattle.bench_top.specs.Verdicts.{IsAuditDecided}
 use Rattle.bench_top.specs.Tail.{is_traced}
+use Rattle.bench_top.specs.declared.top.Outcome.{Outcome}
 use Rattle.bench_top.specs.declared.words.Form.{Form}
-use Rattle.bench_top.specs.declared.words.Form.TheVariants.{File, Gen}
+use Rattle.bench_top.specs.declared.words.Form.TheVariants.{File, Gen, Audit}
 use Rattle.bench_top.specs.declared.words.Printing.{Printing}
 use Rattle.bench_top.specs.declared.words.Task.{Task}
+use Rattle.bench_top.proofs.Auditing.{audit_decided}
 use Rattle.bench_top.proofs.Calling.{none_ran}
 use Rattle.bench_top.proofs.Deciding.{decided}
 use Rattle.bench_top.proofs.Generating.{generated_not, generated_status}
-use Rattle.bench_top.proofs.Judging.{few_are, forgot_of, left_empty, many_are, nothing_after, printed_front, printed_not, printed_of, printed_status, printed_text, status_after, whole_of}
+use Rattle.bench_top.proofs.Judging.{few_are, forgot_of, left_empty, many_are, many_audited, nothing_after, printed_front, printed_not, printed_of, printed_status, printed_text, status_after, whole_of}
 use Rattle.bench_top.proofs.Promised.{empty_keeps}
 
 -- ---- the words are of one form
 
-not_file : (form : Option Form) (task : Task) → form ≡ Some (File task) → form ≡ None → ⊥
-not_file form task e f = cc
+-- they ask for something that reads its input
+abbrev pub ReadsInput : Option Form → Type 0
+ReadsInput (Some (File task)) = Unit {0}
+ReadsInput (Some Audit) = Unit {0}
+ReadsInput _ = ⊥
 
-not_gen : (form : Option Form) (task : Task) (seed count : ℕ) → form ≡ Some (File task) → form ≡ Some (Gen seed count) → ⊥
-not_gen form task seed count e f = let g : Some (File task) ≡ Some (Gen seed count) = sym e ∙ f in cc
+pub reads_file : (form : Option Form) (task : Task) → form ≡ Some (File task) → ReadsInput form
+reads_file form task e = subst ReadsInput (sym e) tt
+
+not_none : (form : Option Form) → ReadsInput form → form ≡ None → ⊥
+not_none form reads e = subst ReadsInput e reads
+
+not_gen : (form : Option Form) (seed count : ℕ) → ReadsInput form → form ≡ Some (Gen seed count) → ⊥
+not_gen form seed count reads e = subst ReadsInput e reads
 
 not_words : (form : Option Form) (seed count : ℕ) → form ≡ Some (Gen seed count) → form ≡ None → ⊥
 not_words form seed count e f = cc
@@ -86,6 +99,10 @@ module _ (call : Call) (j : Judgement) (h : IsJudged call j) where
   statuses_at None told e = tt
   statuses_at (Some bytes) told e = λ task asked. decided call.devices task bytes call.outcome call.sink (subst Ended (sym told ∙ ap (λ (w : Option Form). judged w bytes) asked) e)
 
+  verdicts_at : (left : Option (List ℕ)) → IfSome left (λ bytes. judged call.form bytes ≡ j) → Ended j → call.form ≡ Some Audit → IfSome left (λ bytes. IsAuditDecided call.devices bytes call.outcome)
+  verdicts_at None told e asked = tt
+  verdicts_at (Some bytes) told e asked = audit_decided call.devices bytes call.outcome call.sink (subst Ended (sym told ∙ ap (λ (w : Option Form). judged w bytes) asked) e)
+
   exact : IsUndisturbed call → IsExact call
   exact calm =
       let ended = h.concludes.ends calm.sink calm.memory in
@@ -93,20 +110,24 @@ module _ (call : Call) (j : Judgement) (h : IsJudged call j) where
         on_bytes = by_bytes Ended ended;
         on_some = record { bytes = h.bytes; ended = by_some Ended ended; keeps = by_some Kept h.concludes.keeps };
         statuses = statuses_at call.source.before h.told ended;
+        verdicts = verdicts_at call.source.before h.told ended;
       }
 
-  -- status 1 comes for the words alone, and status 2 not at all
-  after : call.outcome.status ≢ 3 → call.outcome.status ≢ 4 → (call.outcome.status ≡ 1 → call.form ≡ None) × (call.outcome.status ≢ 2)
+  -- status 1 comes for the words alone, status 2 not at all, and status 8 for audits alone
+  after : call.outcome.status ≢ 3 → call.outcome.status ≢ 4 → (call.outcome.status ≡ 1 → call.form ≡ None) × (call.outcome.status ≢ 2) × (call.outcome.status ≡ 8 → call.form ≡ Some Audit)
   after s m =
       let e = by_some Ended (h.concludes.ends s m) in
       let rule = status_after call.devices call.form h.bytes e.ending call.outcome.journal.entries e.ends in
-      (λ f. rule.0 (sym e.status_is ∙ f), λ f. rule.1 (sym e.status_is ∙ f))
+      (λ f. rule.0 (sym e.status_is ∙ f), λ f. rule.1 (sym e.status_is ∙ f), λ f. rule.2 (sym e.status_is ∙ f))
 
   one_only : call.outcome.status ≡ 1 → call.form ≡ None
   one_only e = (after (λ s. absurd (omega (arith, e, s))) (λ m. absurd (omega (arith, e, m)))).0 e
 
   not_two : call.outcome.status ≡ 2 → ⊥
   not_two e = (after (λ s. absurd (omega (arith, e, s))) (λ m. absurd (omega (arith, e, m)))).1 e
+
+  eight_only : call.outcome.status ≡ 8 → call.form ≡ Some Audit
+  eight_only e = (after (λ s. absurd (omega (arith, e, s))) (λ m. absurd (omega (arith, e, m)))).2 e
 
   usage_told : TellsUsage call
   usage_told = record {
@@ -179,6 +200,7 @@ module _ (call : Call) (j : Judgement) (h : IsJudged call j) where
   judged_keeps : KeepsContract call
   judged_keeps = record {
     known = h.concludes.known;
+    faults = eight_only;
     exact = exact;
     usage = usage_told;
     source = reads_told;
@@ -193,8 +215,7 @@ module _ (call : Call) (j : Judgement) (h : IsJudged call j) where
 -- ---- a read failed
 
 record HasFailed (call : Call) : Type 0 where
-  pub task : Task
-  pub asked : call.form ≡ Some (File task)
+  pub reads : ReadsInput call.form
   pub fault : MeetsFault call.source
   pub later : call.source.faults_before ≤ call.source.faults_after
   pub concludes : Concludes call.devices (Prints read_fault) call.outcome call.sink
@@ -222,12 +243,13 @@ module _ (call : Call) (h : HasFailed call) where
   failed_keeps : KeepsContract call
   failed_keeps = record {
     known = h.concludes.known;
+    faults = λ e. absurd (not_at 8 (λ f. cc) (λ f. cc) (λ f. cc) e);
     exact = λ calm. absurd (calm.source (two calm.sink));
     usage = record {
       only = λ e. absurd (not_at 1 (λ f. cc) (λ f. cc) (λ f. cc) e);
-      status = λ none s. absurd (not_file call.form h.task h.asked none);
-      line = λ none s. absurd (not_file call.form h.task h.asked none);
-      front = λ none s. absurd (not_file call.form h.task h.asked none);
+      status = λ none s. absurd (not_none call.form h.reads none);
+      line = λ none s. absurd (not_none call.form h.reads none);
+      front = λ none s. absurd (not_none call.form h.reads none);
     };
     source = record {
       told = λ e. record {
@@ -252,7 +274,7 @@ module _ (call : Call) (h : HasFailed call) where
     journal = record { no_run = λ zero s m five. nothing_ran; promises = keeps_at call.source.before };
     devices = h.calls;
     complete = λ spared. absurd (spared.source h.fault);
-    generated = λ seed count e. absurd (not_gen call.form h.task seed count h.asked e);
+    generated = λ seed count e. absurd (not_gen call.form seed count h.reads e);
   }
 
 -- ---- the ways in which a call returns
@@ -309,9 +331,9 @@ file_returns call task bytes e few read at_end still concludes calls = judged_ke
   concludes = concludes;
   calls = calls;
   still = still;
-  found = λ none. absurd (not_file call.form task e none);
+  found = λ none. absurd (not_none call.form (reads_file call.form task e) none);
   leaves = λ zero. subst (λ (w : Option Form). LeavesInput w call.source.before call.source.after) (sym e) at_end;
-  untouched = λ seed count f. absurd (not_gen call.form task seed count e f);
+  untouched = λ seed count f. absurd (not_gen call.form seed count (reads_file call.form task e) f);
 })
 
 -- more bytes came than may come
@@ -331,24 +353,80 @@ many_returns call task e more still concludes calls = judged_keeps call (Prints 
   concludes = concludes;
   calls = calls;
   still = still;
-  found = λ none. absurd (not_file call.form task e none);
+  found = λ none. absurd (not_none call.form (reads_file call.form task e) none);
   leaves = λ zero. absurd (printed_not call.devices too_many_bytes call.outcome call.sink 0 concludes (λ f. cc) (λ f. cc) (λ f. cc) zero);
-  untouched = λ seed count f. absurd (not_gen call.form task seed count e f);
+  untouched = λ seed count f. absurd (not_gen call.form seed count (reads_file call.form task e) f);
 })
 
-pub fault_returns : (call : Call) (task : Task) → call.form ≡ Some (File task) → MeetsFault call.source → call.source.faults_before ≤ call.source.faults_after →
+-- ---- audits
+
+-- all was read
+all_audited : (before after : Option (List ℕ)) (form : Option Form) (bytes : List ℕ) → form ≡ Some Audit → Consumes before after bytes → IsAtEnd after → IfSome before (λ xs. judged form xs ≡ judged_input bytes)
+all_audited None after form bytes e c n = tt
+all_audited (Some xs) None form bytes e c n = absurd c
+all_audited (Some xs) (Some ys) form bytes e c n =
+    let is : xs ≡ bytes = c ∙ ap (λ (zs : List ℕ). bytes ++ zs) n ∙ append-nil bytes in
+    ap (λ (w : Option Form). judged w xs) e ∙ ap (λ (zs : List ℕ). judged (Some Audit) zs) is
+
+reads_audit : (form : Option Form) → form ≡ Some Audit → ReadsInput form
+reads_audit form e = subst ReadsInput (sym e) tt
+
+pub audit_returns : (call : Call) (bytes : List ℕ) → call.form ≡ Some Audit → Consumes call.source.before call.source.after bytes → IsAtEnd call.source.after → call.source.faults_after ≡ call.source.faults_before →
+    Concludes call.devices (judged_input bytes) call.outcome call.sink → AreToldBy call.devices call.outcome.journal.entries call.lines_before call.lines_after → KeepsContract call
+audit_returns call bytes e read at_end still concludes calls = judged_keeps call (judged_input bytes) (record {
+  told = all_audited call.source.before call.source.after call.form bytes e read at_end;
+  bytes = bytes;
+  some = ap (λ (w : Option Form). judged w bytes) e;
+  concludes = concludes;
+  calls = calls;
+  still = still;
+  found = λ none. absurd (not_none call.form (reads_audit call.form e) none);
+  leaves = λ zero. subst (λ (w : Option Form). LeavesInput w call.source.before call.source.after) (sym e) at_end;
+  untouched = λ seed count f. absurd (not_gen call.form seed count (reads_audit call.form e) f);
+})
+
+-- more bytes came than may come
+many_audits : (left : Option (List ℕ)) (form : Option Form) → form ≡ Some Audit → IfSome left (λ bytes. 268435456 < length bytes) → IfSome left (λ bytes. judged form bytes ≡ Prints too_many_audited)
+many_audits None form e more = tt
+many_audits (Some bytes) form e more = ap (λ (w : Option Form). judged w bytes) e ∙ many_audited bytes more
+
+pub many_audits_return : (call : Call) → call.form ≡ Some Audit → IfSome call.source.before (λ bytes. 268435456 < length bytes) → call.source.faults_after ≡ call.source.faults_before →
+    Concludes call.devices (Prints too_many_audited) call.outcome call.sink → AreToldBy call.devices call.outcome.journal.entries call.lines_before call.lines_after → KeepsContract call
+many_audits_return call e more still concludes calls = judged_keeps call (Prints too_many_audited) (record {
+  told = many_audits call.source.before call.form e more;
+  bytes = (so_many 268435457).0;
+  some = let size = (so_many 268435457).1 in ap (λ (w : Option Form). judged w (so_many 268435457).0) e ∙ many_audited (so_many 268435457).0 (omega (arith, size));
+  concludes = concludes;
+  calls = calls;
+  still = still;
+  found = λ none. absurd (not_none call.form (reads_audit call.form e) none);
+  leaves = λ zero. absurd (printed_not call.devices too_many_audited call.outcome call.sink 0 concludes (λ f. cc) (λ f. cc) (λ f. cc) zero);
+  untouched = λ seed count f. absurd (not_gen call.form seed count (reads_audit call.form e) f);
+})
+
+-- the words are those of an audit, and the rack has so many devices
+pub audit_so : (form : Option Form) (devices rack : ℕ) (source sink : Stream) (lines : List Line) (outcome : Outcome) → form ≡ Some Audit → devices ≡ rack →
+    KeepsContract (record { form = Some Audit; source = source; sink = sink; devices = devices; lines_before = lines; lines_after = lines; outcome = outcome }) →
+    KeepsContract (record { form = form; source = source; sink = sink; devices = rack; lines_before = lines; lines_after = lines; outcome = outcome })
+audit_so form devices rack source sink lines outcome e n h =
+    subst (λ (w : Option Form). KeepsContract (record { form = w; source = source; sink = sink; devices = rack; lines_before = lines; lines_after = lines; outcome = outcome })) (sym e)
+    (subst (λ (k : ℕ). KeepsContract (record { form = Some Audit; source = source; sink = sink; devices = k; lines_before = lines; lines_after = lines; outcome = outcome })) n h)
+
+-- ---- a fault of the source, and want of memory
+
+pub fault_returns : (call : Call) → ReadsInput call.form → MeetsFault call.source → call.source.faults_before ≤ call.source.faults_after →
     Concludes call.devices (Prints read_fault) call.outcome call.sink → call.outcome.status ≢ 4 → AreToldBy call.devices call.outcome.journal.entries call.lines_before call.lines_after → KeepsContract call
-fault_returns call task e fault later concludes found calls = failed_keeps call (record { task = task; asked = e; fault = fault; later = later; concludes = concludes; calls = calls; found = found })
+fault_returns call reads fault later concludes found calls = failed_keeps call (record { reads = reads; fault = fault; later = later; concludes = concludes; calls = calls; found = found })
 
 -- memory was wanting for the input
 any_told : (left : Option (List ℕ)) (form : Option Form) → IfSome left (λ bytes. judged form bytes ≡ judged form (unwrap_or left []))
 any_told None form = tt
 any_told (Some bytes) form = refl
 
-pub wanting_returns : (call : Call) (task : Task) → call.form ≡ Some (File task) → call.outcome.status ≡ 4 → call.outcome.journal.entries ≡ [] → call.sink.after ≡ call.sink.before →
+pub wanting_returns : (call : Call) → ReadsInput call.form → call.outcome.status ≡ 4 → call.outcome.journal.entries ≡ [] → call.sink.after ≡ call.sink.before →
     call.sink.faults_after ≡ call.sink.faults_before → call.source.faults_after ≡ call.source.faults_before → AreToldBy call.devices call.outcome.journal.entries call.lines_before call.lines_after →
     KeepsContract call
-wanting_returns call task e four none same quiet still calls =
+wanting_returns call reads four none same quiet still calls =
     let j = judged call.form (unwrap_or call.source.before []) in
     judged_keeps call j (record {
       told = any_told call.source.before call.form;
@@ -357,7 +435,7 @@ wanting_returns call task e four none same quiet still calls =
       concludes = forgot_of call.devices j call.outcome call.sink four same quiet (left_empty call.devices j call.outcome.journal.entries none) (empty_keeps call.devices j call.outcome.journal.entries none);
       calls = calls;
       still = still;
-      found = λ f. absurd (not_file call.form task e f);
+      found = λ f. absurd (not_none call.form reads f);
       leaves = λ zero. absurd (omega (arith, four, zero));
-      untouched = λ seed count f. absurd (not_gen call.form task seed count e f);
+      untouched = λ seed count f. absurd (not_gen call.form seed count reads f);
     })

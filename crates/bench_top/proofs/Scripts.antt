@@ -1,7 +1,8 @@
 -- The directives of a text may be run: each of them can be, and each service that they ask for is had.
-use Rattle.std.proofs.Common.{◌≡◌, ℕ, ◌+◌, ◌<◌, true, List, [], ◌∷◌, inl, inr, refl, sym, subst, arith}
+use Rattle.std.proofs.Common.{◌≡◌, ℕ, ◌+◌, ◌==◌, ◌<◌, ◌≤◌, Bool, true, false, List, [], ◌∷◌, length, inl, inr, refl, sym, subst, arith}
+use Rattle.std.specs.Prelude.{if◌then◌else◌}
 use Rattle.std.proofs.lemmas.Bool.Decides.{nat_tests}
-use Rattle.std.specs.Str.Lines.{lines}
+use Rattle.std.specs.Str.Lines.{lines, lines_of_parts}
 use Rattle.mcal_base.specs.declared.directive.Directive.{Directive}
 use Rattle.mcal_base.specs.declared.directive.Order.{Order}
 use Rattle.mcal_base.specs.declared.directive.Order.TheVariants.{Call, Do, Tick, Miso, Reset}
@@ -56,3 +57,13 @@ offered _ = refl
 pub may_ask : (ds : List Directive) → AllOffered has_service ds
 may_ask [] = tt
 may_ask (d ∷ ds) = (offered d.order, may_ask ds)
+
+-- a text has no more lines than parts
+last_few : (b : Bool) (x : List ℕ) → length (if b then [] else x ∷ []) ≤ 1
+last_few true x = omega arith
+last_few false x = omega arith
+
+pub lines_few : (ps : List (List ℕ)) → length (lines_of_parts ps) ≤ length ps
+lines_few [] = omega arith
+lines_few (x ∷ []) = last_few (length x == 0) x
+lines_few (x ∷ y ∷ more) = let ih = lines_few (y ∷ more) in omega (arith, ih)

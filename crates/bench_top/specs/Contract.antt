@@ -4,11 +4,13 @@ use Rattle.std.specs.Prelude.{◌≡◌, ℕ, ◌≤◌, Some}
 use Rattle.run_model.specs.Exchanges.{AreToldBy}
 use Rattle.bench_top.specs.Calls.{Call}
 use Rattle.bench_top.specs.Groups.{IsUndisturbed, IsExact, TellsUsage, TellsReads, TellsWrites, WantsMemory, KeepsJournal, IsSpared, IsComplete, RunsGenerated}
-use Rattle.bench_top.specs.declared.words.Form.TheVariants.{Gen}
+use Rattle.bench_top.specs.declared.words.Form.TheVariants.{Gen, Audit}
 
 pub record KeepsContract (call : Call) : Type 0 where
   -- There are no other statuses.
-  pub known : call.outcome.status ≤ 7
+  pub known : call.outcome.status ≤ 8
+  -- Status 8 comes of an audit alone.
+  pub faults : call.outcome.status ≡ 8 → call.form ≡ Some Audit
   -- Where no fault was met and memory was found, all is as the definition says.
   pub exact : IsUndisturbed call → IsExact call
   -- Status 1, and what is printed, where the words are of no form.

@@ -10,8 +10,9 @@ use Rattle.bench_top.specs.Judged.{Ending, Judgement, Prints, Runs, Generates, j
 use Rattle.bench_top.specs.Outcomes.{Concludes, EndsOnSome, IsCutOff, IsEnded, Keeps, LeavesInput, LeavesRun, WritesFront}
 use Rattle.bench_top.specs.Runs.{report_of}
 use Rattle.bench_top.specs.Statuses.{IsDecided}
+use Rattle.bench_top.specs.Verdicts.{IsAuditDecided}
 use Rattle.bench_top.specs.Tail.{is_traced}
-use Rattle.bench_top.specs.declared.words.Form.TheVariants.{File}
+use Rattle.bench_top.specs.declared.words.Form.TheVariants.{File, Audit}
 use Rattle.bench_top.specs.declared.words.Printing.{Printing}
 use Rattle.bench_top.specs.declared.words.Task.{Task}
 
@@ -32,6 +33,8 @@ pub record IsExact (call : Call) : Type 0 where
   -- 0, 5, 6 and 7 of a bench file come exactly for their causes
   pub statuses : IfSome call.source.before (λ bytes. (task : Task) →
       call.form ≡ Some (File task) → IsDecided call.devices task bytes call.outcome)
+  -- and 0, 5, 6, 7 and 8 of an audit
+  pub verdicts : call.form ≡ Some Audit → IfSome call.source.before (λ bytes. IsAuditDecided call.devices bytes call.outcome)
 
 -- ---- words of no form
 

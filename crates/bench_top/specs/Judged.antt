@@ -15,8 +15,16 @@ use Rattle.bench_script.specs.declared.fault.ScriptFault.{ScriptFault}
 use Rattle.bench_script.specs.declared.fault.ScriptFault.TheVariants.{Long}
 use Rattle.bench_top.specs.declared.refusal.Refusal.{Refusal}
 use Rattle.bench_top.specs.declared.refusal.Refusal.TheVariants as refusals
+use Rattle.bench_top.specs.Audited.{InputParts, audited_parts, verdict_status, verdict_text}
+use Rattle.bench_top.specs.declared.audited.NoVerdict.{NoVerdict}
+use Rattle.bench_top.specs.declared.audited.NoVerdict.TheVariants as ends
+use Rattle.bench_top.specs.declared.file.FileEnd.{FileEnd}
+use Rattle.bench_top.specs.declared.file.FileEnd.TheVariants as unread
+use Rattle.bench_top.specs.declared.parts.NoParts.{NoParts}
+use Rattle.bench_top.specs.declared.parts.NoParts.TheVariants as missing
 use Rattle.bench_top.specs.declared.words.Form.{Form}
-use Rattle.bench_top.specs.declared.words.Form.TheVariants.{File, Gen}
+use Rattle.report_reading.specs.declared.verdict.Verdict.{Verdict}
+use Rattle.bench_top.specs.declared.words.Form.TheVariants.{File, Gen, Audit}
 use Rattle.bench_top.specs.declared.words.Printing.{Printing}
 use Rattle.bench_top.specs.declared.words.Task.{Task}
 use Rattle.bench_top.specs.declared.words.Task.TheVariants.{Check, Run}
@@ -27,11 +35,13 @@ pub record Ending : Type 0 where
   pub text : List ℕ
 
 -- a text is printed and nothing runs, or a script runs on a configuration, and its report is printed in some way, or the
--- bench of so many directives runs that is generated from a seed, and two lines tell of it
+-- bench of so many directives runs that is generated from a seed, and two lines tell of it, or a report of a script is judged,
+-- and nothing runs
 pub data Judgement : Type 0 where
   Prints : Ending → Judgement
   Runs : Printing → Config → List Directive → Judgement
   Generates : (seed count : ℕ) → Judgement
+  Audits : Config → (script : List Directive) → (report : List ℕ) → Judgement
 
 -- the directives are what some text is read as
 pub record IsRead (directives : List Directive) : Type 0 where
@@ -52,6 +62,17 @@ read_fault = record { status = 2; text = codes "read fault\n" }
 
 abbrev pub too_many_bytes : Ending
 too_many_bytes = record { status = 5; text = codes "too long: more than 1048576 bytes\n" }
+
+-- the same of the input of an audit
+abbrev pub too_many_audited : Ending
+too_many_audited = record { status = 5; text = codes "too long: more than 268435456 bytes\n" }
+
+-- no mark of a report stands behind a bench file
+abbrev pub no_report : Ending
+no_report = record { status = 7; text = codes "script fault 0 NoReport\n" }
+
+abbrev pub verdict_ending : Verdict → Ending
+verdict_ending verdict = record { status = verdict_status verdict; text = verdict_text verdict }
 
 abbrev pub too_many_directives : Ending
 too_many_directives = record { status = 5; text = codes "too long: more than 50000 directives\n" }
@@ -107,8 +128,48 @@ judged_file task (Some parts) = judged_parts task (configuration_of parts.0) par
 abbrev pub judged_bytes : Task → List ℕ → Judgement
 judged_bytes task bytes = if nat_lt 1048576 (length bytes) then Prints too_many_bytes else judged_file task (file bytes)
 
+-- ---- the order of the refusals of an audit
+
+-- how it ends where a part is missing
+abbrev pub parts_ending : NoParts → Ending
+parts_ending missing.NoSeparator = ending_of refusals.NoSeparator
+parts_ending missing.NoReport = no_report
+parts_ending missing.TooLong = too_many_bytes
+
+-- the script
+abbrev pub audited_script : Config → Result (List Directive) ScriptFault → (report : List ℕ) → Judgement
+audited_script config (Ok directives) report = Audits config directives report
+audited_script config (Err fault) report = Prints (ending_of (refusals.Script fault))
+
+-- the configuration, and then the script
+abbrev pub audited_config : Result Config ConfigFault → (text report : List ℕ) → Judgement
+audited_config (Ok config) text report = audited_script config (script text) report
+audited_config (Err fault) text report = Prints (ending_of (refusals.Configuration fault))
+
+-- the parts, and then what stands in them
+abbrev pub audited_by : Result InputParts NoParts → Judgement
+audited_by (Ok parts) = audited_config (configuration_of parts.configuration) parts.script parts.report
+audited_by (Err part) = Prints (parts_ending part)
+
+-- the number of bytes first
+abbrev pub judged_input : List ℕ → Judgement
+judged_input bytes = if nat_lt 268435456 (length bytes) then Prints too_many_audited else audited_by (audited_parts bytes)
+
+-- what is printed where a bench file isn't read, unless memory was wanting
+abbrev pub IsUnread : FileEnd → Judgement → Type 0
+IsUnread (unread.Refused refusal) judgement = judgement ≡ Prints (ending_of refusal)
+IsUnread unread.NoMemory judgement = Unit {0}
+
+-- what is printed where bytes have no verdict, unless memory was wanting
+abbrev pub IsRefusedBy : NoVerdict → Judgement → Type 0
+IsRefusedBy (ends.Refused refusal) judgement = judgement ≡ Prints (ending_of refusal)
+IsRefusedBy ends.NoReport judgement = judgement ≡ Prints no_report
+IsRefusedBy ends.TooLong judgement = judgement ≡ Prints too_many_bytes
+IsRefusedBy ends.NoMemory judgement = Unit {0}
+
 -- the words first; a generated bench needs no bytes
 abbrev pub judged : Option Form → List ℕ → Judgement
 judged None bytes = Prints usage
 judged (Some (File task)) bytes = judged_bytes task bytes
 judged (Some (Gen seed count)) bytes = Generates seed count
+judged (Some Audit) bytes = judged_input bytes

@@ -1,3 +1,4 @@
+pub mod Audited
 pub mod Calls
 pub mod Contract
 pub mod Groups
@@ -8,3 +9,4 @@ pub mod Statuses
 pub mod Tail
 pub mod Words
 pub use Rattle.shown_rows.specs.Shows
+pub mod Verdicts

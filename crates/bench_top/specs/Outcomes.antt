@@ -6,8 +6,12 @@ use Rattle.bench_report.specs.Limit.{is_too_long}
 use Rattle.board_promises.specs.Promised.{KeepsPromises}
 use Rattle.bench_generator.specs.Board.{board}
 use Rattle.bench_generator.specs.Generated.{first_line, generated}
+use Rattle.mcal_base.specs.declared.config.whole.Config.{Config}
+use Rattle.mcal_base.specs.declared.directive.Directive.{Directive}
+use Rattle.report_modules.specs.Judged.{IsVerdict}
+use Rattle.report_reading.specs.declared.verdict.Verdict.{Verdict}
 use Rattle.bench_top.specs.Calls.{Stream, MeetsFault, Writes}
-use Rattle.bench_top.specs.Judged.{Ending, Judgement, Prints, Runs, Generates, judged, too_many_steps, too_long_report}
+use Rattle.bench_top.specs.Judged.{Ending, Judgement, Prints, Runs, Generates, Audits, judged, too_many_steps, too_long_report, verdict_ending}
 use Rattle.bench_top.specs.Runs.{IsWholeRun, IsStoppedRun, report_of, end_line_of}
 use Rattle.bench_top.specs.Tail.{is_traced, printed}
 use Rattle.bench_top.specs.declared.top.Outcome.{Outcome}
@@ -25,6 +29,12 @@ abbrev pub told_of_generated : (devices seed count : ℕ) → List Entry → End
 told_of_generated devices seed count entries =
     record { status = 0; text = first_line seed count ++ end_line_of devices board (generated seed count) entries }
 
+-- a report was judged, and it is said what it was found to be
+pub record IsJudged (devices : ℕ) (config : Config) (script : List Directive) (report : List ℕ) (ending : Ending) : Type 0 where
+  pub verdict : Verdict
+  pub right : IsVerdict devices config script report verdict
+  pub told : ending ≡ verdict_ending verdict
+
 -- The ending and the journal where nothing failed. The journal is empty where nothing runs. A run is whole and is reported,
 -- or stops at the limit of steps, which that of a generated bench doesn't meet.
 abbrev pub Ends : (devices : ℕ) → Judgement → Ending → List Entry → Type 0
@@ -34,12 +44,14 @@ Ends devices (Runs printing config script) ending entries =
     ⊎ (IsStoppedRun devices config script entries × (ending ≡ too_many_steps))
 Ends devices (Generates seed count) ending entries =
     IsWholeRun devices board (generated seed count) entries × (ending ≡ told_of_generated devices seed count entries)
+Ends devices (Audits config script report) ending entries = IsJudged devices config script report ending × (entries ≡ [])
 
 -- what is promised of whole runs holds of the journal, where a script was judged to run
 abbrev pub Keeps : (devices : ℕ) → Judgement → List Entry → Type 0
 Keeps devices (Prints ending) entries = Unit {0}
 Keeps devices (Runs printing config script) entries = KeepsPromises devices config script entries
 Keeps devices (Generates seed count) entries = KeepsPromises devices board (generated seed count) entries
+Keeps devices (Audits config script report) entries = Unit {0}
 
 -- the call ended as it was judged: with the status of the ending, and all of its text was written
 pub record IsEnded (devices : ℕ) (judgement : Judgement) (outcome : Outcome) (sink : Stream) : Type 0 where
@@ -73,11 +85,12 @@ LeavesRun devices (Prints printed) entries = entries ≡ []
 LeavesRun devices (Runs printing config script) entries =
     (entries ≡ []) ⊎ (IsWholeRun devices config script entries ⊎ IsStoppedRun devices config script entries)
 LeavesRun devices (Generates seed count) entries = (entries ≡ []) ⊎ IsWholeRun devices board (generated seed count) entries
+LeavesRun devices (Audits config script report) entries = entries ≡ []
 
 -- How a call that was judged so comes out, whatever fails as it writes: by status 3 for a fault of the sink and status 4 for
 -- want of memory.
 pub record Concludes (devices : ℕ) (judgement : Judgement) (outcome : Outcome) (sink : Stream) : Type 0 where
-  pub known : outcome.status ≤ 7
+  pub known : outcome.status ≤ 8
   pub ends : outcome.status ≢ 3 → outcome.status ≢ 4 → IsEnded devices judgement outcome sink
   pub front : outcome.status ≡ 3 → IsCutOff devices judgement outcome sink
   pub keeps : Keeps devices judgement outcome.journal.entries

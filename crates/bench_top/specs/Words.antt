@@ -4,13 +4,15 @@ use Rattle.std.specs.List.{list_all}
 use Rattle.std.specs.Char.{is_digit}
 use Rattle.std.specs.Str.Parse.{digits_value}
 use Rattle.bench_top.specs.declared.words.Form.{Form}
-use Rattle.bench_top.specs.declared.words.Form.TheVariants.{File, Gen}
+use Rattle.bench_top.specs.declared.words.Form.TheVariants.{File, Gen, Audit}
 use Rattle.bench_top.specs.declared.words.Printing.TheVariants.{Plain, Traced, Tail}
 use Rattle.bench_top.specs.declared.words.Task.TheVariants.{Check, Run}
 
 -- the form of one word
 abbrev pub one_word : List ℕ → Option Form
-one_word word = if bytes_eq word (codes "check") then Some (File Check) else if bytes_eq word (codes "run") then Some (File (Run Plain)) else None
+one_word word =
+    if bytes_eq word (codes "check") then Some (File Check) else if bytes_eq word (codes "run") then Some (File (Run Plain))
+    else if bytes_eq word (codes "audit") then Some Audit else None
 
 -- the form of two words
 abbrev pub two_words : List ℕ → List ℕ → Option Form

@@ -33,10 +33,13 @@ pub enum FileEnd {
 
 /// The configuration of a text.
 #[tactic(auto, using(crate::proofs::Configurations::record_is, crate::proofs::Configurations::fault_is))]
-fn configuration(alloc: Global, text: &[u8]) -> Result<Config, FileEnd>
+pub(crate) fn configuration(alloc: Global, text: &[u8]) -> Result<Config, FileEnd>
     ensures read { IfOk result (λ config. (script : List ℕ) (task : Task) → spec.judged_parts task (spec.configuration_of text.now) script ≡ spec.judged_script task config (spec_script.script script)) }
     ensures valid { IfOk result IsValid }
     ensures refused { (refusal : Refusal) → result ≡ Err (FileEnd.Refused refusal) → (script : List ℕ) (task : Task) → spec.judged_parts task (spec.configuration_of text.now) script ≡ Prints (spec.ending_of refusal) }
+    // The same of an audit.
+    ensures audited { IfOk result (λ config. (script report : List ℕ) → spec.audited_config (spec.configuration_of text.now) script report ≡ spec.audited_script config (spec_script.script script) report) }
+    ensures unaudited { (refusal : Refusal) → result ≡ Err (FileEnd.Refused refusal) → (script report : List ℕ) → spec.audited_config (spec.configuration_of text.now) script report ≡ Prints (spec.ending_of refusal) }
 {
     match read_config(alloc, text) {
         Ok(config) => Ok(config),
@@ -46,10 +49,11 @@ fn configuration(alloc: Global, text: &[u8]) -> Result<Config, FileEnd>
 }
 
 /// The directives of a text.
-fn directives(alloc: Global, text: &[u8]) -> Result<Vec<Directive>, FileEnd>
+pub(crate) fn directives(alloc: Global, text: &[u8]) -> Result<Vec<Directive>, FileEnd>
     requires { length text.now ≤ 1048576 }
     ensures read { IfOk result (λ directives. spec_script.script text.now ≡ Ok directives.items) }
     ensures refused { (refusal : Refusal) → result ≡ Err (FileEnd.Refused refusal) → (task : Task) (config : records.Config) → spec.judged_script task config (spec_script.script text.now) ≡ Prints (spec.ending_of refusal) }
+    ensures unaudited { (refusal : Refusal) → result ≡ Err (FileEnd.Refused refusal) → (config : records.Config) (report : List ℕ) → spec.audited_script config (spec_script.script text.now) report ≡ Prints (spec.ending_of refusal) }
 {
     match read_script(alloc, text) {
         Ok(directives) => Ok(directives),

@@ -1,19 +1,22 @@
-ghost use Rattle.std.specs.Prelude.{◌≡◌, ◌≢◌, ◌≤◌, ℕ, [], IfOk, length, map, string_bytes, vec_len};
+ghost use Rattle.std.specs.Prelude.{◌≡◌, ◌≢◌, ◌≤◌, ℕ, List, [], IfOk, Some, length, map, string_bytes, vec_len};
 ghost use Rattle.config_facts.specs.Valid.{IsValid};
 ghost use Rattle.run_model.specs.Exchanges.{AreToldBy};
+ghost use Rattle.serial_devices.specs.Lines.{Line};
 ghost use Rattle.bench_script.specs.Lines.{file};
 ghost use Rattle.mcal_system.specs.Setting.{has_service};
 ghost use Rattle.script_runner.specs.Scripts.{IsScript, AllOffered};
 ghost use Rattle.bench_top.specs.Calls.{stream_of};
 ghost use Rattle.bench_top.specs.Contract.{KeepsContract};
 ghost use Rattle.bench_top.specs.Judged as spec;
-ghost use Rattle.bench_top.specs.Judged.{Generates, IsRead, Judgement, Prints, Runs};
+ghost use Rattle.bench_top.specs.Judged.{Generates, IsRead, Judgement, Prints, Runs, judged_input, verdict_ending};
 ghost use Rattle.bench_top.specs.Outcomes.{Concludes, Ends, Keeps};
 ghost use Rattle.bench_top.specs.Words.{form_of};
+ghost use Rattle.bench_top.specs.declared.words.Form.TheVariants.{Audit};
 
+use crate::audited::{NoVerdict, audited, verdict_status, verdict_text};
 use crate::file::{BenchFile, FileEnd, read_file};
 use crate::generated::generated_text;
-use crate::input::{ReadEnd, read_all};
+use crate::input::{LIMIT, ReadEnd, read_most};
 use crate::output::write_all;
 use crate::refusal::Refusal;
 use crate::run::run;
@@ -22,6 +25,7 @@ use crate::words::{Form, Printing, Task, form_of};
 use bench_generator::board;
 use bench_report::{ReportEnd, report};
 use mcal_base::{Config, Directive, Sink, Source};
+use report_reading::Verdict;
 use run_model::Journal;
 use serial_devices::SerialDevice;
 use std::alloc::{AllocError, Global};
@@ -35,6 +39,15 @@ const READ_FAULT: &str = "read fault\n";
 
 /// What is printed where more bytes came than an input may have.
 const TOO_MANY_BYTES: &str = "too long: more than 1048576 bytes\n";
+
+/// The most bytes that the input of an audit may have.
+const AUDIT_LIMIT: usize = 268_435_456;
+
+/// What is printed where more bytes came than the input of an audit may have.
+const TOO_MANY_AUDITED: &str = "too long: more than 268435456 bytes\n";
+
+/// What is printed where no mark of a report stands behind a bench file.
+const NO_REPORT: &str = "script fault 0 NoReport\n";
 
 /// What is printed where the report would be longer than it may be.
 const TOO_LONG_REPORT: &str = "too long: more than 268435456 bytes of report\n";
@@ -56,7 +69,7 @@ pub struct Outcome {
 fn finish<K: Sink>(out: &mut K, status: u8, text: &[u8], journal: Journal) -> Outcome
     requires fault { status ≢ 3 }
     requires memory { status ≢ 4 }
-    requires known { status ≤ 7 }
+    requires known { status ≤ 8 }
     ensures remembers { result.status ≢ 4 }
     ensures journal { result.journal ≡ journal }
     // It ends as it was judged, where the call is to end with this status and this text.
@@ -93,7 +106,7 @@ fn no_room(journal: Journal) -> Outcome
 fn print<K: Sink>(alloc: Global, out: &mut K, status: u8, text: &str) -> Outcome
     requires fault { status ≢ 3 }
     requires memory { status ≢ 4 }
-    requires known { status ≤ 7 }
+    requires known { status ≤ 8 }
     ensures remembers { result.status ≢ 4 }
     ensures concludes { (devices : ℕ) →
         Concludes devices (Prints (record { status = status; text = text.now })) result (stream_of K.taken K.faults out.old out.new) }
@@ -238,6 +251,64 @@ fn generate<K: Sink>(
     }
 }
 
+/// Says what a report was found to be.
+fn say_verdict<K: Sink>(alloc: Global, out: &mut K, verdict: Verdict) -> Outcome
+    ensures concludes { (devices : ℕ) (judgement : Judgement) → Ends devices judgement (verdict_ending verdict) [] →
+        Concludes devices judgement result (stream_of K.taken K.faults out.old out.new) }
+    ensures journal { result.journal.entries ≡ [] }
+{
+    match verdict_text(alloc, verdict) {
+        Ok(text) => finish(
+            out,
+            verdict_status(verdict),
+            text.as_str().as_bytes(),
+            Journal::empty(alloc),
+        ),
+        Err(_) => no_memory(alloc),
+    }
+}
+
+/// Judges the report behind a bench file, for a rack of so many devices, and says what it was found to be.
+fn conclude_audit<K: Sink>(alloc: Global, out: &mut K, bytes: &[u8], devices: usize) -> Outcome
+    requires { length bytes.now ≤ 268435456 }
+    ensures concludes { Concludes devices (judged_input bytes.now) result (stream_of K.taken K.faults out.old out.new) }
+    ensures journal { result.journal.entries ≡ [] }
+{
+    match audited(alloc, bytes, devices) {
+        Ok(verdict) => say_verdict(alloc, out, verdict),
+        Err(NoVerdict::Refused(refusal)) => refuse(alloc, out, refusal),
+        Err(NoVerdict::NoReport) => print(alloc, out, 7, NO_REPORT),
+        Err(NoVerdict::TooLong) => print(alloc, out, 5, TOO_MANY_BYTES),
+        Err(NoVerdict::NoMemory) => no_memory(alloc),
+    }
+}
+
+/// Reads a bench file with a report behind it, and judges the report for a rack of so many devices.
+fn audit_input<S: Source, K: Sink>(
+    alloc: Global,
+    input: &mut S,
+    out: &mut K,
+    devices: usize,
+) -> Outcome
+    // The devices aren't called.
+    ensures { (lines : List Line) → length lines ≡ devices → KeepsContract (record {
+      form = Some Audit;
+      source = stream_of S.left S.faults input.old input.new;
+      sink = stream_of K.taken K.faults out.old out.new;
+      devices = devices;
+      lines_before = lines;
+      lines_after = lines;
+      outcome = result;
+    }) }
+{
+    match read_most(alloc, input, AUDIT_LIMIT) {
+        Ok(bytes) => conclude_audit(alloc, out, &bytes, devices),
+        Err(ReadEnd::Fault) => print(alloc, out, 2, READ_FAULT),
+        Err(ReadEnd::TooLong) => print(alloc, out, 5, TOO_MANY_AUDITED),
+        Err(ReadEnd::NoMemory) => no_memory(alloc),
+    }
+}
+
 /// Does what the words ask for, with the input and the sink.
 pub fn bench<S: Source, K: Sink>(
     alloc: Global,
@@ -246,8 +317,8 @@ pub fn bench<S: Source, K: Sink>(
     out: &mut K,
     rack: &mut Vec<Box<dyn SerialDevice>>,
 ) -> Outcome
-    // The call as it is seen from outside keeps the contract of `specs/Contract.antt`. Its groups: `known`, the statuses that
-    // there are; `exact`, where nothing failed; `usage`, `source`, `sink` and `memory`, for statuses 1 to 4; `journal` and
+    // The call as it is seen from outside keeps the contract of `specs/Contract.antt`. Its groups: `known` and `faults`, the
+    // statuses that there are; `exact`, where nothing failed; `usage`, `source`, `sink` and `memory`, for statuses 1 to 4; `journal` and
     // `devices`, whatever the status; `complete`, that nothing else fails; and `generated`, for benches from a seed.
     ensures { KeepsContract (record {
       form = form_of (map string_bytes words.now);
@@ -265,8 +336,9 @@ pub fn bench<S: Source, K: Sink>(
     let task = match form {
         Form::File(task) => task,
         Form::Gen(seed, count) => return generate(alloc, out, seed, count, rack),
+        Form::Audit => return audit_input(alloc, input, out, rack.len()),
     };
-    match read_all(alloc, input) {
+    match read_most(alloc, input, LIMIT) {
         Ok(bytes) => conclude(alloc, out, task, &bytes, rack),
         Err(ReadEnd::Fault) => print(alloc, out, 2, READ_FAULT),
         Err(ReadEnd::TooLong) => print(alloc, out, 5, TOO_MANY_BYTES),

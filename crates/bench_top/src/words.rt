@@ -9,6 +9,8 @@ pub enum Form {
     File(Task),
     /// To generate a bench from a seed, with so many directives, and to run it.
     Gen(u32, u32),
+    /// To judge the report behind a bench file.
+    Audit,
 }
 
 /// What is to be done with a bench file.
@@ -59,6 +61,7 @@ fn one_word(word: &str) -> Option<Form>
     match word {
         "check" => Some(Form::File(Task::Check)),
         "run" => Some(Form::File(Task::Run(Printing::Plain))),
+        "audit" => Some(Form::Audit),
         _ => None,
     }
 }

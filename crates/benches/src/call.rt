@@ -1,3 +1,4 @@
+use crate::audited::with_trace;
 use crate::oddity::Oddity;
 use crate::turn::Turn;
 use bench_top::bench;
@@ -44,13 +45,22 @@ enum Hanging {
 
 /// The ends of a call: where its input comes from, where its output goes to, and what hangs on the serial bus.
 #[derive(Drop)]
-struct Ends {
+pub struct Ends {
     input: Vec<u8>,
     most_read: usize,
     failing_reads: Vec<u64>,
     most_written: usize,
     failing_writes: Vec<u64>,
     hanging: Hanging,
+}
+
+/// The words of a line.
+pub fn words_in(alloc: Global, line: &str) -> Result<Vec<String>, AllocError> {
+    let mut words = Vec::new(alloc);
+    for word in line.split_ascii_whitespace() {
+        words.push(String::from_str(alloc, word)?)?;
+    }
+    Ok(words)
 }
 
 impl Call {
@@ -89,11 +99,7 @@ impl Call {
 
     /// The words of its command line.
     fn words(&self, alloc: Global) -> Result<Vec<String>, AllocError> {
-        let mut words = Vec::new(alloc);
-        for word in self.parts().next().unwrap_or("").split_ascii_whitespace() {
-            words.push(String::from_str(alloc, word)?)?;
-        }
-        Ok(words)
+        words_in(alloc, self.parts().next().unwrap_or(""))
     }
 
     /// Its ends, with one more thing out of the ordinary, where there is one.
@@ -114,13 +120,32 @@ impl Call {
     pub fn made(&self, alloc: Global, more: Option<Oddity>) -> Result<Ended, AllocError> {
         let words = self.words(alloc)?;
         let ends = self.ends(alloc, more)?;
-        let mut source = ListSource::new(ends.input, ends.most_read.max(1), ends.failing_reads);
-        let Ok(mut sink) = ListSink::new(alloc, ends.most_written.max(1), ROOM, ends.failing_writes)
+        ends.played(alloc, &words)
+    }
+}
+
+impl Ends {
+    /// The usual ends over an input: pieces of up to 1,000 bytes, no fault, and no device.
+    pub fn usual(alloc: Global, input: &[u8]) -> Result<Ends, AllocError> {
+        Ok(Ends {
+            input: input.to_vec(alloc)?,
+            most_read: 1_000,
+            failing_reads: Vec::new(alloc),
+            most_written: 1_000,
+            failing_writes: Vec::new(alloc),
+            hanging: Hanging::Nothing,
+        })
+    }
+
+    /// Makes a call of these words over them.
+    pub fn played(self, alloc: Global, words: &[String]) -> Result<Ended, AllocError> {
+        let mut source = ListSource::new(self.input, self.most_read.max(1), self.failing_reads);
+        let Ok(mut sink) = ListSink::new(alloc, self.most_written.max(1), ROOM, self.failing_writes)
         else {
             return Err(AllocError);
         };
         let mut rack: Vec<Box<dyn SerialDevice>> = Vec::new(alloc);
-        match ends.hanging {
+        match self.hanging {
             Hanging::Nothing => {}
             Hanging::Two => {
                 rack.push(Box::new(alloc, PlainDevice::new(false))?)?;
@@ -133,25 +158,16 @@ impl Call {
                 rack.push(Box::new(alloc, device)?)?;
             }
         }
-        let outcome = bench(alloc, &words, &mut source, &mut sink, &mut rack);
+        let outcome = bench(alloc, words, &mut source, &mut sink, &mut rack);
         Ok(Ended {
             status: outcome.status,
             written: sink.bytes().to_vec(alloc)?,
         })
     }
-}
 
-impl Ends {
-    /// The usual ends over an input: pieces of up to 1,000 bytes, no fault, and no device.
-    fn usual(alloc: Global, input: &[u8]) -> Result<Ends, AllocError> {
-        Ok(Ends {
-            input: input.to_vec(alloc)?,
-            most_read: 1_000,
-            failing_reads: Vec::new(alloc),
-            most_written: 1_000,
-            failing_writes: Vec::new(alloc),
-            hanging: Hanging::Nothing,
-        })
+    /// Has the two devices of the program hang on the bus.
+    pub fn hang_rack(&mut self) {
+        self.hanging = Hanging::Two;
     }
 
     /// Makes them odd.
@@ -177,7 +193,8 @@ impl Ends {
             Oddity::Bytes(count) => self.input.truncate(count),
             Oddity::Bad => self.input.extend_from_slice(b"bad\n")?,
             Oddity::Steps(number) => self.put_steps(alloc, number)?,
-            Oddity::Rack => self.hanging = Hanging::Two,
+            Oddity::Act(number) => self.input = with_trace(alloc, &self.input, number)?,
+            Oddity::Rack => self.hang_rack(),
             Oddity::Device(failing) => self.hanging = Hanging::One(failing),
         }
         Ok(())

@@ -4,6 +4,7 @@
 //! ended.
 #![tactic(auto)]
 
+mod audited;
 mod call;
 mod calls;
 mod form;

@@ -19,6 +19,9 @@ pub enum Oddity {
     Bad,
     /// `steps N`: the number N stands in each line `run *` of the input.
     Steps(usize),
+    /// `act N`: behind the input, a bench file, come `===` and its traced report, in which the act of number N, from 1, stands at
+    /// the line before; with 0 the report is as it is.
+    Act(usize),
     /// `rack`: the two devices of the program hang on the serial bus.
     Rack,
     /// `device F..`: one device hangs there, which answers each word's complement, and the exchanges of these numbers, from
@@ -48,6 +51,7 @@ impl Oddity {
             Some("bytes") => Some(Oddity::Bytes(first)),
             Some("bad") => Some(Oddity::Bad),
             Some("steps") => Some(Oddity::Steps(first)),
+            Some("act") => Some(Oddity::Act(first)),
             Some("rack") => Some(Oddity::Rack),
             Some("device") => Some(Oddity::Device(numbers)),
             _ => None,

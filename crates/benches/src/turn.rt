@@ -13,6 +13,9 @@ pub enum Turn {
     Front,
     /// `each step N`: each number from 0 to N stands in the lines `run *` of the input.
     Step(usize),
+    /// `each act N`: behind the input come `===` and its traced report, as it is, and with each of the first N acts at the line
+    /// before, one in each call.
+    Act(usize),
 }
 
 /// The most bytes of a read or of a write.
@@ -32,6 +35,7 @@ impl Turn {
             "write" => Some(Turn::Write(count)),
             "front" => Some(Turn::Front),
             "step" => Some(Turn::Step(count)),
+            "act" => Some(Turn::Act(count)),
             _ => None,
         }
     }
@@ -40,14 +44,14 @@ impl Turn {
     pub fn first(self) -> usize {
         match self {
             Turn::Read(_) | Turn::Write(_) => 1,
-            Turn::Front | Turn::Step(_) => 0,
+            Turn::Front | Turn::Step(_) | Turn::Act(_) => 0,
         }
     }
 
     /// The number of the last call.
     pub fn last(self, call: &Call) -> usize {
         match self {
-            Turn::Read(count) | Turn::Write(count) | Turn::Step(count) => count,
+            Turn::Read(count) | Turn::Write(count) | Turn::Step(count) | Turn::Act(count) => count,
             Turn::Front => call.input_len(),
         }
     }
@@ -60,6 +64,7 @@ impl Turn {
             Turn::Write(_) => Oddity::Writes(PIECE, numbers),
             Turn::Front => Oddity::Bytes(number),
             Turn::Step(_) => Oddity::Steps(number),
+            Turn::Act(_) => Oddity::Act(number),
         }))
     }
 }

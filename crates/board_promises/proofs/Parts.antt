@@ -1,6 +1,6 @@
 -- The machines of converter and serial units are parts of that of all modules.
 use Rattle.std.proofs.Common.{◌≡◌, Option, Some, None, refl, sym, ◌∙◌, ap}
-use Rattle.plain_facts.specs.Options.{some_same}
+use Rattle.mcal_base.specs.facts.Options.{some_same}
 use Rattle.chip_model.specs.Wiring.{wiring_of}
 use Rattle.mcal_base.specs.declared.config.whole.Config.{Config}
 use Rattle.run_model.specs.Machine.{Happening, Acts, Serves, Starts, Aborts, Moves, Restarts, Outcome, Machine, outcome_with}

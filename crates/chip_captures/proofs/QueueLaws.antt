@@ -4,7 +4,7 @@ use Rattle.std.specs.Prelude.{if◌then◌else◌}
 use Rattle.std.specs.List.{AllByRecursion}
 use Rattle.std.proofs.lemmas.Bool.Decides.{nat_tests}
 use Rattle.std.proofs.lemmas.List.{drop-append-le, drop-drop}
-use Rattle.plain_facts.specs.Numbers.{same_or_other}
+use Rattle.mcal_base.specs.facts.Numbers.{same_or_other}
 use Rattle.mcal_base.specs.declared.register.Reg.{Reg}
 use Rattle.mcal_base.specs.declared.register.Reg.TheVariants.{CaptureCondition, CaptureMode, CaptureGateSet, CaptureGateClear, CaptureZero, CapturePop, CaptureFlush}
 use Rattle.chip_captures.specs.Captures.{Captures, capture_at, with_capture, with_condition, with_mode, zeroed, popped as popped_once, take_edge, after_write}

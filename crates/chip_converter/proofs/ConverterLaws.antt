@@ -4,7 +4,7 @@ use Rattle.std.proofs.lemmas.List.{get_or_past, get_or_default, get_or-replicate
 use Rattle.std.specs.Prelude.{if◌then◌else◌, nat_lt, map, replicate}
 use Rattle.std.proofs.lemmas.Bool.Decides.{nat_tests}
 use Rattle.std.proofs.lemmas.List.FromFn.{fill_by_all}
-use Rattle.plain_facts.specs.Numbers.{lt_zero}
+use Rattle.mcal_base.specs.facts.Numbers.{lt_zero}
 use Rattle.chip_converter.specs.Rounds.{no_round, ended, has_ended, input_of}
 use Rattle.chip_converter.specs.Converters.{Converters, level_at, result, settled, unused, unit_at, with_unit, with_level, after_analog}
 use Rattle.chip_converter.specs.declared.converter.Converter.{Converter}

@@ -7,8 +7,8 @@ use Rattle.std.proofs.lemmas.List.{set-get_or}
 use Rattle.std.proofs.lemmas.List.FromFn.{get_or-map-range_with_len}
 use Rattle.std.proofs.lemmas.Nat.Bits.{bit_at_cat_low, bit_at_cat_high}
 use Rattle.std.proofs.lemmas.Bool.{and_from}
-use Rattle.plain_facts.specs.Truths.{and_false, and_second, or_true}
-use Rattle.plain_facts.specs.Numbers.{eq_from, eq_is, same_or_other}
+use Rattle.mcal_base.specs.facts.Truths.{and_false, and_second, or_true}
+use Rattle.mcal_base.specs.facts.Numbers.{eq_from, eq_is, same_or_other}
 use Rattle.mcal_base.specs.Bits.{has_bit, bit_of}
 use Rattle.mcal_base.proofs.BitLaws.{has_bit-or, has_bit-pow_same}
 use Rattle.mcal_base.specs.declared.register.Reg.TheVariants.{ConverterList, ConverterGo, ConverterAbort, ConverterAck}

@@ -2,7 +2,7 @@
 use Rattle.std.proofs.Common.{◌≡◌, ℕ, ◌+◌, ◌-◌, ◌*◌, ◌^◌, ◌<◌, ◌≤◌, ◌⊎◌, inl, inr, Bool, true, false, refl, ◌∙◌, ap, arith, add_comm, ◌||◌, ◌==◌, bit_and, bit_or}
 use Rattle.std.specs.Prelude.{◌&&◌}
 use Rattle.std.proofs.lemmas.Nat.Bits.{bit_at_cat_low}
-use Rattle.plain_facts.specs.Truths.{or_false}
+use Rattle.mcal_base.specs.facts.Truths.{or_false}
 use Rattle.mcal_base.specs.Bits.{has_bit, bit_of}
 use Rattle.mcal_base.proofs.BitLaws.{has_bit-zero, has_bit-or, has_bit-and, has_bit-above, has_bit-bits_of_above}
 use Rattle.chip_timers.specs.Timers as timers

@@ -1,7 +1,7 @@
 -- The level of a pin, and the flags of the lines.
 use Rattle.std.proofs.Common.{◌≡◌, ℕ, ◌-◌, ◌<◌, ◌≤◌, true, false, ◌&&◌, refl, arith}
 use Rattle.std.specs.Prelude.{Some, None, Bool, if◌then◌else◌}
-use Rattle.plain_facts.specs.Numbers.{lt_from, lt_since}
+use Rattle.mcal_base.specs.facts.Numbers.{lt_from, lt_since}
 use Rattle.mcal_base.specs.Bits.{has_bit}
 use Rattle.chip_timers.specs.Timers as timers
 use Rattle.chip_pulses.specs.Pulses as pulses

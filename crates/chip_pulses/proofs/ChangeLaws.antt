@@ -4,7 +4,7 @@ use Rattle.std.specs.Prelude.{if◌then◌else◌}
 use Rattle.std.proofs.lemmas.Nat.{div-add-mod', mod-mul-add, le-div}
 use Rattle.std.proofs.Math.Nat.{mod-lt, mul-mod_left, mul-le-mul_right, div-mul-le_self}
 use Rattle.std.proofs.lemmas.Bool.{and_from, and_parts}
-use Rattle.plain_facts.specs.Numbers.{isnt_zero, lt_from, lt_is, lt_isnt, lt_since, zero_from}
+use Rattle.mcal_base.specs.facts.Numbers.{isnt_zero, lt_from, lt_is, lt_isnt, lt_since, zero_from}
 use Rattle.chip_pulses.specs.Regime.{regime_level, regime_changed, changes_by, periods_by, duties_by, alternates, turns_to}
 use Rattle.chip_pulses.specs.declared.regime.Regime.{Regime}
 

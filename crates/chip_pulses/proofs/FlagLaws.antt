@@ -2,7 +2,7 @@
 use Rattle.std.proofs.Common.{◌≡◌, ℕ, ◌-◌, ◌<◌, ◌≤◌, max, Bool, true, false, ◌&&◌, ◌||◌, nat_lt, refl, sym, ◌∙◌, ap, arith, ◌⊎◌, inl, inr}
 use Rattle.std.specs.Prelude.{if◌then◌else◌}
 use Rattle.std.proofs.lemmas.Bool.{and_from, and_parts, or_left, or_right}
-use Rattle.plain_facts.specs.Numbers.{lt_from, lt_is, lt_isnt, lt_since}
+use Rattle.mcal_base.specs.facts.Numbers.{lt_from, lt_is, lt_isnt, lt_since}
 use Rattle.chip_pulses.specs.Regime.{regime_level, regime_changed, next_of, turn_of, turns_to}
 use Rattle.chip_pulses.specs.Pulses.{output_level, changed_between}
 use Rattle.chip_pulses.specs.Accesses.{ChangesBetween}

@@ -3,7 +3,7 @@ use Rattle.std.proofs.Common.{◌≡◌, ◌≢◌, ℕ, ◌+◌, ◌-◌, ◌*�
 use Rattle.std.specs.Prelude.{if◌then◌else◌, Some, None}
 use Rattle.std.specs.List.{AllByRecursion}
 use Rattle.std.proofs.lemmas.Nat.{div-add-mod'}
-use Rattle.plain_facts.specs.Numbers.{isnt_zero, zero_from}
+use Rattle.mcal_base.specs.facts.Numbers.{isnt_zero, zero_from}
 use Rattle.mcal_base.specs.Bits.{has_bit}
 use Rattle.mcal_base.proofs.BitLaws.{length-at_bits, get_or-at_bits}
 use Rattle.mcal_base.specs.declared.register.Reg.{Reg}

@@ -7,8 +7,8 @@ use Rattle.mcal_base.specs.Bits.{has_bit}
 use Rattle.mcal_base.specs.Expiry.{counts_since, count_of, runs_on}
 use Rattle.mcal_base.proofs.ExpiryLaws.{counts_since-start, count_of-stopped, runs_on-start, runs_on-later}
 use Rattle.std.proofs.Math.Nat.{zero-mod}
-use Rattle.plain_facts.specs.Truths.{or_false}
-use Rattle.plain_facts.specs.Numbers.{lt_itself, same_or_other}
+use Rattle.mcal_base.specs.facts.Truths.{or_false}
+use Rattle.mcal_base.specs.facts.Numbers.{lt_itself, same_or_other}
 use Rattle.mcal_base.specs.declared.register.Reg.TheVariants.{TimerTarget, TimerPrescaler, TimerOneShot, TimerGateSet, TimerGateClear, TimerFlags, TimerZero}
 use Rattle.chip_timers.specs.Run.{Run, run_expiries, run_goes_on, restarted}
 use Rattle.chip_timers.specs.Timers.{Timers, counter, count_at, counts_on, expired_between, gate_clear, zero_count, zeroed, flag_clear, is_running, is_flagged, timer_at, with_timer, acting, gate_set, after_write}

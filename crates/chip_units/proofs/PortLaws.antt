@@ -4,7 +4,7 @@ use Rattle.std.specs.Prelude.{slice_index, bit_and, if◌then◌else◌}
 use Rattle.std.proofs.lemmas.Nat.{and_le_l, pow_below, pow_pos}
 use Rattle.std.proofs.lemmas.Nat.Bits.{bit_at_cat_low, bit_at_cat_high}
 use Rattle.std.proofs.lemmas.Bool.{and_left, and_right}
-use Rattle.plain_facts.specs.Numbers.{same_or_other}
+use Rattle.mcal_base.specs.facts.Numbers.{same_or_other}
 use Rattle.mcal_base.specs.Bits.{has_bit, without}
 use Rattle.mcal_base.proofs.BitLaws.{has_bit-zero, has_bit-above, has_bit-and, has_bit-pow_same, has_bit-pow_other}
 use Rattle.chip_units.specs.Pins.{Pins, bit_at, is_out, latch, ones_set, ones_clear, inverted, flip, at_port, chosen, replaced, put}

@@ -2,7 +2,7 @@
 use Rattle.std.proofs.Common.{◌≡◌, ℕ, ◌/◌, ◌%◌, ◌^◌, ◌<◌, ◌≤◌, ◌≢◌, Bool, true, false, not, ◌&&◌, ◌||◌, List, length, refl, sym, ◌∙◌, ap, arith, length-set, get_or-set_same, get_or-set_other, ◌⊎◌, inl, inr}
 use Rattle.std.specs.Prelude.{slice_index, slice_set, bit_or}
 use Rattle.std.proofs.lemmas.List.{get_or_past}
-use Rattle.plain_facts.specs.Truths.{or_false, or_true}
+use Rattle.mcal_base.specs.facts.Truths.{or_false, or_true}
 use Rattle.mcal_base.specs.Bits.{has_bit, without}
 use Rattle.mcal_base.proofs.BitLaws.{has_bit-or, has_bit-without}
 use Rattle.chip_units.specs.Pins.{bit_at, ones_set, ones_clear}

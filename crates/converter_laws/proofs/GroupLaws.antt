@@ -4,9 +4,9 @@ use Rattle.std.specs.Prelude.{◌↔◌, is_some, slice_get, slice_index_or, if�
 use Rattle.std.specs.List.{list_all, list_any}
 use Rattle.std.proofs.lemmas.Bool.Decides.{nat_tests}
 use Rattle.std.proofs.lemmas.Bool.{and_from, and_parts, and_right, not-true}
-use Rattle.plain_facts.specs.Truths.{or_true}
-use Rattle.plain_facts.specs.Options.{some_is}
-use Rattle.plain_facts.specs.Numbers.{lt_from, lt_is}
+use Rattle.mcal_base.specs.facts.Truths.{or_true}
+use Rattle.mcal_base.specs.facts.Options.{some_is}
+use Rattle.mcal_base.specs.facts.Numbers.{lt_from, lt_is}
 use Rattle.mcal_base.specs.declared.directive.Order.TheVariants as orders
 use Rattle.mcal_base.specs.declared.error_name.ErrorName.{ErrorName}
 use Rattle.mcal_base.specs.declared.error_name.ErrorName.TheVariants.{AdcBusy}

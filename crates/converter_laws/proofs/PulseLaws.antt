@@ -4,8 +4,8 @@ use Rattle.std.specs.Prelude.{◌↔◌, if◌then◌else◌}
 use Rattle.std.specs.List.{AllByRecursion}
 use Rattle.std.proofs.lemmas.Bool.Decides.{nat_tests}
 use Rattle.std.proofs.lemmas.Bool.{and_parts}
-use Rattle.plain_facts.specs.Truths.{and_false, and_true, clear_apart, or_false, or_true}
-use Rattle.plain_facts.specs.Numbers.{eq_is, eq_other, eq_self, same_or_other}
+use Rattle.mcal_base.specs.facts.Truths.{and_false, and_true, clear_apart, or_false, or_true}
+use Rattle.mcal_base.specs.facts.Numbers.{eq_is, eq_other, eq_self, same_or_other}
 use Rattle.mcal_base.specs.Bits.{has_bit}
 use Rattle.mcal_base.proofs.BitLaws.{has_bit-or, has_bit-without, has_bit-pow_same, has_bit-pow_other}
 use Rattle.mcal_base.specs.declared.register.Reg.{Reg}

@@ -3,7 +3,7 @@ use Rattle.std.proofs.Common.{◌≡◌, ℕ, ◌+◌, ◌-◌, ◌*◌, ◌/◌
 use Rattle.std.specs.Prelude.{if◌then◌else◌, slice_index}
 use Rattle.std.specs.List.{AllByRecursion}
 use Rattle.std.proofs.lemmas.Bool.Decides.{nat_tests}
-use Rattle.plain_facts.specs.Numbers.{eq_from, same_or_other}
+use Rattle.mcal_base.specs.facts.Numbers.{eq_from, same_or_other}
 use Rattle.mcal_base.specs.declared.register.Reg.TheVariants.{ConverterList, ConverterGo, ConverterState, ConverterDone, ConverterAbort, ConverterAck}
 use Rattle.chip_converter.specs.Rounds.{Round, opened, ended, has_ended, is_idle, is_finished, is_running, state, input_of, over}
 use Rattle.chip_converter.specs.Converters.{Converters, unit_at, gone, listed, aborted, acknowledged, read_of, after_read, after_write}

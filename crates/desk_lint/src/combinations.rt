@@ -74,7 +74,17 @@ fn lacks_its_mode(pin: &Value) -> bool {
         None => "PORT_PIN_MODE_DIO",
     };
     let modes = items_at(pin, KeyName::PortPinMode);
-    !modes.is_empty() && !modes.iter().any(|mode| mode.as_str() == Some(initial))
+    !modes.is_empty() && !has_name(modes, initial)
+}
+
+/// Whether a name is among some values.
+fn has_name(values: &[Value], name: &str) -> bool {
+    for value in values {
+        if value.as_str() == Some(name) {
+            return true;
+        }
+    }
+    false
 }
 
 /// Whether a group is started by pulses.
@@ -96,45 +106,58 @@ fn is_single(group: &Value) -> bool {
     is_named(group, KeyName::AdcGroupAccessMode, "ADC_ACCESS_MODE_SINGLE")
 }
 
-/// Whether two values are the same whole number.
-fn is_same(one: &Value, other: &Value) -> bool {
-    match (one.as_integer(), other.as_integer()) {
-        (Some(one), Some(other)) => one == other,
-        _ => false,
+/// Whether a value is a whole number that is among some values.
+fn is_among(item: &Value, values: &[Value]) -> bool {
+    let Some(number) = item.as_integer() else {
+        return false;
+    };
+    for value in values {
+        if value.as_integer() == Some(number) {
+            return true;
+        }
     }
+    false
 }
 
 /// Whether two arrays share a number.
 fn share(one: &[Value], other: &[Value]) -> bool {
-    one.iter()
-        .any(|item| other.iter().any(|twin| is_same(item, twin)))
+    for item in one {
+        if is_among(item, other) {
+            return true;
+        }
+    }
+    false
 }
 
 /// Whether an array has a number twice.
 fn has_twins(items: &[Value]) -> bool {
-    items.iter().enumerate().any(|(number, item)| {
-        items
-            .iter()
-            .take(number)
-            .any(|earlier| is_same(earlier, item))
-    })
+    for (number, item) in items.iter().enumerate() {
+        if is_among(item, items.get(..number).unwrap_or(&[])) {
+            return true;
+        }
+    }
+    false
 }
 
 /// The unit of the job with this id.
 fn unit_of(jobs: &[Value], id: &Value) -> Option<i64> {
     let number = id.as_integer()?;
-    let job = jobs
-        .iter()
-        .find(|job| number_or(job, KeyName::SpiJobId, -1) == number)?;
-    number_at(job, KeyName::Unit)
+    for job in jobs {
+        if number_or(job, KeyName::SpiJobId, -1) == number {
+            return number_at(job, KeyName::Unit);
+        }
+    }
+    None
 }
 
-/// Whether the jobs of a list have different units.
-fn has_units(jobs: &[Value], list: &[Value]) -> bool {
-    let runs_on = |unit: i64| list
-        .iter()
-        .any(|id| unit_of(jobs, id).unwrap_or(-1) == unit);
-    runs_on(0) && runs_on(1)
+/// Whether a job of a list has this unit.
+fn runs_on(jobs: &[Value], list: &[Value], unit: i64) -> bool {
+    for id in list {
+        if unit_of(jobs, id) == Some(unit) {
+            return true;
+        }
+    }
+    false
 }
 
 /// Whether two jobs share a channel and have different units.
@@ -153,34 +176,64 @@ fn is_off_offset(group: &Value) -> bool {
     i64::from(mask.trailing_zeros()) != offset
 }
 
+/// Whether a sequence has jobs on both units.
+fn has_both_units(values: &toml::Table, sequence: &Value) -> bool {
+    let jobs = elements_at(values, ModuleName::Spi, KeyName::SpiJob);
+    let list = items_at(sequence, KeyName::SpiJobAssignment);
+    runs_on(jobs, list, 0) && runs_on(jobs, list, 1)
+}
+
+/// Whether a group breaks a rule of groups by itself.
+fn breaks_of_groups(rule: u32, group: &Value) -> bool {
+    match rule {
+        5 => is_triggered(group) && is_continuous(group),
+        7 => is_single(group) && 1 < number_or(group, KeyName::AdcStreamingNumSamples, 1),
+        8 => !is_single(group) && !is_triggered(group) && !is_continuous(group),
+        _ => false,
+    }
+}
+
+/// Whether an element breaks a rule by itself.
+fn breaks_alone(rule: u32, element: &Value) -> bool {
+    match rule {
+        1 => 512 < words_of(element).1,
+        3 => lacks_its_mode(element),
+        9 => has_twins(items_at(element, KeyName::SpiChannelList)),
+        10 => has_twins(items_at(element, KeyName::SpiJobAssignment)),
+        13 => is_off_offset(element),
+        _ => breaks_of_groups(rule, element),
+    }
+}
+
+/// Whether two elements break a rule together.
+fn clashes(rule: u32, one: &Value, other: &Value) -> bool {
+    match rule {
+        2 => overlap(one, other),
+        4 => has_same(one, other, KeyName::Pin),
+        6 => {
+            is_triggered(one) && is_triggered(other) && has_same(one, other, KeyName::TriggerInput)
+        }
+        12 => share_between_units(one, other),
+        _ => false,
+    }
+}
+
+/// Whether an element breaks a rule with one of those before it.
+fn clashes_with_any(rule: u32, earlier: &[Value], element: &Value) -> bool {
+    for other in earlier {
+        if clashes(rule, other, element) {
+            return true;
+        }
+    }
+    false
+}
+
 /// Whether an element breaks a rule, with those before it, in a configuration.
 fn breaks(rule: u32, values: &toml::Table, earlier: &[Value], element: &Value) -> bool {
     match rule {
-        1 => 512 < words_of(element).1,
-        2 => earlier.iter().any(|other| overlap(other, element)),
-        3 => lacks_its_mode(element),
-        4 => earlier
-            .iter()
-            .any(|other| has_same(other, element, KeyName::Pin)),
-        5 => is_triggered(element) && is_continuous(element),
-        6 => {
-            is_triggered(element)
-                && earlier.iter().any(|other| {
-                    is_triggered(other) && has_same(other, element, KeyName::TriggerInput)
-                })
-        }
-        7 => is_single(element) && 1 < number_or(element, KeyName::AdcStreamingNumSamples, 1),
-        8 => !is_single(element) && !is_triggered(element) && !is_continuous(element),
-        9 => has_twins(items_at(element, KeyName::SpiChannelList)),
-        10 => has_twins(items_at(element, KeyName::SpiJobAssignment)),
-        11 => has_units(
-            elements_at(values, ModuleName::Spi, KeyName::SpiJob),
-            items_at(element, KeyName::SpiJobAssignment),
-        ),
-        12 => earlier
-            .iter()
-            .any(|other| share_between_units(other, element)),
-        _ => is_off_offset(element),
+        2 | 4 | 6 | 12 => clashes_with_any(rule, earlier, element),
+        11 => has_both_units(values, element),
+        _ => breaks_alone(rule, element),
     }
 }
 
@@ -218,8 +271,10 @@ impl ConfigPass<'_> {
 
     /// Says that a rule is broken.
     fn broken(&mut self, rule: u32, path: &str) -> Result<(), AllocError> {
-        let what = String::from_str(self.found.alloc, refusal(rule))?;
-        let help = format!(in self.found.alloc; "rule {rule}")?;
-        self.found.error(key_at(self.places, path), what, help)
+        self.found.error(
+            key_at(self.places, path),
+            refusal(rule),
+            format_args!("rule {rule}"),
+        )
     }
 }

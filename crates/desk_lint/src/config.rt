@@ -1,5 +1,5 @@
 use crate::found::{Found, key_at, value_at};
-use crate::members::has_same;
+use crate::members::place_of_same;
 use config_keys::KeyName;
 use desk_findings::allowed;
 use desk_places::Places;
@@ -64,17 +64,22 @@ fn standing_of(need: Need, values: &toml::Table) -> Standing {
 /// Whether a module's table may have a key.
 fn is_key_of(module: ModuleName, key: &str) -> bool {
     match table_of(module, None) {
-        Some(table) => table.rows.iter().any(|row| row.0.text() == key),
+        Some(table) => has_key(table, key),
         None => false,
     }
 }
 
-impl ConfigPass<'_> {
-    /// A text of its own.
-    fn text(&self, text: &str) -> Result<String, AllocError> {
-        String::from_str(self.found.alloc, text)
+/// Whether a row of a table is about a key.
+fn has_key(table: &Table, key: &str) -> bool {
+    for row in table.rows {
+        if row.0.text() == key {
+            return true;
+        }
     }
+    false
+}
 
+impl ConfigPass<'_> {
     /// Looks through the modules of a configuration.
     pub(crate) fn whole(&mut self, values: &toml::Table) -> Result<(), AllocError> {
         for (name, _) in values.iter() {
@@ -95,14 +100,19 @@ impl ConfigPass<'_> {
         for module in MODULES {
             if is_key_of(module, key) {
                 let module = module.text();
-                let what = format!(in self.found.alloc;
-                    "`{key}` is no module, and is not looked at"
-                )?;
-                let help = format!(in self.found.alloc; "it belongs under a line `[{module}]`")?;
-                return self.found.warning(key_at(self.places, key), what, help);
+                return self.found.warning(
+                    key_at(self.places, key),
+                    format_args!("`{key}` is no module, and is not looked at"),
+                    format_args!("it belongs under a line `[{module}]`"),
+                );
             }
         }
-        self.unknown(key, key, "module", &NAMES)
+        let help = allowed(self.found.alloc, key, &NAMES)?;
+        self.found.warning(
+            key_at(self.places, key),
+            format_args!("`{key}` is no module, and is not looked at"),
+            help,
+        )
     }
 
     /// Looks through a module.
@@ -113,17 +123,15 @@ impl ConfigPass<'_> {
         }
     }
 
-    /// Says that a key is none of those that may stand there.
-    fn unknown(
-        &mut self,
-        path: &str,
-        key: &str,
-        what: &str,
-        choices: &[&str],
-    ) -> Result<(), AllocError> {
-        let what = format!(in self.found.alloc; "`{key}` is no {what}, and is not looked at")?;
+    /// Says that a key is none of those that the table at a path may have.
+    fn unknown_key(&mut self, path: &str, key: &str, choices: &[&str]) -> Result<(), AllocError> {
         let help = allowed(self.found.alloc, key, choices)?;
-        self.found.warning(key_at(self.places, path), what, help)
+        let at = format!(in self.found.alloc; "{path}.{key}")?;
+        self.found.warning(
+            key_at(self.places, at.as_str()),
+            format_args!("`{key}` is no key of `{path}`, and is not looked at"),
+            help,
+        )
     }
 
     /// Looks for keys of a table that it may not have.
@@ -139,9 +147,7 @@ impl ConfigPass<'_> {
         }
         for (name, _) in values.iter() {
             if !keys.contains(&name.as_str()) {
-                let at = format!(in self.found.alloc; "{path}.{name}")?;
-                let what = format!(in self.found.alloc; "key of `{path}`")?;
-                self.unknown(at.as_str(), name.as_str(), what.as_str(), &keys)?;
+                self.unknown_key(path, name.as_str(), &keys)?;
             }
         }
         Ok(())
@@ -216,15 +222,16 @@ impl ConfigPass<'_> {
 
     /// Says that a key is missing.
     fn missing(&mut self, path: &str, name: &str, need: Need) -> Result<(), AllocError> {
-        let what = format!(in self.found.alloc; "`{path}` has no `{name}`")?;
-        let help = match need {
+        let span = key_at(self.places, path);
+        let what = format_args!("`{path}` has no `{name}`");
+        match need {
             Need::With(key, value) | Need::Only(key, value) => {
                 let key = key.text();
-                format!(in self.found.alloc; "with `{key} = \"{value}\"` it has to be there")?
+                let help = format_args!("with `{key} = \"{value}\"` it has to be there");
+                self.found.error(span, what, help)
             }
-            _ => self.text("it has to be there")?,
-        };
-        self.found.error(key_at(self.places, path), what, help)
+            _ => self.found.error(span, what, "it has to be there"),
+        }
     }
 
     /// Looks at an array of tables.
@@ -260,12 +267,9 @@ impl ConfigPass<'_> {
                 continue;
             }
             for (number, item) in items.iter().enumerate().take(64) {
-                let earlier = items
-                    .iter()
-                    .take(number)
-                    .position(|other| has_same(other, item, *key));
-                if let Some(earlier) = earlier {
-                    self.repeated(path, key.text(), earlier, number)?;
+                let earlier = items.get(..number).unwrap_or(&[]);
+                if let Some(twin) = place_of_same(earlier, item, *key) {
+                    self.repeated(path, key.text(), twin, number)?;
                 }
             }
         }
@@ -282,9 +286,10 @@ impl ConfigPass<'_> {
     ) -> Result<(), AllocError> {
         let first = format!(in self.found.alloc; "{path}.{earlier}.{key}")?;
         let second = format!(in self.found.alloc; "{path}.{number}.{key}")?;
-        let what = format!(in self.found.alloc; "this `{key}` stands twice in `{path}`")?;
-        let span = value_at(self.places, second.as_str());
-        let other = value_at(self.places, first.as_str());
-        self.found.error_of_two(span, other, what)
+        self.found.error_of_two(
+            value_at(self.places, second.as_str()),
+            value_at(self.places, first.as_str()),
+            format_args!("this `{key}` stands twice in `{path}`"),
+        )
     }
 }

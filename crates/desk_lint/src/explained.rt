@@ -1,8 +1,8 @@
 use crate::found::Found;
 use crate::numbers::{is_written_as_number, number_of};
-use crate::split::{Word, before_comment, is_plain, words_of};
+use crate::split::{Word, before_comment, plain_len, words_of};
 use bench_script::ScriptFault;
-use desk_findings::allowed;
+use desk_findings::{allowed, nearest};
 use desk_places::{Lines, Span};
 use desk_tables::{DirectiveRow, Place, ServiceRow, directives, services};
 use std::alloc::{AllocError, Global};
@@ -29,43 +29,58 @@ pub(crate) fn explain(
     }
     if found.errors.len() == before {
         let kind = fault.kind_text();
-        let what = format!(in found.alloc; "this line is refused: {kind}")?;
-        let help = String::new(found.alloc);
-        found.error(lines.span_of(number), what, help)?;
+        let what = format_args!("this line is refused: {kind}");
+        return found.error(lines.span_of(number), what, "");
     }
     Ok(())
+}
+
+/// How many bytes the character at the front has, as far as its bytes behind the first are marked as such.
+fn character_len(bytes: &[u8]) -> usize {
+    let mut len = 1usize;
+    for byte in bytes.get(1..).unwrap_or(&[]) {
+        if *byte & 0xC0 != 0x80 {
+            return len;
+        }
+        len = len.saturating_add(1);
+    }
+    len
 }
 
 /// Names the first byte that is no text.
 fn not_text(found: &mut Found, line: &[u8], start: usize) -> Result<(), AllocError> {
     let text = before_comment(line);
-    let before = text.iter().take_while(|byte| is_plain(**byte)).count();
+    let before = plain_len(text);
     let rest = text.get(before..).unwrap_or(&[]);
-    let more = rest
-        .iter()
-        .skip(1)
-        .take_while(|byte| **byte & 0xC0 == 0x80)
-        .count();
+    let len = character_len(rest);
     let first = start.saturating_add(before);
-    let end = first.saturating_add(1).saturating_add(more);
-    let bytes = rest.get(..more.saturating_add(1)).unwrap_or(&[]);
-    let character = String::from_utf8_lossy(found.alloc, bytes)?;
-    let what = format!(in found.alloc; "`{character}` can't stand here")?;
-    let help = String::from_str(
-        found.alloc,
+    let end = first.saturating_add(len);
+    let character = String::from_utf8_lossy(found.alloc, rest.get(..len).unwrap_or(&[]))?;
+    found.error(
+        Span { start: first, end },
+        format_args!("`{character}` can't stand here"),
         "outside comments, tabs and printable ASCII alone",
-    )?;
-    found.error(Span { start: first, end }, what, help)
+    )
 }
 
 /// The row of a directive.
 fn row_of(word: &str) -> Option<DirectiveRow> {
-    directives().iter().copied().find(|row| row.0 == word)
+    for row in directives() {
+        if row.0 == word {
+            return Some(*row);
+        }
+    }
+    None
 }
 
 /// The row of a service.
-fn service_of(word: &str) -> Option<ServiceRow> {
-    services().iter().copied().find(|row| row.0.text() == word)
+pub(crate) fn service_of(word: &str) -> Option<ServiceRow> {
+    for row in services() {
+        if row.0.text() == word {
+            return Some(*row);
+        }
+    }
+    None
 }
 
 /// Looks at the words of a line.
@@ -92,9 +107,8 @@ fn unknown_directive(found: &mut Found, word: Word<'_>) -> Result<(), AllocError
     for DirectiveRow(choice, _) in directives() {
         choices.push(*choice)?;
     }
-    let what = format!(in found.alloc; "`{text}` is no directive")?;
     let help = allowed(found.alloc, text, &choices)?;
-    found.error(word.span, what, help)
+    found.error(word.span, format_args!("`{text}` is no directive"), help)
 }
 
 /// Says that a word is no service.
@@ -104,12 +118,15 @@ fn unknown_service(found: &mut Found, word: Word<'_>) -> Result<(), AllocError> 
     for ServiceRow(service, _) in services() {
         choices.push(service.text())?;
     }
-    let what = format!(in found.alloc; "`{text}` is no service")?;
-    let help = match desk_findings::nearest(found.alloc, text, &choices)? {
-        Some(choice) => format!(in found.alloc; "did you mean `{choice}`?")?,
-        None => String::from_str(found.alloc, "they have the standard's names, as `Gpt_Init`")?,
-    };
-    found.error(word.span, what, help)
+    let what = format_args!("`{text}` is no service");
+    match nearest(found.alloc, text, &choices)? {
+        Some(choice) => found.error(word.span, what, format_args!("did you mean `{choice}`?")),
+        None => found.error(
+            word.span,
+            what,
+            "they have the standard's names, as `Gpt_Init`",
+        ),
+    }
 }
 
 /// Looks at a level, a service and its arguments.
@@ -118,38 +135,51 @@ fn request(found: &mut Found, directive: Word<'_>, words: &[Word<'_>]) -> Result
     match words {
         [first, ..] if service_of(first.text).is_some() => {
             let service = first.text;
-            let what = String::from_str(found.alloc, "a level, 0 to 7, stands before the service")?;
-            let help = format!(in found.alloc; "write `{name} 0 {service} ..`")?;
-            found.error(first.span, what, help)
+            found.error(
+                first.span,
+                "a level, 0 to 7, stands before the service",
+                format_args!("write `{name} 0 {service} ..`"),
+            )
         }
         [level, word, arguments @ ..] => match service_of(word.text) {
             None => unknown_service(found, *word),
-            Some(ServiceRow(service, places)) => {
-                if counted(found, service.text(), places, *word, arguments)? {
-                    all_places(found, &[Place::Number("the level", 7)], &[*level])?;
-                    all_places(found, places, arguments)?;
-                }
-                Ok(())
-            }
+            Some(row) => call_of(found, row, *level, *word, arguments),
         },
-        _ => {
-            let what = format!(in found.alloc; "`{name}` wants a level and a service")?;
-            let help = format!(in found.alloc; "{name} <level> <service> ..")?;
-            found.error(directive.span, what, help)
-        }
+        _ => found.error(
+            directive.span,
+            format_args!("`{name}` wants a level and a service"),
+            format_args!("{name} <level> <service> .."),
+        ),
     }
+}
+
+/// Looks at the level and the arguments of a call of a service.
+fn call_of(
+    found: &mut Found,
+    row: ServiceRow,
+    level: Word<'_>,
+    word: Word<'_>,
+    arguments: &[Word<'_>],
+) -> Result<(), AllocError> {
+    let ServiceRow(service, places) = row;
+    if counted(found, service.text(), places, word, arguments)? {
+        number_at(found, "the level", 7, level)?;
+        all_places(found, places, arguments)?;
+    }
+    Ok(())
 }
 
 /// How a line is written, from its first word on.
 fn form_of(alloc: Global, name: &str, places: &[Place]) -> Result<String, AllocError> {
     let mut text = String::from_str(alloc, name)?;
     for place in places {
-        match place {
-            Place::Number(label, _) | Place::Name(label, _) => write!(text, " <{label}>")?,
-            Place::Several(label, _) => write!(text, " <{label}> ..")?,
-            Place::Buffer => text.push_str(" <buffer>")?,
-            Place::Service => text.push_str(" <service> ..")?,
-        }
+        let (label, rest) = match *place {
+            Place::Number(label, _) | Place::Name(label, _) => (label, ""),
+            Place::Several(label, _) => (label, " .."),
+            Place::Buffer => ("buffer", ""),
+            Place::Service => ("service", " .."),
+        };
+        write!(text, " <{label}>{rest}")?;
     }
     Ok(text)
 }
@@ -169,65 +199,72 @@ fn counted(
     if least <= words.len() && words.len() <= most {
         return Ok(true);
     }
-    let extra = words.get(most);
-    let what = match extra {
-        Some(word) => {
-            let text = word.text;
-            format!(in found.alloc; "`{text}` is one word too many for `{name}`")?
+    match words.get(most) {
+        Some(word) => one_too_many(found, name, places, *word)?,
+        None => {
+            let help = form_of(found.alloc, name, places)?;
+            let what = format_args!("too few words stand behind `{name}`");
+            found.error(at.span, what, help)?;
         }
-        None => format!(in found.alloc; "too few words stand behind `{name}`")?,
-    };
-    let help = match extra {
-        Some(word) if word.text.starts_with("//") => {
-            String::from_str(found.alloc, "comments begin with `#`")?
-        }
-        _ => form_of(found.alloc, name, places)?,
-    };
-    let span = match extra {
-        Some(word) => word.span,
-        None => at.span,
-    };
-    found.error(span, what, help)?;
+    }
     Ok(false)
+}
+
+/// Says that a word is one too many.
+fn one_too_many(
+    found: &mut Found,
+    name: &str,
+    places: &[Place],
+    word: Word<'_>,
+) -> Result<(), AllocError> {
+    let text = word.text;
+    let what = format_args!("`{text}` is one word too many for `{name}`");
+    if text.starts_with("//") {
+        return found.error(word.span, what, "comments begin with `#`");
+    }
+    let help = form_of(found.alloc, name, places)?;
+    found.error(word.span, what, help)
 }
 
 /// Looks at the words that stand in some places.
 fn all_places(found: &mut Found, places: &[Place], words: &[Word<'_>]) -> Result<(), AllocError> {
     for (number, word) in words.iter().enumerate() {
-        let place = match places.get(number) {
-            Some(place) => place,
-            None => match places.last() {
-                Some(place) => place,
-                None => return Ok(()),
-            },
+        let Some(place) = places.get(number).or(places.last()) else {
+            return Ok(());
         };
-        match *place {
-            Place::Number(label, most) | Place::Several(label, most) => {
-                number_at(found, label, most, *word)?
-            }
-            Place::Name(label, names) => name_at(found, label, names, *word)?,
-            Place::Buffer => buffer_at(found, *word)?,
-            Place::Service => {}
-        }
+        word_at(found, *place, *word)?;
     }
     Ok(())
+}
+
+/// Looks at the word that stands in a place.
+fn word_at(found: &mut Found, place: Place, word: Word<'_>) -> Result<(), AllocError> {
+    match place {
+        Place::Number(label, most) | Place::Several(label, most) => {
+            number_at(found, label, most, word)
+        }
+        Place::Name(label, names) => name_at(found, label, names, word),
+        Place::Buffer => buffer_at(found, word),
+        Place::Service => Ok(()),
+    }
 }
 
 /// Looks at a number.
 fn number_at(found: &mut Found, label: &str, most: u32, word: Word<'_>) -> Result<(), AllocError> {
     let text = word.text;
-    let help = format!(in found.alloc; "{label} is 0 to {most}")?;
     match number_of(found.alloc, text)? {
-        Some(number) if number <= most => return Ok(()),
-        None if !is_written_as_number(text) => {}
-        _ => {
-            let what = format!(in found.alloc; "{text} is too large")?;
-            return found.error(word.span, what, help);
-        }
+        Some(number) if number <= most => Ok(()),
+        None if !is_written_as_number(text) => found.error(
+            word.span,
+            format_args!("`{text}` is no number"),
+            format_args!("{label} is 0 to {most}: decimal digits, or `0x` and hexadecimal ones"),
+        ),
+        _ => found.error(
+            word.span,
+            format_args!("{text} is too large"),
+            format_args!("{label} is 0 to {most}"),
+        ),
     }
-    let what = format!(in found.alloc; "`{text}` is no number")?;
-    let help = format!(in found.alloc; "{help}: decimal digits, or `0x` and hexadecimal ones")?;
-    found.error(word.span, what, help)
 }
 
 /// Looks at a name.
@@ -241,9 +278,8 @@ fn name_at(
     if names.contains(&text) {
         return Ok(());
     }
-    let what = format!(in found.alloc; "`{text}` is no {label}")?;
     let help = allowed(found.alloc, text, names)?;
-    found.error(word.span, what, help)
+    found.error(word.span, format_args!("`{text}` is no {label}"), help)
 }
 
 /// Looks at a result buffer.
@@ -252,7 +288,9 @@ fn buffer_at(found: &mut Found, word: Word<'_>) -> Result<(), AllocError> {
     if text == "null" || matches!(number_of(found.alloc, text)?, Some(0 | 1)) {
         return Ok(());
     }
-    let what = format!(in found.alloc; "`{text}` is no buffer")?;
-    let help = String::from_str(found.alloc, "allowed: 0, 1, null")?;
-    found.error(word.span, what, help)
+    found.error(
+        word.span,
+        format_args!("`{text}` is no buffer"),
+        "allowed: 0, 1, null",
+    )
 }

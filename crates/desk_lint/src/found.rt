@@ -1,6 +1,7 @@
 use desk_findings::{Finding, Severity};
 use desk_places::{Places, Span};
 use std::alloc::{AllocError, Global};
+use std::fmt::Display;
 
 /// The findings of a file, while it is looked through.
 #[derive(Drop)]
@@ -20,56 +21,61 @@ impl Found {
         }
     }
 
-    /// Keeps an error.
-    pub(crate) fn error(
+    /// Keeps an error: what was found, and what is allowed or to be written there.
+    pub(crate) fn error<What: Display + Drop, Help: Display + Drop>(
         &mut self,
         span: Span,
-        what: String,
-        help: String,
+        what: What,
+        help: Help,
     ) -> Result<(), AllocError> {
-        self.errors.push(Finding {
-            severity: Severity::Error,
-            span,
-            what,
-            help,
-            other: None,
-        })?;
+        let finding = finding(self.alloc, Severity::Error, span, what, help)?;
+        self.errors.push(finding)?;
         Ok(())
     }
 
     /// Keeps an error that has to do with another place.
-    pub(crate) fn error_of_two(
+    pub(crate) fn error_of_two<What: Display + Drop>(
         &mut self,
         span: Span,
         other: Span,
-        what: String,
+        what: What,
     ) -> Result<(), AllocError> {
-        self.errors.push(Finding {
-            severity: Severity::Error,
-            span,
-            what,
-            help: String::new(self.alloc),
-            other: Some(other),
-        })?;
+        let mut finding = finding(self.alloc, Severity::Error, span, what, "")?;
+        finding.other = Some(other);
+        self.errors.push(finding)?;
         Ok(())
     }
 
     /// Keeps a warning.
-    pub(crate) fn warning(
+    pub(crate) fn warning<What: Display + Drop, Help: Display + Drop>(
         &mut self,
         span: Span,
-        what: String,
-        help: String,
+        what: What,
+        help: Help,
     ) -> Result<(), AllocError> {
-        self.warnings.push(Finding {
-            severity: Severity::Warning,
-            span,
-            what,
-            help,
-            other: None,
-        })?;
+        let finding = finding(self.alloc, Severity::Warning, span, what, help)?;
+        self.warnings.push(finding)?;
         Ok(())
     }
+}
+
+/// A finding with its texts.
+pub(crate) fn finding<What: Display + Drop, Help: Display + Drop>(
+    alloc: Global,
+    severity: Severity,
+    span: Span,
+    what: What,
+    help: Help,
+) -> Result<Finding, AllocError> {
+    let what = String::format(alloc, what)?;
+    let help = String::format(alloc, help)?;
+    Ok(Finding {
+        severity,
+        span,
+        what,
+        help,
+        other: None,
+    })
 }
 
 /// Where the key is that a path leads to, or else the table or array around it.

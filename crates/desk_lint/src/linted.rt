@@ -2,7 +2,7 @@ ghost use Rattle.std.specs.Prelude.{◌≡◌, ◌==◌, IfOk, false, vec_len};
 ghost use Rattle.desk_lint.specs.WellFormed as spec;
 
 use crate::config::ConfigPass;
-use crate::found::Found;
+use crate::found::{Found, finding};
 use crate::rules::told;
 use crate::script::script_pass;
 use crate::separator::{no_separator, script_line};
@@ -24,13 +24,7 @@ pub struct Lint {
 
 /// An error that is of the whole file.
 fn refused(alloc: Global, what: &str) -> Result<Finding, AllocError> {
-    Ok(Finding {
-        severity: Severity::Error,
-        span: Span { start: 0, end: 0 },
-        what: String::from_str(alloc, what)?,
-        help: String::new(alloc),
-        other: None,
-    })
+    finding(alloc, Severity::Error, Span { start: 0, end: 0 }, what, "")
 }
 
 /// The errors of a file that is refused: where none was found, that it is refused.
@@ -88,15 +82,13 @@ fn config_pass(
             let Some(span) = error.span() else {
                 return Err(AllocError);
             };
-            let what = String::from_str(found.alloc, "the configuration is no TOML")?;
-            let help = String::from_str(found.alloc, error.message())?;
             found.error(
                 Span {
                     start: span.start,
                     end: span.end,
                 },
-                what,
-                help,
+                "the configuration is no TOML",
+                error.message(),
             )
         }
     }

@@ -20,6 +20,26 @@ pub(crate) fn has_same(one: &Value, other: &Value, key: KeyName) -> bool {
     }
 }
 
+/// The place of the first table in which a key has the same whole number as in another one.
+pub(crate) fn place_of_same(tables: &[Value], other: &Value, key: KeyName) -> Option<usize> {
+    for (place, table) in tables.iter().enumerate() {
+        if has_same(table, other, key) {
+            return Some(place);
+        }
+    }
+    None
+}
+
+/// Whether a key has this whole number in one of some tables.
+pub(crate) fn any_has(tables: &[Value], key: KeyName, number: i64) -> bool {
+    for table in tables {
+        if number_at(table, key) == Some(number) {
+            return true;
+        }
+    }
+    false
+}
+
 /// Whether a key of a table has this name.
 pub(crate) fn is_named(value: &Value, key: KeyName, name: &str) -> bool {
     match member(value, key) {

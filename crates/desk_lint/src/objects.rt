@@ -1,4 +1,8 @@
-use mcal_base::{Config, ModuleName, Service};
+use mcal_base::{
+    AdcGroup, Config, DioChannelGroup, GptChannel, IcuChannel, McuClockSetting, McuConfig,
+    McuModeSetting, ModuleName, PortPin, PwmChannel, Service, SpiChannel, SpiConfig, SpiJob,
+    SpiSequence,
+};
 
 /// An object of a configuration that a script names by its number.
 #[derive(Clone, Copy)]
@@ -81,80 +85,132 @@ impl Object {
         }
     }
 
-    /// Whether a configuration has the one with this number.
+    /// Whether a configuration has the one with this number. A port is there where one of its eight pins is.
     pub(crate) fn is_in(self, config: &Config, number: u32) -> bool {
         match self {
             Object::ClockSetting | Object::ClockMode | Object::RamSection => {
-                self.is_in_clock(config, number)
+                self.is_in_clock(&config.mcu, number)
             }
-            Object::Pin | Object::Channel | Object::Port | Object::ChannelGroup => {
-                self.is_in_pins(config, number)
+            Object::Pin | Object::Channel => has(config.port.pins.as_slice(), number),
+            Object::Port => has_port(config.port.pins.as_slice(), number),
+            Object::ChannelGroup => has(config.dio.groups.as_slice(), number),
+            Object::Timer => has(config.gpt.channels.as_slice(), number),
+            Object::PulseOutput => has(config.pwm.channels.as_slice(), number),
+            Object::CaptureInput => has(config.icu.channels.as_slice(), number),
+            Object::ConverterGroup => has(config.adc.groups.as_slice(), number),
+            Object::SerialChannel | Object::SerialJob | Object::SerialSequence => {
+                self.is_in_serial(&config.spi, number)
             }
-            Object::Timer => {
-                let channels = config.gpt.channels.as_slice();
-                channels.iter().any(|channel| channel.id == number)
-            }
-            Object::PulseOutput => {
-                let channels = config.pwm.channels.as_slice();
-                channels.iter().any(|channel| channel.id == number)
-            }
-            Object::CaptureInput => {
-                let channels = config.icu.channels.as_slice();
-                channels.iter().any(|channel| channel.id == number)
-            }
-            Object::ConverterGroup => {
-                let groups = config.adc.groups.as_slice();
-                groups.iter().any(|group| group.id == number)
-            }
-            _ => self.is_in_serial(config, number),
         }
     }
 
     /// Whether the clock has the one with this number.
-    fn is_in_clock(self, config: &Config, number: u32) -> bool {
-        let clock = &config.mcu;
+    fn is_in_clock(self, clock: &McuConfig, number: u32) -> bool {
         match self {
-            Object::ClockSetting => {
-                let settings = clock.clock_settings.as_slice();
-                settings.iter().any(|setting| setting.id == number)
-            }
-            Object::ClockMode => {
-                let modes = clock.modes.as_slice();
-                modes.iter().any(|mode| mode.mode == number)
-            }
+            Object::ClockSetting => has(clock.clock_settings.as_slice(), number),
+            Object::ClockMode => has(clock.modes.as_slice(), number),
             _ => (number as usize) < clock.ram_sections.len(),
         }
     }
 
-    /// Whether the pins have the one with this number. A port is there where one of its eight pins is.
-    fn is_in_pins(self, config: &Config, number: u32) -> bool {
-        let pins = config.port.pins.as_slice();
-        match self {
-            Object::Port => pins.iter().any(|pin| pin.id / 8 == number),
-            Object::ChannelGroup => {
-                let groups = config.dio.groups.as_slice();
-                groups.iter().any(|group| group.id == number)
-            }
-            _ => pins.iter().any(|pin| pin.id == number),
-        }
-    }
-
     /// Whether the serial part has the one with this number.
-    fn is_in_serial(self, config: &Config, number: u32) -> bool {
-        let serial = &config.spi;
+    fn is_in_serial(self, serial: &SpiConfig, number: u32) -> bool {
         match self {
-            Object::SerialChannel => {
-                let channels = serial.channels.as_slice();
-                channels.iter().any(|channel| channel.id == number)
-            }
-            Object::SerialJob => {
-                let jobs = serial.jobs.as_slice();
-                jobs.iter().any(|job| job.id == number)
-            }
-            _ => {
-                let sequences = serial.sequences.as_slice();
-                sequences.iter().any(|sequence| sequence.id == number)
-            }
+            Object::SerialChannel => has(serial.channels.as_slice(), number),
+            Object::SerialJob => has(serial.jobs.as_slice(), number),
+            _ => has(serial.sequences.as_slice(), number),
         }
     }
+}
+
+/// What has a number by which a script names it.
+trait Numbered {
+    /// Its number.
+    fn number(&self) -> u32;
+}
+
+impl Numbered for McuClockSetting {
+    fn number(&self) -> u32 {
+        self.id
+    }
+}
+
+impl Numbered for McuModeSetting {
+    fn number(&self) -> u32 {
+        self.mode
+    }
+}
+
+impl Numbered for PortPin {
+    fn number(&self) -> u32 {
+        self.id
+    }
+}
+
+impl Numbered for GptChannel {
+    fn number(&self) -> u32 {
+        self.id
+    }
+}
+
+impl Numbered for PwmChannel {
+    fn number(&self) -> u32 {
+        self.id
+    }
+}
+
+impl Numbered for IcuChannel {
+    fn number(&self) -> u32 {
+        self.id
+    }
+}
+
+impl Numbered for AdcGroup {
+    fn number(&self) -> u32 {
+        self.id
+    }
+}
+
+impl Numbered for SpiChannel {
+    fn number(&self) -> u32 {
+        self.id
+    }
+}
+
+impl Numbered for SpiJob {
+    fn number(&self) -> u32 {
+        self.id
+    }
+}
+
+impl Numbered for SpiSequence {
+    fn number(&self) -> u32 {
+        self.id
+    }
+}
+
+impl Numbered for DioChannelGroup {
+    fn number(&self) -> u32 {
+        self.id
+    }
+}
+
+/// Whether one of some elements has this number.
+fn has<T: Numbered>(elements: &[T], number: u32) -> bool {
+    for element in elements {
+        if element.number() == number {
+            return true;
+        }
+    }
+    false
+}
+
+/// Whether one of some pins is of this port.
+fn has_port(pins: &[PortPin], port: u32) -> bool {
+    for pin in pins {
+        if pin.id / 8 == port {
+            return true;
+        }
+    }
+    false
 }

@@ -1,6 +1,6 @@
 use crate::config::ConfigPass;
 use crate::found::value_at;
-use crate::members::{elements_at, member, number_at};
+use crate::members::{any_has, elements_at, member, number_at};
 use config_keys::KeyName;
 use mcal_base::ModuleName;
 use std::alloc::AllocError;
@@ -46,20 +46,16 @@ static REFERENCES: [Reference; 3] = [
     },
 ];
 
-/// Whether an element has this id.
-fn has_id(element: &Value, key: KeyName, id: i64) -> bool {
-    match number_at(element, key) {
-        Some(number) => number == id,
-        None => false,
+/// Whether one of some pins is one of the eight pins of a port.
+fn has_port(pins: &[Value], port: i64) -> bool {
+    for pin in pins {
+        if let Some(number) = number_at(pin, KeyName::PortPinId) {
+            if number / 8 == port {
+                return true;
+            }
+        }
     }
-}
-
-/// Whether a pin is one of the eight pins of a port.
-fn is_of_port(pin: &Value, port: i64) -> bool {
-    match number_at(pin, KeyName::PortPinId) {
-        Some(number) => number / 8 == port,
-        None => false,
-    }
+    false
 }
 
 impl ConfigPass<'_> {
@@ -88,13 +84,23 @@ impl ConfigPass<'_> {
             let path = path.as_str();
             match value.as_array() {
                 None => self.refer(value, path, others, reference.id)?,
-                Some(items) => {
-                    for (number, item) in items.iter().enumerate() {
-                        let path = format!(in self.found.alloc; "{path}.{number}")?;
-                        self.refer(item, path.as_str(), others, reference.id)?;
-                    }
-                }
+                Some(items) => self.refer_all(items, path, others, reference.id)?,
             }
+        }
+        Ok(())
+    }
+
+    /// Looks at numbers that have to be ids of other elements.
+    fn refer_all(
+        &mut self,
+        items: &[Value],
+        path: &str,
+        others: &[Value],
+        key: KeyName,
+    ) -> Result<(), AllocError> {
+        for (number, item) in items.iter().enumerate() {
+            let path = format!(in self.found.alloc; "{path}.{number}")?;
+            self.refer(item, path.as_str(), others, key)?;
         }
         Ok(())
     }
@@ -122,7 +128,7 @@ impl ConfigPass<'_> {
         key: KeyName,
     ) -> Result<(), AllocError> {
         match value.as_integer() {
-            Some(id) if !others.iter().any(|other| has_id(other, key, id)) => {
+            Some(id) if !any_has(others, key, id) => {
                 self.refers_to_none(path, id, "no element has this id")
             }
             _ => Ok(()),
@@ -138,7 +144,7 @@ impl ConfigPass<'_> {
             let Some(port) = number_at(element, KeyName::Port) else {
                 continue;
             };
-            if !pins.iter().any(|pin| is_of_port(pin, port)) {
+            if !has_port(pins, port) {
                 let path = self.path_of(module, array, place, KeyName::Port)?;
                 self.refers_to_none(path.as_str(), port, "no pin of this port is in `PortPin`")?;
             }
@@ -148,8 +154,10 @@ impl ConfigPass<'_> {
 
     /// Says that a number refers to nothing.
     fn refers_to_none(&mut self, path: &str, id: i64, help: &str) -> Result<(), AllocError> {
-        let what = format!(in self.found.alloc; "`{path}` refers to {id}")?;
-        let help = String::from_str(self.found.alloc, help)?;
-        self.found.error(value_at(self.places, path), what, help)
+        self.found.error(
+            value_at(self.places, path),
+            format_args!("`{path}` refers to {id}"),
+            help,
+        )
     }
 }

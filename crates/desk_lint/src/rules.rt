@@ -13,15 +13,20 @@ pub(crate) fn told(
     match fault {
         ConfigFault::Unknown(at, id) => {
             let path = format!(in found.alloc; "{at}")?;
-            let what = format!(in found.alloc; "`{path}` refers to {id}")?;
-            let help = String::from_str(found.alloc, "nothing has this number")?;
-            found.error(value_at(places, path.as_str()), what, help)
+            let path = path.as_str();
+            found.error(
+                value_at(places, path),
+                format_args!("`{path}` refers to {id}"),
+                "nothing has this number",
+            )
         }
         ConfigFault::Combination(at, rule) => {
             let path = format!(in found.alloc; "{at}")?;
-            let what = String::from_str(found.alloc, refusal(rule))?;
-            let help = format!(in found.alloc; "rule {rule}")?;
-            found.error(key_at(places, path.as_str()), what, help)
+            found.error(
+                key_at(places, path.as_str()),
+                refusal(rule),
+                format_args!("rule {rule}"),
+            )
         }
         _ => Ok(()),
     }

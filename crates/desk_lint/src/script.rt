@@ -1,10 +1,10 @@
-use crate::explained::explain;
+use crate::explained::{explain, service_of};
 use crate::found::Found;
 use crate::objects::{Object, object_of};
 use crate::split::{before_comment, words_of};
 use bench_script::{ScriptFault, read_script};
 use desk_places::Lines;
-use desk_tables::{Place, ServiceRow, services};
+use desk_tables::{Place, ServiceRow};
 use mcal_base::{Argument, Config, Directive, Order, Request};
 use std::alloc::AllocError;
 
@@ -20,23 +20,8 @@ pub(crate) fn script_pass(
 ) -> Result<(), AllocError> {
     let mut directives = 0usize;
     for number in first..lines.count().saturating_add(1) {
-        let line = lines.line(number);
-        if line.len() > 1_000_000 {
-            continue;
-        }
-        match read_script(found.alloc, line) {
-            Ok(read) => {
-                directives = directives.saturating_add(read.len());
-                for directive in &read {
-                    look_at(found, lines, number, directive, config)?;
-                }
-            }
-            Err(ScriptFault::NoMemory) => return Err(AllocError),
-            Err(fault) => {
-                directives = directives.saturating_add(1);
-                explain(found, lines, number, fault)?;
-            }
-        }
+        let read = look_at_line(found, lines, number, config)?;
+        directives = directives.saturating_add(read);
         if directives > MOST_DIRECTIVES {
             return too_many(found, lines, number);
         }
@@ -44,19 +29,50 @@ pub(crate) fn script_pass(
     Ok(())
 }
 
+/// Looks at a line, and tells how many directives it has, one that is refused among them.
+fn look_at_line(
+    found: &mut Found,
+    lines: &Lines<'_>,
+    number: usize,
+    config: Option<&Config>,
+) -> Result<usize, AllocError> {
+    let line = lines.line(number);
+    if line.len() > 1_000_000 {
+        return Ok(0);
+    }
+    match read_script(found.alloc, line) {
+        Ok(read) => {
+            for directive in &read {
+                look_at(found, lines, number, directive, config)?;
+            }
+            Ok(read.len())
+        }
+        Err(ScriptFault::NoMemory) => Err(AllocError),
+        Err(fault) => {
+            explain(found, lines, number, fault)?;
+            Ok(1)
+        }
+    }
+}
+
 /// Says that there are too many directives.
 fn too_many(found: &mut Found, lines: &Lines<'_>, number: usize) -> Result<(), AllocError> {
-    let what = String::from_str(found.alloc, "this is one directive too many")?;
-    let help = String::from_str(found.alloc, "a script has at most 50000")?;
-    found.error(lines.span_of(number), what, help)
+    found.error(
+        lines.span_of(number),
+        "this is one directive too many",
+        "a script has at most 50000",
+    )
 }
 
 /// Whether the comment of a line says that what it does is meant.
 fn is_meant(line: &[u8]) -> bool {
     let comment = line.get(before_comment(line).len()..).unwrap_or(&[]);
-    comment
-        .split(|byte| !byte.is_ascii_alphabetic())
-        .any(|word| word == b"meant".as_slice())
+    for word in comment.split(|byte| !byte.is_ascii_alphabetic()) {
+        if word == b"meant".as_slice() {
+            return true;
+        }
+    }
+    false
 }
 
 /// Looks at a directive that is right, for what may not be meant.
@@ -86,19 +102,16 @@ fn look_at_request(
     request: &Request,
     config: &Config,
 ) -> Result<(), AllocError> {
-    let name = request.service.text();
-    for ServiceRow(service, places) in services() {
-        if service.text() != name {
+    let Some(ServiceRow(service, places)) = service_of(request.service.text()) else {
+        return Ok(());
+    };
+    for (place, argument) in places.iter().zip(request.arguments.as_slice()) {
+        let (Place::Number(label, _), Argument::Number(id)) = (place, argument) else {
             continue;
-        }
-        for (place, argument) in places.iter().zip(request.arguments.as_slice()) {
-            let (Place::Number(label, _), Argument::Number(id)) = (place, argument) else {
-                continue;
-            };
-            if let Some(object) = object_of(*service, label) {
-                if !object.is_in(config, *id) {
-                    not_configured(found, lines, number, object, *id)?;
-                }
+        };
+        if let Some(object) = object_of(service, label) {
+            if !object.is_in(config, *id) {
+                not_configured(found, lines, number, object, *id)?;
             }
         }
     }
@@ -120,7 +133,9 @@ fn not_configured(
     };
     let text = object.text();
     let error = object.error();
-    let what = format!(in found.alloc; "{text} {id} isn't configured")?;
-    let help = format!(in found.alloc; "the call answers {error}, where errors are detected")?;
-    found.warning(span, what, help)
+    found.warning(
+        span,
+        format_args!("{text} {id} isn't configured"),
+        format_args!("the call answers {error}, where errors are detected"),
+    )
 }

@@ -1,5 +1,5 @@
 use crate::found::Found;
-use crate::split::words_of;
+use crate::split::before_comment;
 use desk_places::{Lines, Span};
 use desk_tables::{DirectiveRow, directives};
 use std::alloc::AllocError;
@@ -9,7 +9,12 @@ const SEPARATOR: &[u8] = b"---";
 
 /// The number of the first line that is the separator.
 pub(crate) fn script_line(lines: &Lines<'_>) -> Option<usize> {
-    (1..lines.count().saturating_add(1)).find(|line| lines.line(*line) == SEPARATOR)
+    for number in 1..lines.count().saturating_add(1) {
+        if lines.line(number) == SEPARATOR {
+            return Some(number);
+        }
+    }
+    None
 }
 
 /// Whether a line has the separator's signs, and something else.
@@ -17,39 +22,55 @@ fn is_almost(line: &[u8]) -> bool {
     line != SEPARATOR && line.trim_ascii() == SEPARATOR
 }
 
-/// Whether a line reads as a directive: a directive's word with others behind it, and no `=` among them.
-fn is_directive(found: &Found, lines: &Lines<'_>, number: usize) -> Result<bool, AllocError> {
-    let line = lines.line(number);
-    let words = words_of(found.alloc, line, 0)?;
-    let Some(first) = words.first() else {
-        return Ok(false);
-    };
-    let is_word = directives()
-        .iter()
-        .any(|DirectiveRow(word, _)| *word == first.text);
-    Ok(is_word && !line.contains(&b'='))
+/// The first word of a line, empty where it has none.
+fn first_word(line: &[u8]) -> &[u8] {
+    let text = before_comment(line);
+    let mut start = 0usize;
+    for (place, byte) in text.iter().enumerate() {
+        if matches!(*byte, b' ' | b'\t') {
+            if start < place {
+                return text.get(start..place).unwrap_or(&[]);
+            }
+            start = place.saturating_add(1);
+        }
+    }
+    text.get(start..).unwrap_or(&[])
+}
+
+/// Whether a line reads as a directive: a directive's word, and no `=` behind it.
+fn is_directive(line: &[u8]) -> bool {
+    let first = first_word(line);
+    for DirectiveRow(word, _) in directives() {
+        if word.as_bytes() == first {
+            return !line.contains(&b'=');
+        }
+    }
+    false
 }
 
 /// Says what stands in place of a separator, or where one is to stand.
 pub(crate) fn no_separator(found: &mut Found, lines: &Lines<'_>) -> Result<(), AllocError> {
     for number in 1..lines.count().saturating_add(1) {
         if is_almost(lines.line(number)) {
-            let what = String::from_str(found.alloc, "this line is no separator")?;
-            let help = String::from_str(found.alloc, "it has to be `---` alone, without a space")?;
-            return found.error(lines.span_of(number), what, help);
+            return found.error(
+                lines.span_of(number),
+                "this line is no separator",
+                "it has to be `---` alone, without a space",
+            );
         }
     }
     for number in 1..lines.count().saturating_add(1) {
-        if is_directive(found, lines, number)? {
-            let what = String::from_str(found.alloc, "no line `---` stands before the script")?;
-            let help = String::from_str(found.alloc, "put a line `---` before this one")?;
-            return found.error(lines.span_of(number), what, help);
+        if is_directive(lines.line(number)) {
+            return found.error(
+                lines.span_of(number),
+                "no line `---` stands before the script",
+                "put a line `---` before this one",
+            );
         }
     }
-    let what = String::from_str(found.alloc, "no line `---` ends the configuration")?;
-    let help = String::from_str(
-        found.alloc,
+    found.error(
+        Span { start: 0, end: 0 },
+        "no line `---` ends the configuration",
         "the smallest file is a line `---`: the default board, and no directive",
-    )?;
-    found.error(Span { start: 0, end: 0 }, what, help)
+    )
 }

@@ -13,13 +13,22 @@ pub(crate) struct Word<'a> {
 
 /// The part of a line before its comment.
 pub(crate) fn before_comment(line: &[u8]) -> &[u8] {
-    let bytes = line.iter().take_while(|byte| **byte != b'#').count();
-    line.get(..bytes).unwrap_or(&[])
+    for (place, byte) in line.iter().enumerate() {
+        if *byte == b'#' {
+            return line.get(..place).unwrap_or(&[]);
+        }
+    }
+    line
 }
 
-/// Whether a byte may stand before a comment.
-pub(crate) fn is_plain(byte: u8) -> bool {
-    byte == b'\t' || matches!(byte, 0x20..=0x7E)
+/// How many bytes at the front are such as may stand before a comment.
+pub(crate) fn plain_len(bytes: &[u8]) -> usize {
+    for (place, byte) in bytes.iter().enumerate() {
+        if !matches!(*byte, b'\t' | 0x20..=0x7E) {
+            return place;
+        }
+    }
+    bytes.len()
 }
 
 /// The words of a line that begins at a place of the file.

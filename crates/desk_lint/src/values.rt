@@ -8,9 +8,11 @@ use toml::Value;
 impl ConfigPass<'_> {
     /// Says that a value is of another kind.
     pub(crate) fn wrong_kind(&mut self, path: &str, wanted: &str) -> Result<(), AllocError> {
-        let what = format!(in self.found.alloc; "`{path}` has to be {wanted}")?;
-        let help = String::new(self.found.alloc);
-        self.found.error(value_at(self.places, path), what, help)
+        self.found.error(
+            value_at(self.places, path),
+            format_args!("`{path}` has to be {wanted}"),
+            "",
+        )
     }
 
     /// Looks at a value that is no array of tables.
@@ -36,30 +38,39 @@ impl ConfigPass<'_> {
     /// Looks at a whole number.
     fn whole_number(&mut self, range: Range, value: &Value, path: &str) -> Result<(), AllocError> {
         let Range(low, high) = range;
-        let help = format!(in self.found.alloc; "a whole number, {low} to {high}")?;
-        let what = match value.as_integer() {
-            None => format!(in self.found.alloc; "`{path}` is no whole number")?,
+        let span = value_at(self.places, path);
+        let help = format_args!("a whole number, {low} to {high}");
+        match value.as_integer() {
+            None => self
+                .found
+                .error(span, format_args!("`{path}` is no whole number"), help),
             Some(number) if number < i64::from(low) || i64::from(high) < number => {
-                format!(in self.found.alloc; "`{path}` is {number}")?
+                self.found
+                    .error(span, format_args!("`{path}` is {number}"), help)
             }
-            Some(_) => return Ok(()),
-        };
-        self.found.error(value_at(self.places, path), what, help)
+            Some(_) => Ok(()),
+        }
     }
 
     /// Looks at a name.
     fn name(&mut self, names: &[&str], value: &Value, path: &str) -> Result<(), AllocError> {
         let Some(name) = value.as_str() else {
             let help = allowed(self.found.alloc, "", names)?;
-            let what = format!(in self.found.alloc; "`{path}` is no name in quotes")?;
-            return self.found.error(value_at(self.places, path), what, help);
+            return self.found.error(
+                value_at(self.places, path),
+                format_args!("`{path}` is no name in quotes"),
+                help,
+            );
         };
         if names.contains(&name) {
             return Ok(());
         }
         let help = allowed(self.found.alloc, name, names)?;
-        let what = format!(in self.found.alloc; "`{path}` is `{name}`")?;
-        self.found.error(value_at(self.places, path), what, help)
+        self.found.error(
+            value_at(self.places, path),
+            format_args!("`{path}` is `{name}`"),
+            help,
+        )
     }
 
     /// Says how many items an array may have, where it has another number.
@@ -73,13 +84,15 @@ impl ConfigPass<'_> {
         if least as usize <= items && items <= most as usize {
             return Ok(());
         }
-        let what = format!(in self.found.alloc; "the number of items of `{path}` is {items}")?;
-        let help = if least == most {
-            format!(in self.found.alloc; "{most} items have to be there")?
+        let span = value_at(self.places, path);
+        let what = format_args!("the number of items of `{path}` is {items}");
+        if least == most {
+            let help = format_args!("{most} items have to be there");
+            self.found.error(span, what, help)
         } else {
-            format!(in self.found.alloc; "{least} to {most} items")?
-        };
-        self.found.error(value_at(self.places, path), what, help)
+            let help = format_args!("{least} to {most} items");
+            self.found.error(span, what, help)
+        }
     }
 
     /// Looks at an array of numbers or names.

@@ -2,7 +2,7 @@
 use Rattle.std.proofs.Common.{◌≡◌, ℕ, zero, suc, ◌+◌, ◌*◌, ◌/◌, ◌%◌, ◌^◌, ◌<◌, ◌≤◌, ◌==◌, nat_lt, Bool, true, false, ◌&&◌, ◌||◌, List, [], ◌∷◌, Option, Some, None, refl, sym, ◌∙◌, ap, subst, arith}
 use Rattle.std.specs.Prelude.{if◌then◌else◌, bit_and, is_some, not, slice_index_or}
 use Rattle.std.proofs.lemmas.Bool.Decides.{nat_tests}
-use Rattle.plain_facts.specs.Truths.{and_first}
+use Rattle.mcal_base.specs.facts.Truths.{and_first}
 use Rattle.mcal_base.proofs.BitLaws.{has_bit-bits_of}
 use Rattle.mcal_base.specs.Bits.{bit_of, bits_of, has_bit}
 use Rattle.mcal_base.specs.Reach.{CanApply}

@@ -1,7 +1,7 @@
 -- A visitor is a guest, and two cells have it.
 use Rattle.std.proofs.Common.{◌≡◌, ℕ, ◌<◌, ◌||◌, ◌==◌, true, false, List, [], Option, Some, None, refl, sym, ap, subst, arith}
 use Rattle.std.proofs.lemmas.List.{get_or-set_same}
-use Rattle.plain_facts.specs.Numbers.{eq_is, eq_self}
+use Rattle.mcal_base.specs.facts.Numbers.{eq_is, eq_self}
 use Rattle.chip_model.specs.Chip.{Chip, chip_after, value_of, word_of}
 use Rattle.chip_model.specs.Histories.{Made}
 use Rattle.chip_model.proofs.WholeLaws.{all-step}

@@ -3,7 +3,7 @@ use Rattle.std.proofs.Common.{◌≡◌, ℕ, Bool, true, false, not, ◌&&◌, 
 use Rattle.std.specs.List.{list_any, list_all}
 use Rattle.std.proofs.lemmas.Bool.Decides.{nat_tests}
 use Rattle.std.proofs.lemmas.Bool.{and_from, not-true, or_from}
-use Rattle.plain_facts.specs.Truths.{and_false, and_first, and_second}
+use Rattle.mcal_base.specs.facts.Truths.{and_false, and_first, and_second}
 use Rattle.mcal_base.specs.Names.{module_number}
 use Rattle.mcal_base.specs.declared.module_name.ModuleName.{ModuleName}
 use Rattle.run_model.specs.declared.class.Class.{Class}

@@ -2,8 +2,8 @@
 use Rattle.std.proofs.Common.{◌≡◌, ℕ, ◌+◌, ◌<◌, ◌≤◌, nat_lt, nat_le, Bool, true, false, not, ◌&&◌, ◌||◌, List, [], ◌∷◌, Option, Some, None, is_some, refl, sym, ◌∙◌, ap, subst, arith}
 use Rattle.std.specs.Prelude.{option_map}
 use Rattle.std.specs.List.{list_any, list_all}
-use Rattle.plain_facts.specs.Truths.{and_first}
-use Rattle.plain_facts.specs.Options.{some_same}
+use Rattle.mcal_base.specs.facts.Truths.{and_first}
+use Rattle.mcal_base.specs.facts.Options.{some_same}
 use Rattle.chip_model.specs.Chip.{Chip, value_of, chip_after, happened, reset_chip, is_masked, is_pending}
 use Rattle.chip_model.specs.Histories.{Hardware, FillsThere, Made}
 use Rattle.chip_model.proofs.HistoryLaws.{wiring-left}

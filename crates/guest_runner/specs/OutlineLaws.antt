@@ -1,7 +1,7 @@
 -- A driver of services lets a guest in where its words and registers go on agreeing with its state.
 use Rattle.std.proofs.Common.{◌≡◌, ℕ, ◌≤◌, Bool, true, false, not, List, [], ◌∷◌, Option, sym, ◌∙◌, ap, subst}
 use Rattle.std.proofs.lemmas.Bool.{not-true}
-use Rattle.plain_facts.specs.Truths.{and_first, and_second}
+use Rattle.mcal_base.specs.facts.Truths.{and_first, and_second}
 use Rattle.chip_model.specs.Chip.{Chip, chip_after}
 use Rattle.mcal_base.specs.declared.answer.Answer.{Answer}
 use Rattle.mcal_base.specs.declared.module_name.ModuleName.{ModuleName}

@@ -2,8 +2,8 @@
 use Rattle.std.proofs.Common.{◌≡◌, ℕ, ◌+◌, ◌*◌, ◌<◌, ◌≤◌, ◌≢◌, ◌==◌, nat_lt, Bool, true, false, ◌&&◌, ◌||◌, not, length, [], ◌∷◌, Option, Some, None, zero, suc, refl, sym, ◌∙◌, ap, subst, arith, get_or-set_same, get_or-set_other}
 use Rattle.std.specs.Prelude.{if◌then◌else◌, is_some, slice_index_or}
 use Rattle.std.proofs.lemmas.Bool.Decides.{nat_tests}
-use Rattle.plain_facts.specs.Truths.{if_false, if_true}
-use Rattle.plain_facts.specs.Options.{some_same}
+use Rattle.mcal_base.specs.facts.Truths.{if_false, if_true}
+use Rattle.mcal_base.specs.facts.Options.{some_same}
 use Rattle.chip_model.specs.Chip.{Chip, chip_after, value_of, happened, reset_chip, is_masked, word_of}
 use Rattle.chip_model.specs.Histories.{HasAll, Made, Hardware, WasReset, FillsThere}
 use Rattle.mcal_base.specs.Reach.{IsThere, CanApply}

@@ -9,8 +9,8 @@ pub use Rattle.std.proofs.lemmas.List.{append_assoc, get_or-map}
 pub use Rattle.std.proofs.lemmas.List.Elements.{filter_map-append}
 pub use Rattle.std.specs.List.{AllByRecursion, cons_option, enumerate_from, filter_map}
 pub use Rattle.std.specs.Option.{option_map, option_or}
-pub use Rattle.plain_facts.specs.Numbers.{eq_is, eq_isnt, eq_other, eq_self, lt_from, lt_itself, lt_since, lt_zero}
-pub use Rattle.plain_facts.specs.Truths.{and_false, and_first, and_true, off_on, or_true}
+pub use Rattle.mcal_base.specs.facts.Numbers.{eq_is, eq_isnt, eq_other, eq_self, lt_from, lt_itself, lt_since, lt_zero}
+pub use Rattle.mcal_base.specs.facts.Truths.{and_false, and_first, and_true, off_on, or_true}
 pub use Rattle.mcal_base.proofs.BitLaws.{get_or-at_bits, has_bit-or, has_bit-pow_other, has_bit-pow_same}
 pub use Rattle.mcal_base.proofs.BitLaws.{has_bit-without, length-at_bits}
 pub use Rattle.mcal_base.specs.{Bits.{bit_of, has_bit}, Layout.{place_of}, declared.TheConstants.{WORDS}}

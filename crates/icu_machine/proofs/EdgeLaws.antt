@@ -1,7 +1,7 @@
 -- To which channels an edge comes.
 use Rattle.std.proofs.Common.{◌≡◌, ◌≢◌, ℕ, Bool, true, false, ◌==◌, Some, refl, ◌∙◌, ap}
 use Rattle.std.specs.Prelude.{if◌then◌else◌}
-use Rattle.plain_facts.specs.Numbers.{eq_other, eq_self}
+use Rattle.mcal_base.specs.facts.Numbers.{eq_other, eq_self}
 use Rattle.mcal_base.specs.declared.directive.Order.TheVariants.{Level}
 use Rattle.run_model.specs.World.{World}
 use Rattle.icu_machine.specs.Edges.{is_same}

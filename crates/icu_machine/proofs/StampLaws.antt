@@ -1,7 +1,7 @@
 -- No call and no edge changes a stamp.
 use Rattle.std.proofs.Common.{◌≡◌, ℕ, ◌+◌, ◌%◌, ◌^◌, ◌<◌, ◌==◌, nat_lt, Bool, true, false, not, [], ◌∷◌, ◌++◌, length, Option, Some, None, refl, sym, ◌∙◌, ap}
 use Rattle.std.specs.Prelude.{if◌then◌else◌, slice_index_or}
-use Rattle.plain_facts.specs.Numbers.{eq_is}
+use Rattle.mcal_base.specs.facts.Numbers.{eq_is}
 use Rattle.mcal_base.specs.declared.directive.Order.{Order}
 use Rattle.mcal_base.specs.declared.directive.Order.TheVariants.{Level}
 use Rattle.mcal_base.specs.declared.error_name.ErrorName.{ErrorName}

@@ -5,7 +5,7 @@ use Rattle.chip_model.specs.Devices.{CallsRight}
 use Rattle.serial_devices.specs.Lines.{Line}
 use Rattle.chip_model.proofs.DeviceLaws.{devices-happened, devices-move, devices_after}
 use Rattle.std.specs.Prelude.{◌==◌, cond}
-use Rattle.plain_facts.specs.Numbers.{isnt_zero}
+use Rattle.mcal_base.specs.facts.Numbers.{isnt_zero}
 use Rattle.irq_control.specs.declared.held.Held.{Held}
 use Rattle.irq_control.specs.declared.held.Held.TheVariants.{Unknown}
 use Rattle.mcal_base.specs.declared.directive.Order.{Order}

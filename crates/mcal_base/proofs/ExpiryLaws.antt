@@ -4,7 +4,7 @@ use Rattle.std.specs.Prelude.{if◌then◌else◌}
 use Rattle.std.proofs.lemmas.Bool.Decides.{nat_tests}
 use Rattle.std.proofs.lemmas.Nat.{div_below, le-div}
 use Rattle.std.proofs.Math.Nat.{zero-div, div-mul-le_self, mul-le-mul_right, div-zero}
-use Rattle.plain_facts.specs.Numbers.{lt_from, lt_since}
+use Rattle.mcal_base.specs.facts.Numbers.{lt_from, lt_since}
 use Rattle.mcal_base.specs.Expiry.{counts_since, count_of, expiries, runs_on}
 
 no_time : (s : ℕ) → s - s ≡ 0

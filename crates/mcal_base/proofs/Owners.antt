@@ -10,7 +10,7 @@ use Rattle.std.proofs.lemmas.List.Folds.{list_any-append}
 use Rattle.std.proofs.lemmas.List.Sums.{sum_by-le}
 use Rattle.std.proofs.Math.Nat.{mul-le-mul_right}
 use Rattle.std.proofs.lemmas.Bool.{or_left, or_right}
-use Rattle.plain_facts.specs.Numbers.{eq_is}
+use Rattle.mcal_base.specs.facts.Numbers.{eq_is}
 use Rattle.mcal_base.specs.Layout.{WithinLimits, of_id, length_of, words_of, internal_words, start_of, place_of, user_of, is_within, own_start, own_count, is_own_word, arrays_of, is_users_word, is_word_of}
 use Rattle.mcal_base.specs.Names.{module_number}
 use Rattle.mcal_base.specs.declared.config.adc.AdcGroup.{AdcGroup}

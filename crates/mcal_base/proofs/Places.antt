@@ -6,7 +6,7 @@ use Rattle.std.specs.Option.{option_map_or}
 use Rattle.std.proofs.lemmas.Bool.Decides.{nat_tests}
 use Rattle.std.proofs.lemmas.List.Elements.{All-head, All-tail}
 use Rattle.std.proofs.Math.Nat.{mul-le-mul}
-use Rattle.plain_facts.specs.Numbers.{eq_is}
+use Rattle.mcal_base.specs.facts.Numbers.{eq_is}
 use Rattle.mcal_base.specs.Layout.{WithinLimits, of_id, length_of, words_of, Exists, room_of, place_of}
 use Rattle.mcal_base.specs.declared.config.adc.AdcGroup.{AdcGroup}
 use Rattle.mcal_base.specs.declared.config.icu.IcuChannel.{IcuChannel}

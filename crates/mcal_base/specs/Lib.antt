@@ -6,4 +6,5 @@ pub mod Layout
 pub mod Names
 pub mod Reach
 pub mod There
+pub mod facts
 pub mod laws

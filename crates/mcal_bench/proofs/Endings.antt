@@ -28,7 +28,7 @@ pub ended_on_some : (call : Call) (status : ℕ) → KeepsContract call → stat
 ended_on_some call status keeps is two r s m =
     record { outcome = call.outcome; status_is = is; ended = subst (λ (n : ℕ). EndsOnSome n call.form call.outcome call.sink) two (keeps.exact (calm call status is r s m)).on_some }
 
-pub ended_known : (call : Call) (status : ℕ) → KeepsContract call → status ≡ call.outcome.status → status ≤ 7
+pub ended_known : (call : Call) (status : ℕ) → KeepsContract call → status ≡ call.outcome.status → status ≤ 8
 ended_known call status keeps is = let known = keeps.known in omega (arith, is, known)
 
 pub ended_read : (call : Call) (status : ℕ) → KeepsContract call → status ≡ call.outcome.status → status ≡ 2 → MeetsFault call.source

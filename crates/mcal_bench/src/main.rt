@@ -46,7 +46,7 @@ fn ended_on<S: Source, K: Sink>(
         HasEnded 2 (judged (form_of (map string_bytes words.now)) bytes) (exit_status result) (stream_of K.taken K.faults out.old out.new)) }
     ensures on_some { exit_status result ≢ 2 → exit_status result ≢ 3 → exit_status result ≢ 4 →
         HasEndedOnSome 2 (form_of (map string_bytes words.now)) (exit_status result) (stream_of K.taken K.faults out.old out.new) }
-    ensures known { exit_status result ≤ 7 }
+    ensures known { exit_status result ≤ 8 }
     ensures read { exit_status result ≡ 2 → Rose (S.faults input.old) (S.faults input.new) }
     ensures write { exit_status result ≡ 3 → Rose (K.faults out.old) (K.faults out.new) }
     ensures nothing { exit_status result ≡ 4 → Appends (K.taken out.old) (K.taken out.new) [] }
@@ -70,7 +70,7 @@ fn ended<S: Source, K: Sink>(
     ensures on_some { exit_status result ≢ 2 → exit_status result ≢ 3 → exit_status result ≢ 4 →
         HasEndedOnSome 2 (form_of (map string_bytes words.now)) (exit_status result) (stream_of K.taken K.faults out.old out.new) }
     // There are no other statuses.
-    ensures known { exit_status result ≤ 7 }
+    ensures known { exit_status result ≤ 8 }
     // A fault of the source, one of the sink, and want of memory, where nothing is written.
     ensures read { exit_status result ≡ 2 → Rose (S.faults input.old) (S.faults input.new) }
     ensures write { exit_status result ≡ 3 → Rose (K.faults out.old) (K.faults out.new) }

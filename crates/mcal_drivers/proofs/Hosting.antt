@@ -2,7 +2,7 @@
 use Rattle.std.proofs.Common.{◌≡◌, ℕ, ◌<◌, Bool, true, false, ◌||◌, List, [], ◌∷◌, refl, sym, ◌∙◌, ap, subst, arith}
 use Rattle.std.specs.List.{list_any}
 use Rattle.std.specs.Prelude.{All}
-use Rattle.plain_facts.specs.Numbers.{eq_is}
+use Rattle.mcal_base.specs.facts.Numbers.{eq_is}
 use Rattle.chip_model.specs.Chip.{Chip, flipped, outside_at, pin_of}
 use Rattle.chip_model.specs.Wiring.{wiring_of}
 use Rattle.config_facts.specs.Valid.{IsValid, IsDio}

@@ -3,7 +3,7 @@ use Rattle.std.proofs.Common.{◌≡◌, ℕ, zero, suc, ◌+◌, ◌<◌, ◌�
 use Rattle.std.specs.Prelude.{All, AllPairs, if◌then◌else◌, cond, map, option_map, slice_index_or}
 use Rattle.std.specs.List.{find, range_with_len}
 use Rattle.std.proofs.lemmas.Bool.Decides.{nat_tests}
-use Rattle.plain_facts.specs.Numbers.{eq_self}
+use Rattle.mcal_base.specs.facts.Numbers.{eq_self}
 use Rattle.chip_captures.specs.Captures as captures
 use Rattle.chip_model.specs.Chip.{channel_from}
 use Rattle.chip_model.specs.Wiring.{wiring_of, output_in}

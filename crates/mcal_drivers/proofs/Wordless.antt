@@ -2,7 +2,7 @@
 use Rattle.std.proofs.Common.{◌≡◌, ℕ, ◌-◌, Bool, true, false, List, [], ◌∷◌, ◌++◌, Option, Some, None, is_some, refl, sym, ◌∙◌, ap}
 use Rattle.std.specs.Prelude.{if◌then◌else◌}
 use Rattle.std.proofs.lemmas.List.{append-nil}
-use Rattle.plain_facts.specs.Options.{some_is}
+use Rattle.mcal_base.specs.facts.Options.{some_is}
 use Rattle.chip_model.specs.Wiring.{wiring_of}
 use Rattle.mcal_base.specs.declared.config.whole.Config.{Config}
 use Rattle.mcal_base.specs.declared.error_name.ErrorName.{ErrorName}

@@ -54,7 +54,7 @@ use Rattle.mcal_drivers.proofs.Stamps.{size_few}
 use Rattle.mcal_system.specs.Runs.{RestingRun, moment_after, moment_at}
 use Rattle.shown_rows.specs.Places.{HasWords}
 use Rattle.mcal_system.specs.Wires.{told_by}
-use Rattle.shown_rows.specs.Boards.{pairs}
+use Rattle.shown_rows.specs.Wires.{pairs}
 use Rattle.mcal_system.specs.laws.Resting.{IsResting}
 use Rattle.mcal_system.proofs.WireTold.{words_told}
 

@@ -3,7 +3,7 @@ use Rattle.std.proofs.Common.{◌≡◌, ℕ, ◌-◌, ◌<◌, ◌≤◌, ◌�
 use Rattle.std.specs.Prelude.{if◌then◌else◌}
 use Rattle.std.proofs.lemmas.Bool.Decides.{nat_tests}
 use Rattle.std.proofs.lemmas.List.{map-append, take_rest}
-use Rattle.plain_facts.specs.Numbers.{same_or_other}
+use Rattle.mcal_base.specs.facts.Numbers.{same_or_other}
 use Rattle.chip_units.proofs.SerialLaws.{has_unit-after, unit_at-with_unit_same, unit_at-with_unit_other}
 use Rattle.chip_units.specs.SerialAccesses.{Access, Writes, Words, Faults, Passes, HasUnit, after as after_access}
 use Rattle.chip_units.specs.Serials as serials
@@ -38,7 +38,7 @@ use Rattle.mcal_system.specs.Runs.{moment_after}
 use Rattle.mcal_drivers.specs.Setting.{SystemState, SystemCall, system_setting, call_of}
 use Rattle.mcal_drivers.specs.Shows.{wire_at}
 use Rattle.mcal_system.specs.Wires.{Wire, untold, exchange, with_step, with_said, with_all, told_by}
-use Rattle.shown_rows.specs.Boards.{pairs}
+use Rattle.shown_rows.specs.Wires.{pairs}
 use Rattle.shown_rows.specs.declared.shown.Exchange.{Exchange}
 use Rattle.mcal_drivers.proofs.Growing.{step_grows}
 use Rattle.mcal_drivers.proofs.Wordless.{system_wired}

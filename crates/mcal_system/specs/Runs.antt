@@ -8,6 +8,7 @@ use Rattle.run_model.specs.Entry.{Entry, Written}
 use Rattle.run_model.specs.Follows.{Gives}
 use Rattle.run_model.specs.Moment.{Moment, start_moment, after_all}
 use Rattle.run_model.specs.Script.{deeds_of}
+use Rattle.run_model.specs.World.{World}
 use Rattle.serial_devices.specs.Lines.{Line}
 use Rattle.script_runner.specs.Runs.{Run, room_for}
 use Rattle.script_runner.specs.Scripts.{chip_for, script_bound}
@@ -15,7 +16,6 @@ use Rattle.mcal_drivers.specs.Drivers.{drivers_of}
 use Rattle.mcal_drivers.specs.Frames.{SystemFrame}
 use Rattle.mcal_drivers.specs.declared.drivers.Drivers.{Drivers}
 use Rattle.mcal_drivers.specs.Setting.{SystemState, SystemCall, system_setting, call_of}
-use Rattle.shown_rows.specs.Boards.{Board}
 
 -- the most steps of a run
 abbrev pub most_steps : ℕ
@@ -68,9 +68,9 @@ resting r = record { config = r.config; script = r.script; devices = r.devices; 
 abbrev pub moment_at : RestingRun → Moment SystemState SystemCall
 moment_at r = moment_after r.devices r.config r.script r.entries
 
--- what is shown of it
-abbrev pub board_of : RestingRun → Board
-board_of r = record { config = r.config; world = (moment_at r).world; state = (moment_at r).state }
+-- what stands outside then, and the state of all modules
+abbrev pub shown_at : RestingRun → World × SystemState
+shown_at r = ((moment_at r).world, (moment_at r).state)
 
 -- a directive leaves the configuration, the script and the number of devices
 pub record IsSameRun (before after : SystemRun) : Type 0 where

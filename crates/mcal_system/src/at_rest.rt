@@ -1,7 +1,7 @@
 ghost use Rattle.std.specs.Prelude.{◌≡◌};
 ghost use Rattle.std.specs.Option.{option_map};
 ghost use Rattle.adc_machine.specs.Words.{buffer_number};
-ghost use Rattle.mcal_system.specs.Runs.{board_of};
+ghost use Rattle.mcal_system.specs.Runs.{shown_at};
 
 use crate::wires::told_by;
 use adc_driver::AdcDriver;
@@ -42,7 +42,9 @@ impl<'a> Model for AtRest<'a> {
 }
 
 impl ShownBoard for AtRest<'_> {
-    ghost board = { λ run. board_of run };
+    ghost configured = { λ run. run.config };
+
+    ghost shows = { λ run w s. (w, s) ≡ shown_at run };
 
     fn config(&self) -> &Config {
         self.config

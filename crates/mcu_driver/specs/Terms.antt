@@ -4,8 +4,8 @@ pub use Rattle.std.proofs.Common.{List, nat_le, nat_lt, None, not, Option, refl,
 pub use Rattle.std.proofs.Common.{subst, sym, true, ℕ}
 pub use Rattle.std.proofs.lemmas.Bool.{and_parts, not-false}
 pub use Rattle.std.proofs.lemmas.Bool.Decides.{nat_tests}
-pub use Rattle.plain_facts.specs.{Numbers.{eq_isnt, isnt_zero}, Options.{some_same}, Truths.{and_first, if_false}}
-pub use Rattle.plain_facts.specs.{Truths.{if_true}}
+pub use Rattle.mcal_base.specs.facts.{Numbers.{eq_isnt, isnt_zero}, Options.{some_same}, Truths.{and_first, if_false}}
+pub use Rattle.mcal_base.specs.facts.{Truths.{if_true}}
 pub use Rattle.mcal_base.specs.{Bits.{bit_of}, declared.answer.Answer.{Answer}}
 pub use Rattle.mcal_base.specs.{declared.answer_name.AnswerName.{AnswerName}}
 pub use Rattle.mcal_base.specs.{declared.answer_name.AnswerName.TheVariants.{ENotOk, EOk, McuPllLocked, McuPllUnlocked}}

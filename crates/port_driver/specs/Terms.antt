@@ -8,7 +8,7 @@ pub use Rattle.std.proofs.lemmas.List.{get_or-replicate, length-replicate}
 pub use Rattle.std.proofs.lemmas.List.Sums.{sum_by-cons}
 pub use Rattle.std.proofs.lemmas.Nat.{pow_below}
 pub use Rattle.std.specs.List.{list_any}
-pub use Rattle.plain_facts.specs.{Numbers.{eq_other, eq_self, lt_is, lt_isnt, lt_zero}, Truths.{and_false, and_first}}
+pub use Rattle.mcal_base.specs.facts.{Numbers.{eq_other, eq_self, lt_is, lt_isnt, lt_zero}, Truths.{and_false, and_first}}
 pub use Rattle.mcal_base.proofs.BitLaws.{bits_of-lt, has_bit-bits_of, has_bit-pow_other, has_bit-pow_same, has_bit-zero}
 pub use Rattle.mcal_base.specs.{Bits.{bit_of, has_bit, without}}
 pub use Rattle.mcal_base.specs.{declared.config.port.PortPinDirection.{PortPinDirection}}

@@ -1,7 +1,7 @@
 -- What a word that is put to a port, and a latch that is inverted, make of a pin.
 use Rattle.std.proofs.Common.{◌≡◌, ◌≢◌, ℕ, ◌%◌, ◌==◌, Bool, true, false, not, refl}
 use Rattle.std.specs.Prelude.{if◌then◌else◌}
-use Rattle.plain_facts.specs.Numbers.{eq_other, eq_self}
+use Rattle.mcal_base.specs.facts.Numbers.{eq_other, eq_self}
 use Rattle.mcal_base.specs.Bits.{has_bit}
 use Rattle.mcal_base.specs.declared.config.port.PortPinDirection.TheVariants.{In, Out}
 use Rattle.port_machine.specs.Machine.{PinState, PortState, Put, Inverted, names_pin, pin_at, with_change, with_latch}

@@ -1,7 +1,7 @@
 -- The modes that a pin may have, and what its level is in another mode than that of the pulse outputs.
 use Rattle.std.proofs.Common.{◌≡◌, ◌≢◌, zero, suc, Bool, true, false, ◌||◌, List, [], ◌∷◌, Some, refl, sym, ◌∙◌, ap, arith}
 use Rattle.std.specs.List.{Contains}
-use Rattle.plain_facts.specs.Truths.{or_true}
+use Rattle.mcal_base.specs.facts.Truths.{or_true}
 use Rattle.mcal_base.specs.declared.config.port.PortPinDirection.TheVariants.{Out}
 use Rattle.mcal_base.specs.declared.config.port.PortPinMode.{PortPinMode}
 use Rattle.mcal_base.specs.declared.config.port.PortPinMode.TheVariants.{Adc, Dio, Icu, Pwm, Spi}

@@ -5,8 +5,8 @@ pub use Rattle.std.proofs.Math.Nat.{mod-le, mod-lt}
 pub use Rattle.std.proofs.lemmas.Bool.{and_parts, not-false}
 pub use Rattle.std.proofs.lemmas.Bool.Decides.{nat_tests}
 pub use Rattle.std.specs.List.{list_any}
-pub use Rattle.plain_facts.specs.{Numbers.{eq_other, eq_self, positive}, Options.{some_same}, Truths.{and_first}}
-pub use Rattle.plain_facts.specs.{Truths.{clear_apart, set_apart}}
+pub use Rattle.mcal_base.specs.facts.{Numbers.{eq_other, eq_self, positive}, Options.{some_same}, Truths.{and_first}}
+pub use Rattle.mcal_base.specs.facts.{Truths.{clear_apart, set_apart}}
 pub use Rattle.mcal_base.proofs.BitLaws.{bits_of-lt, has_bit-above, has_bit-bits_of, has_bit-or, has_bit-without}
 pub use Rattle.mcal_base.proofs.BitLaws.{has_bit-zero}
 pub use Rattle.mcal_base.specs.{Bits.{bit_of, has_bit, without}, declared.TheConstants.{WORDS}}

@@ -3,7 +3,7 @@ use Rattle.std.proofs.Common.{◌≡◌, ℕ, ◌+◌, ◌-◌, ◌*◌, ◌/◌
 use Rattle.std.specs.Prelude.{if◌then◌else◌}
 use Rattle.std.proofs.lemmas.Nat.{div-add-mod'}
 use Rattle.std.proofs.Math.Nat.{mod-lt}
-use Rattle.plain_facts.specs.Numbers.{isnt_zero, lt_from, lt_since}
+use Rattle.mcal_base.specs.facts.Numbers.{isnt_zero, lt_from, lt_since}
 use Rattle.pwm_machine.specs.Runs.{StartsAtEnd}
 use Rattle.pwm_machine.specs.Output.{Output, Runs, GivesWay, Regime, regime_level, period_end, succeeded, with_new}
 

@@ -9,7 +9,7 @@ use Rattle.mcal_base.specs.declared.moves.Move.{Move}
 use Rattle.mcal_base.specs.declared.moves.Move.TheVariants.{Note}
 use Rattle.mcal_base.specs.declared.moves.Unit as units
 use Rattle.mcal_base.specs.declared.notice.Notice.{Notice}
-use Rattle.plain_facts.specs.Truths.{off_on}
+use Rattle.mcal_base.specs.facts.Truths.{off_on}
 use Rattle.run_model.specs.Frame.{Open, Origin, outcome_at}
 use Rattle.run_model.specs.Frame as frame
 use Rattle.run_model.specs.Legal.{ShowsRight, StartsUncalled}

@@ -5,7 +5,7 @@ use Rattle.mcal_base.specs.declared.directive.Order.{Order}
 use Rattle.mcal_base.specs.declared.directive.Order.TheVariants.{Tick}
 use Rattle.mcal_base.specs.declared.directive.Reason.{Reason}
 use Rattle.mcal_base.specs.declared.directive.Reason.TheVariants.{PowerOn, Software, Watchdog}
-use Rattle.plain_facts.specs.Truths.{off_on}
+use Rattle.mcal_base.specs.facts.Truths.{off_on}
 use Rattle.run_model.specs.Frame.{Origin, Called, Entered}
 use Rattle.run_model.specs.Legal.{InTime}
 use Rattle.run_model.specs.Moment.{Happens, Resets}

@@ -4,6 +4,7 @@ pub mod HearLaws
 pub mod HeldLaws
 pub mod LeftLaws
 pub mod LineLaws
+pub mod SeenLaws
 pub mod ServedLaws
 pub mod ServedParts
 pub mod SoundLaws

@@ -4,8 +4,8 @@ use Rattle.std.specs.Prelude.{bit_or}
 use Rattle.std.proofs.lemmas.Nat.{one_shl}
 use Rattle.mcal_base.specs.Bits.{has_bit, bit_of, bits_of}
 use Rattle.mcal_base.proofs.BitLaws.{has_bit-bits_of, has_bit-bits_of_above}
-use Rattle.plain_facts.specs.Numbers.{eq_is, eq_from, lt_from}
-use Rattle.plain_facts.specs.Truths.{if_true, off_on}
+use Rattle.mcal_base.specs.facts.Numbers.{eq_is, eq_from, lt_from}
+use Rattle.mcal_base.specs.facts.Truths.{if_true, off_on}
 use Rattle.audit_frames.specs.Decides.{Decides}
 use Rattle.audit_frames.specs.Masks.{covers, with_bit}
 use Rattle.audit_frames.proofs.MaskLaws.{covers_says, covers_shows, same_bits}

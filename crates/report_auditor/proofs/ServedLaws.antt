@@ -10,7 +10,7 @@ use Rattle.audit_frames.specs.Decides.{Decides}
 use Rattle.audit_frames.specs.Kept.{Kept}
 use Rattle.audit_frames.specs.StackRules.{StandAll}
 use Rattle.audit_frames.proofs.Deciding.{no, worded, yes}
-use Rattle.plain_facts.specs.Truths.{off_on}
+use Rattle.mcal_base.specs.facts.Truths.{off_on}
 use Rattle.report_auditor.specs.Serving.{KeepsTime, OpenRight}
 
 -- of four units none may start or abort

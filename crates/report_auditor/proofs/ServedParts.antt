@@ -1,14 +1,17 @@
 -- Each part of a moment is judged as chip and machines have it.
-use Rattle.std.proofs.Common.{◌≡◌, ℕ, ◌<◌, ◌==◌, nat_eq, Bool, true, false, List, [], ◌∷◌, Option, Some, sym, ◌∙◌, ap, subst}
+use Rattle.std.proofs.Common.{◌≡◌, ℕ, ◌<◌, ◌==◌, nat_eq, Bool, true, false, ◌&&◌, List, [], ◌∷◌, Option, Some, sym, ◌∙◌, ap, subst}
+use Rattle.std.specs.Bool.{OnTrue}
+use Rattle.std.proofs.lemmas.Bool.{OnTrue_at}
 use Rattle.std.specs.Option.{option_eq}
-use Rattle.chip_model.specs.Chip.{expiry_of, is_pending}
+use Rattle.chip_model.specs.Chip.{Chip, expiry_of, is_pending}
 use Rattle.mcal_base.specs.Bits.{has_bit, bits_of}
 use Rattle.mcal_base.specs.declared.moves.Unit as units
 use Rattle.run_model.specs.Causes.{origins_of}
-use Rattle.run_model.specs.Frame.{Open}
+use Rattle.run_model.specs.Frame.{Open, Origin}
 use Rattle.run_model.specs.Legal.{AreGoing}
 use Rattle.run_model.specs.Machine.{Machine}
 use Rattle.run_model.specs.Moment.{Setting}
+use Rattle.run_model.specs.World.{World}
 use Rattle.audit_base.specs.Deeds.{Member}
 use Rattle.audit_frames.specs.Decides.{Decides}
 use Rattle.audit_frames.specs.Kept.{Kept}
@@ -17,9 +20,12 @@ use Rattle.audit_frames.specs.StackRules.{StandAll, top_goes}
 use Rattle.audit_frames.proofs.Deciding.{equal, valued, worded, yes}
 use Rattle.audit_frames.proofs.StepLaws.{goes}
 use Rattle.audit_subject.specs.Product.{member_of}
-use Rattle.plain_facts.specs.Truths.{off_on}
+use Rattle.mcal_base.specs.facts.Truths.{and_first, and_second, off_on}
 use Rattle.report_reading.specs.Blocks.{Place}
 use Rattle.report_auditor.specs.Auditing.{Auditing, Stands, below}
+use Rattle.report_auditor.specs.Seeing.{Agreeing, is_open_seen, is_rest_seen, saw}
+use Rattle.audit_whole.specs.declared.aspects.Aspect.{Aspect}
+use Rattle.audit_whole.specs.declared.aspects.Aspect.TheVariants.{Outputs, Pins, Ram, Stamps, Results, Arrays}
 use Rattle.report_auditor.proofs.LeftLaws.{same_decides}
 use Rattle.report_auditor.proofs.LineLaws.{all_same, each_seen, none_else}
 
@@ -34,9 +40,9 @@ going_by g [] (o ∷ os) h rest = absurd h
 going_by g (k ∷ ks) [] h rest = absurd h
 going_by g (k ∷ ks) (o ∷ os) h rest = worded (λ x. (x, rest)) (λ x. x.0) (goes g o k h.0)
 
-module _ {Parts Table State Call : Type 0} (setting : Table → Setting State Call) (table : Parts → Table) (stands : Parts → State → Type 0)
+module _ {Parts Table State Call : Type 0} (agrees : Agreeing Table State) (setting : Table → Setting State Call) (table : Parts → Table) (stands : Parts → State → Type 0)
     (member : Table → Member State Call) (member_is : (t : Table) → member_of (setting t) ≡ member t)
-    (t : Table) (a : Auditing Parts Call) (p : Place State Call) (s : Stands setting table stands t a p) where
+    (t : Table) (a : Auditing Parts Call) (p : Place State Call) (s : Stands agrees setting table stands t a p) where
   -- the machine that is asked is that of the run, and so are the lines
   pub machine_is : (member (table a.parts)).machine ≡ (setting t).machine
   machine_is = ap (λ x. (member x).machine) s.kept_of ∙ sym (ap (λ k. k.machine) (member_is t))
@@ -69,6 +75,40 @@ module _ {Parts Table State Call : Type 0} (setting : Table → Setting State Ca
   pub over_is : (b : Bool) → Decides b ((member (table a.parts)).machine.expires p.moment.world p.moment.state ≡ Some 0) → Decides b ((setting t).machine.expires p.moment.world p.moment.state ≡ Some 0)
   over_is b d = subst (λ mac. Decides b (mac.expires p.moment.world p.moment.state ≡ Some 0)) machine_is d
 
+  -- the lines that are due, as the run has them
+  pub due_is : (due : ℕ) → due ≡ bits_of ((member (table a.parts)).machine.due p.moment.world p.moment.state) 32 → due ≡ bits_of ((setting t).machine.due p.moment.world p.moment.state) 32
+  due_is due e = as_run (λ mac. bits_of (mac.due p.moment.world p.moment.state) 32) due e
+
+  -- ---- what is known
+
+  -- an aspect that is looked at where it isn't known
+  pub seen_in : (b : Bool) (aspect : Aspect) → OnTrue b (agrees aspect (table a.parts) a.chip p.moment.world p.moment.state) → OnTrue b (agrees aspect t p.moment.chip p.moment.world p.moment.state)
+  seen_in b aspect h =
+      subst (λ x. OnTrue b (agrees aspect x p.moment.chip p.moment.world p.moment.state)) s.kept_of
+      (subst (λ c. OnTrue b (agrees aspect (table a.parts) c p.moment.world p.moment.state)) s.chip h)
+
+  agreed : (aspect : Aspect) → saw a.seen aspect ≡ true → agrees aspect t p.moment.chip p.moment.world p.moment.state
+  agreed aspect e = OnTrue_at e (s.seen.each aspect)
+
+  pub opened : ((x : Table) (c : Chip) (w : World) (q : State) (os : List (Origin Call)) → agrees Outputs x c w q → agrees Pins x c w q → agrees Arrays x c w q → (setting x).unmasked c w q os)
+      → is_open_seen a.seen ≡ true → (setting t).unmasked p.moment.chip p.moment.world p.moment.state (origins_of p.moment.opens)
+  opened law e =
+      let x = a.seen in
+      let first = and_first (x.outputs && x.pins) x.arrays e in
+      law t p.moment.chip p.moment.world p.moment.state (origins_of p.moment.opens)
+      (agreed Outputs (and_first x.outputs x.pins first)) (agreed Pins (and_second x.outputs x.pins first)) (agreed Arrays (and_second (x.outputs && x.pins) x.arrays e))
+
+  pub rested : ((x : Table) (c : Chip) (w : World) (q : State) → agrees Ram x c w q → agrees Pins x c w q → agrees Stamps x c w q → agrees Results x c w q → agrees Arrays x c w q → (setting x).rest c w q)
+      → is_rest_seen a.seen ≡ true → (setting t).rest p.moment.chip p.moment.world p.moment.state
+  rested law e =
+      let x = a.seen in
+      let four = and_first (x.ram && x.pins && x.stamps && x.results) x.arrays e in
+      let three = and_first (x.ram && x.pins && x.stamps) x.results four in
+      let two = and_first (x.ram && x.pins) x.stamps three in
+      law t p.moment.chip p.moment.world p.moment.state
+      (agreed Ram (and_first x.ram x.pins two)) (agreed Pins (and_second x.ram x.pins two)) (agreed Stamps (and_second (x.ram && x.pins) x.stamps three))
+      (agreed Results (and_second (x.ram && x.pins && x.stamps) x.results four)) (agreed Arrays (and_second (x.ram && x.pins && x.stamps && x.results) x.arrays e))
+
   -- ---- lines
 
   module _ (mask : ℕ) (pending : (l : ℕ) → has_bit mask l ≡ is_pending a.chip l)
@@ -82,25 +122,22 @@ module _ {Parts Table State Call : Type 0} (setting : Table → Setting State Ca
     used_small : (l : ℕ) → (setting t).used l ≡ true → l < 32
     used_small l on = few l (ap (λ u. u l) lines_are ∙ on)
 
-    due_is : (due : ℕ) → due ≡ bits_of ((member (table a.parts)).machine.due p.moment.world p.moment.state) 32 → due ≡ bits_of ((setting t).machine.due p.moment.world p.moment.state) 32
-    due_is due e = as_run (λ mac. bits_of (mac.due p.moment.world p.moment.state) 32) due e
-
-    pub all_due : (b : Bool) (due : ℕ) → b ≡ covers due mask → due ≡ bits_of ((member (table a.parts)).machine.due p.moment.world p.moment.state) 32
+    pub all_due : (b : Bool) (due : ℕ) → b ≡ covers due mask → due ≡ bits_of ((setting t).machine.due p.moment.world p.moment.state) 32
         → Decides b ((l : ℕ) → (setting t).machine.due p.moment.world p.moment.state l ≡ true → is_pending p.moment.chip l ≡ true)
     all_due b due e is =
-        subst (λ x. Decides x ((l : ℕ) → (setting t).machine.due p.moment.world p.moment.state l ≡ true → is_pending p.moment.chip l ≡ true)) (sym (e ∙ ap (λ n. covers n mask) (due_is due is)))
+        subst (λ x. Decides x ((l : ℕ) → (setting t).machine.due p.moment.world p.moment.state l ≡ true → is_pending p.moment.chip l ≡ true)) (sym (e ∙ ap (λ n. covers n mask) is))
         (each_seen ((setting t).machine.due p.moment.world p.moment.state) (is_pending p.moment.chip) mask seen due_small)
 
-    pub none_unused : (b : Bool) (used : ℕ) → b ≡ covers mask used → used ≡ bits_of (member (table a.parts)).lines 32
+    pub none_unused : (b : Bool) (used : ℕ) → b ≡ covers mask used → used ≡ bits_of (setting t).used 32
         → Decides b ((l : ℕ) → (setting t).used l ≡ false → is_pending p.moment.chip l ≡ false)
     none_unused b used e is =
-        subst (λ x. Decides x ((l : ℕ) → (setting t).used l ≡ false → is_pending p.moment.chip l ≡ false)) (sym (e ∙ ap (λ n. covers mask n) (is ∙ ap (λ u. bits_of u 32) lines_are)))
+        subst (λ x. Decides x ((l : ℕ) → (setting t).used l ≡ false → is_pending p.moment.chip l ≡ false)) (sym (e ∙ ap (λ n. covers mask n) is))
         (none_else (setting t).used (is_pending p.moment.chip) mask seen used_small)
 
-    pub quiet_lines : (due : ℕ) → due ≡ bits_of ((member (table a.parts)).machine.due p.moment.world p.moment.state) 32
+    pub quiet_lines : (due : ℕ) → due ≡ bits_of ((setting t).machine.due p.moment.world p.moment.state) 32
         → Decides (mask == due) ((l : ℕ) → is_pending p.moment.chip l ≡ (setting t).machine.due p.moment.world p.moment.state l)
     quiet_lines due is =
-        subst (λ n. Decides (mask == n) ((l : ℕ) → is_pending p.moment.chip l ≡ (setting t).machine.due p.moment.world p.moment.state l)) (sym (due_is due is))
+        subst (λ n. Decides (mask == n) ((l : ℕ) → is_pending p.moment.chip l ≡ (setting t).machine.due p.moment.world p.moment.state l)) (sym is)
         (all_same ((setting t).machine.due p.moment.world p.moment.state) (is_pending p.moment.chip) mask seen due_small)
 
   -- ---- outputs, units and what rests

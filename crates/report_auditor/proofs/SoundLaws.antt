@@ -22,8 +22,9 @@ use Rattle.audit_frames.specs.declared.terms.Terms.{Terms}
 use Rattle.audit_base.specs.declared.outside.Outside.{Outside}
 use Rattle.audit_subject.specs.Tellings.{times_at}
 use Rattle.audit_subject.proofs.TellLaws.{time_of}
-use Rattle.report_auditor.specs.Auditing.{AllCommitted, Auditing, HasCommitted, HasTime, IsReady, IsSound, NamesThere}
+use Rattle.report_auditor.specs.Auditing.{AllCommitted, Auditing, HasCommitted, HasTime, IsReady, IsSound, NamesThere, seeing}
 use Rattle.report_auditor.specs.Deeds.{devices_after, ticks_by}
+use Rattle.report_auditor.specs.declared.seen.Seen.{Seen}
 
 -- ---- times of commits
 
@@ -250,3 +251,19 @@ module _ {Parts Call : Type 0} (fits : Parts → Outside → Type 0) (within : P
         room = λ u lt. subst (λ c. given ≤ (incoming_at c u).room) (sym chip) (left_room (words_by order) given _ _ (s.room u lt) (room_event a.chip order u));
         sources = λ k. subst (λ c. source_length c k ≤ 64) (sym chip) (subst (λ n. n ≤ 64) (sym (ap (λ x. slice_index x.sources k) (wiring-left a.chip (histories.Hardware order)))) (s.sources k));
       }
+
+-- what is known of the moment is no part of it
+pub seeing_sound : {Parts Call : Type 0} (fits : Parts → Outside → Type 0) (within : Parts → Type 0) (given : ℕ) (seen : Seen) (a : Auditing Parts Call) → IsSound fits within given a → IsSound fits within given (seeing seen a)
+seeing_sound fits within given seen a s = record {
+  can_tell = s.can_tell;
+  in_limits = s.in_limits;
+  around = s.around;
+  world = s.world;
+  osc = s.osc;
+  time = s.time;
+  committed = s.committed;
+  few = s.few;
+  counted = s.counted;
+  room = s.room;
+  sources = s.sources;
+}

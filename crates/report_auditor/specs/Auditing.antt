@@ -1,15 +1,17 @@
 -- What an auditor keeps of a run, and the place in a report that it stands for.
-use Rattle.std.specs.Prelude.{◌≡◌, ℕ, ◌+◌, ◌<◌, ◌≤◌, ◌^◌, List, [], ◌∷◌, length, map, Some, None, slice_index_or}
+use Rattle.std.specs.Prelude.{◌≡◌, ℕ, ◌+◌, ◌<◌, ◌≤◌, ◌^◌, List, [], ◌∷◌, length, map, Option, Some, None, slice_index_or}
 use Rattle.bench_report.specs.declared.frames.Purpose.{Purpose}
 use Rattle.bench_report.specs.declared.frames.Purpose.TheVariants as purposes
 use Rattle.bench_report.specs.declared.tally.Tally.{Tally}
-use Rattle.chip_model.specs.Chip.{Chip, incoming_at, now_of, source_length}
+use Rattle.chip_model.specs.Chip.{Chip, chip_after, incoming_at, now_of, source_length}
 use Rattle.run_model.specs.Causes.{origins_of}
-use Rattle.run_model.specs.Frame.{Open, Origin}
+use Rattle.run_model.specs.Frame.{Open, Origin, state_after}
 use Rattle.run_model.specs.Legal.{AreGoing}
 use Rattle.run_model.specs.Moment.{Moment, Setting}
 use Rattle.mcal_base.specs.declared.directive.Order.{Order}
 use Rattle.mcal_base.specs.declared.directive.Order.TheVariants.{Miso}
+use Rattle.mcal_base.specs.declared.moves.Event.{Event}
+use Rattle.mcal_base.specs.declared.moves.Move.{Move}
 use Rattle.run_model.specs.World.{World}
 use Rattle.audit_base.specs.Outside.{IsThere, IsWorld}
 use Rattle.audit_base.specs.declared.outside.Outside.{Outside}
@@ -18,9 +20,11 @@ use Rattle.audit_frames.specs.StackRules.{StandAll}
 use Rattle.audit_frames.specs.declared.terms.Task.{Task}
 use Rattle.audit_frames.specs.declared.terms.Task.TheVariants.{Call, Line}
 use Rattle.report_reading.specs.Blocks.{Place}
+use Rattle.report_auditor.specs.Seeing.{Agreeing, IsSeen}
+use Rattle.report_auditor.specs.declared.seen.Seen.{Seen}
 
 -- What an auditor keeps: the chip, the machines and what stands outside, how many serial devices there are, the frames under
--- way and what they were begun for, the newest first, and what the lines so far count.
+-- way and what they were begun for, the newest first, what the lines so far count, and what it has seen of the moment.
 pub record Auditing (Parts Call : Type 0) : Type 0 where
   pub chip : Chip
   pub parts : Parts
@@ -29,6 +33,7 @@ pub record Auditing (Parts Call : Type 0) : Type 0 where
   pub frames : List Kept
   pub origins : List (Origin Call)
   pub tally : Tally
+  pub seen : Seen
 
 -- ---- the place
 
@@ -46,7 +51,7 @@ below [] = []
 below (o ∷ os) = os
 
 -- It stands for a place, with machines under a configuration; the frames below the newest one can go on.
-pub record Stands {Parts Table State Call : Type 0} (setting : Table → Setting State Call) (table : Parts → Table) (stands : Parts → State → Type 0) (t : Table) (a : Auditing Parts Call) (p : Place State Call) : Type 0 where
+pub record Stands {Parts Table State Call : Type 0} (agrees : Agreeing Table State) (setting : Table → Setting State Call) (table : Parts → Table) (stands : Parts → State → Type 0) (t : Table) (a : Auditing Parts Call) (p : Place State Call) : Type 0 where
   pub kept_of : table a.parts ≡ t
   pub chip : a.chip ≡ p.moment.chip
   pub world : IsWorld a.outside p.moment.world
@@ -58,6 +63,27 @@ pub record Stands {Parts Table State Call : Type 0} (setting : Table → Setting
   pub going : AreGoing (setting t) (below p.moment.opens)
   pub purposes : p.frames ≡ purposes_by a.frames
   pub tally : a.tally ≡ p.tally
+  pub seen : IsSeen agrees setting t a.seen p.moment.chip p.moment.world p.moment.state
+
+-- with something else seen
+abbrev pub seeing : {Parts Call : Type 0} → Seen → Auditing Parts Call → Auditing Parts Call
+seeing seen a = record a { seen = seen }
+
+-- the chip made a move, and all but what is seen is as it was
+pub record Replayed {Parts Call : Type 0} (before after : Auditing Parts Call) (made : Move) (received : ℕ) : Type 0 where
+  pub chip : after.chip ≡ chip_after before.chip made received
+  pub parts : after.parts ≡ before.parts
+  pub outside : after.outside ≡ before.outside
+  pub devices : after.devices ≡ before.devices
+  pub frames : after.frames ≡ before.frames
+  pub origins : after.origins ≡ before.origins
+  pub tally : after.tally ≡ before.tally
+
+-- What was seen before a step of the newest frame, and isn't touched by it, is known of the moment after it.
+abbrev pub StillSeen : {Parts Table State Call : Type 0} → Agreeing Table State → (Table → Setting State Call) → Table → (before after : Auditing Parts Call) → Move → (received : ℕ) → Option Event → Type 0
+StillSeen {Parts} {Table} {State} {Call} agrees setting t before after made received event =
+    (w : World) (s : State) (o : Open Call) (xs : List (Origin Call)) → before.origins ≡ o.origin ∷ xs → IsSeen agrees setting t before.seen before.chip w s
+    → IsSeen agrees setting t after.seen (chip_after before.chip made received) w (state_after (setting t).machine w s o made received event)
 
 -- the place with another moment
 abbrev pub moved_to : {State Call : Type 0} → Moment State Call → Place State Call → Place State Call

@@ -2,4 +2,5 @@ pub mod Asking
 pub mod Auditing
 pub mod ChipRules
 pub mod Deeds
+pub mod Seeing
 pub mod Serving

@@ -9,10 +9,10 @@ ghost use Rattle.audit_subject.specs.Origins.{origin_of};
 ghost use Rattle.report_reading.specs.Reading as reading;
 ghost use Rattle.report_auditor.specs.Asking as spec;
 
-use crate::whole::Whole;
 use audit_base::Outside;
 use audit_frames::{Frame, Owing};
 use audit_subject::{Origin, Subject};
+use audit_whole::Whole;
 use chip_model::Bus;
 use mcal_base::{Event, Move, Reg, Unit};
 use trace_reader::Mark;

@@ -6,10 +6,11 @@ ghost use Rattle.audit_base.specs.Outside.{IsWorld};
 ghost use Rattle.audit_frames.specs.Decides.{Decides};
 ghost use Rattle.report_auditor.specs.Auditing.{HasTime};
 
-use crate::whole::Whole;
+use crate::seen::Seen;
 use audit_base::Outside;
 use audit_frames::Frames;
 use audit_subject::Origin;
+use audit_whole::Whole;
 use bench_report::Tally;
 use chip_model::Bus;
 use std::alloc::Global;
@@ -35,6 +36,8 @@ pub struct Auditor<P: Whole> {
     pub origins: Vec<Origin<P::Call>>,
     // What the lines so far count.
     pub tally: Tally,
+    // What is known of the moment.
+    pub seen: Seen,
 }
 
 impl<P: Whole> Model for Auditor<P> {
@@ -44,7 +47,7 @@ impl<P: Whole> Model for Auditor<P> {
 
     ghost Value = { Auditing P P.Call };
 
-    ghost view = { λ a. record { chip = a.bus; parts = a.parts; outside = a.outside; devices = a.devices; frames = a.frames; origins = map origin_of a.origins.items; tally = a.tally } };
+    ghost view = { λ a. record { chip = a.bus; parts = a.parts; outside = a.outside; devices = a.devices; frames = a.frames; origins = map origin_of a.origins.items; tally = a.tally; seen = a.seen } };
 }
 
 /// Whether the same is left of a time, where it runs.

@@ -13,9 +13,9 @@ ghost use Rattle.report_auditor.specs.Auditing.{IsReady, Stands, purpose_by};
 ghost use Rattle.report_auditor.specs.Deeds.{Judges, beginning, opening};
 
 use crate::auditor::Auditor;
-use crate::whole::Whole;
 use audit_frames::Terms;
 use audit_subject::{Origin, call_terms, line_terms};
+use audit_whole::Whole;
 use irq_control::Held;
 use mcal_base::{NoMemory, Request};
 
@@ -34,11 +34,11 @@ impl<P: Whole> Auditor<P> {
     fn begins(&mut self, terms: Terms, origin: Origin<P::Call>) -> Result<bool, NoMemory>
         requires ready { IsReady P.fits P.within P.ticks 0 self.old }
         requires free { length self.old.frames < 8 }
-        ensures comes { (t : P.Table) (p : Place P.State P.Call) (level : ℕ) → Stands P.setting P.table P.stands t self.old p → IsServed (P.setting t) p.moment →
+        ensures comes { (t : P.Table) (p : Place P.State P.Call) (level : ℕ) → Stands P.agrees P.setting P.table P.stands t self.old p → IsServed (P.setting t) p.moment →
             IsBegun (P.setting t) terms (opening (P.setting t) (origin_of origin) level) →
             IsLegalDeed (P.setting t) p.moment (beginning (origin_of origin) level) →
             IfOk result (λ right. let deed = beginning (origin_of origin) level in
-            Judges right (Comes (P.setting t) p.moment deed) (Stands P.setting P.table P.stands t self.new
+            Judges right (Comes (P.setting t) p.moment deed) (Stands P.agrees P.setting P.table P.stands t self.new
             (record { moment = after (P.setting t) p.moment deed; frames = purpose_by terms.task ∷ p.frames; tally = p.tally }))) }
         ensures ready { (given : ℕ) → IsReady P.fits P.within P.ticks given self.old → IfOk result (λ right. OnTrue right (IsReady P.fits P.within P.ticks given self.new)) }
     {
@@ -53,7 +53,7 @@ impl<P: Whole> Auditor<P> {
     /// Why a call that a request asks for is held at a level, where it is.
     pub fn call_held(&self, call: &P::Call, level: u32) -> Option<Held>
         ensures free { result ≡ None → length self.now.frames < 8 }
-        ensures held { (t : P.Table) (p : Place P.State P.Call) → Stands P.setting P.table P.stands t self.now p →
+        ensures held { (t : P.Table) (p : Place P.State P.Call) → Stands P.agrees P.setting P.table P.stands t self.now p →
             result ≡ call_held (P.setting t) p.moment call.now level }
     {
         let class = self.parts.class(call);
@@ -63,7 +63,7 @@ impl<P: Whole> Auditor<P> {
     /// Why the handler of a line is held, where it is.
     pub fn line_held(&self, line: u32) -> Option<Held>
         ensures free { result ≡ None → length self.now.frames < 8 }
-        ensures held { (t : P.Table) (p : Place P.State P.Call) → Stands P.setting P.table P.stands t self.now p →
+        ensures held { (t : P.Table) (p : Place P.State P.Call) → Stands P.agrees P.setting P.table P.stands t self.now p →
             result ≡ line_held (P.setting t) p.moment line }
     {
         let level = self.parts.level(line);
@@ -73,7 +73,7 @@ impl<P: Whole> Auditor<P> {
 
     /// What the frame of a call is judged by.
     fn call_terms(&self, call: &P::Call, level: u32) -> Terms
-        ensures { (t : P.Table) (p : Place P.State P.Call) → Stands P.setting P.table P.stands t self.now p →
+        ensures { (t : P.Table) (p : Place P.State P.Call) → Stands P.agrees P.setting P.table P.stands t self.now p →
             IsBegun (P.setting t) result (opening (P.setting t) (Called call.now) level) }
     {
         call_terms(&self.parts, call, level)
@@ -82,7 +82,7 @@ impl<P: Whole> Auditor<P> {
     /// What the frame of the handler of a line is judged by.
     fn line_terms(&self, line: u32) -> Terms
         requires { line < 64 }
-        ensures { (t : P.Table) (p : Place P.State P.Call) → Stands P.setting P.table P.stands t self.now p →
+        ensures { (t : P.Table) (p : Place P.State P.Call) → Stands P.agrees P.setting P.table P.stands t self.now p →
             IsBegun (P.setting t) result (opening (P.setting t) (Entered line) 0) }
     {
         line_terms(&self.parts, line)
@@ -92,10 +92,10 @@ impl<P: Whole> Auditor<P> {
     pub fn begins_call(&mut self, call: P::Call, level: u32) -> Result<bool, NoMemory>
         requires ready { IsReady P.fits P.within P.ticks 0 self.old }
         requires free { length self.old.frames < 8 }
-        ensures comes { (t : P.Table) (p : Place P.State P.Call) → Stands P.setting P.table P.stands t self.old p → IsServed (P.setting t) p.moment →
+        ensures comes { (t : P.Table) (p : Place P.State P.Call) → Stands P.agrees P.setting P.table P.stands t self.old p → IsServed (P.setting t) p.moment →
             call_held (P.setting t) p.moment call level ≡ None →
             IfOk result (λ right. let deed = beginning (Called call) level in
-            Judges right (Comes (P.setting t) p.moment deed) (Stands P.setting P.table P.stands t self.new
+            Judges right (Comes (P.setting t) p.moment deed) (Stands P.agrees P.setting P.table P.stands t self.new
             (record { moment = after (P.setting t) p.moment deed; frames = Call ((P.setting t).machine.service_of call) ∷ p.frames; tally = p.tally }))) }
         ensures ready { (given : ℕ) → IsReady P.fits P.within P.ticks given self.old → IfOk result (λ right. OnTrue right (IsReady P.fits P.within P.ticks given self.new)) }
     {
@@ -108,10 +108,10 @@ impl<P: Whole> Auditor<P> {
         requires ready { IsReady P.fits P.within P.ticks 0 self.old }
         requires free { length self.old.frames < 8 }
         requires there { line < 64 }
-        ensures comes { (t : P.Table) (p : Place P.State P.Call) → Stands P.setting P.table P.stands t self.old p → IsServed (P.setting t) p.moment →
+        ensures comes { (t : P.Table) (p : Place P.State P.Call) → Stands P.agrees P.setting P.table P.stands t self.old p → IsServed (P.setting t) p.moment →
             line_held (P.setting t) p.moment line ≡ None →
             IfOk result (λ right. let deed = beginning (Entered line) 0 in
-            Judges right (Comes (P.setting t) p.moment deed) (Stands P.setting P.table P.stands t self.new
+            Judges right (Comes (P.setting t) p.moment deed) (Stands P.agrees P.setting P.table P.stands t self.new
             (record { moment = after (P.setting t) p.moment deed; frames = Handler line ∷ p.frames; tally = p.tally }))) }
         ensures ready { (given : ℕ) → IsReady P.fits P.within P.ticks given self.old → IfOk result (λ right. OnTrue right (IsReady P.fits P.within P.ticks given self.new)) }
     {

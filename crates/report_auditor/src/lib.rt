@@ -7,10 +7,14 @@ mod auditor;
 mod begins;
 mod chip_rules;
 mod hardware;
+mod looks;
+mod replays;
+mod seen;
 mod served;
-mod whole;
 
 pub use asking::{event_of, shows_right, starts_right};
+pub use audit_whole::Whole;
 pub use auditor::Auditor;
 pub use chip_rules::{received_right, sends_right};
-pub use whole::Whole;
+pub use seen::Seen;
+pub use served::used_lines;

@@ -9,20 +9,20 @@ ghost use Rattle.audit_base.specs.Outside.{IsWorld};
 ghost use Rattle.audit_frames.specs.Decides.{Decides};
 ghost use Rattle.audit_frames.specs.Masks as masks;
 ghost use Rattle.report_reading.specs.Blocks.{Place};
-ghost use Rattle.report_auditor.specs.Auditing.{Stands};
+ghost use Rattle.report_auditor.specs.Auditing.{IsSound, Stands, seeing};
 ghost use Rattle.report_auditor.specs.Serving.{KeepsTime, LinesAgree, OpenRight};
 
 use crate::auditor::{Auditor, same_left};
-use crate::whole::Whole;
 use audit_base::{Outside, Part};
 use audit_frames::with_bit;
+use audit_whole::Whole;
 use mcal_base::Unit;
 
 /// How many lines there are.
 const LINES: u32 = 32;
 
-/// The lines that are due, as the bits of a mask.
-fn due_lines<P: Part>(part: &P, outside: &Outside) -> u64
+/// The lines that are due, as the bits of a mask, asked one by one.
+pub(crate) fn due_lines<P: Part>(part: &P, outside: &Outside) -> u64
     ensures { (w : World) (s : P.State) → P.fits part.now outside.now → IsWorld outside.now w → P.stands part.now s →
         result ≡ bits_of ((P.member (P.table part.now)).machine.due w s) 32 }
 {
@@ -36,7 +36,7 @@ fn due_lines<P: Part>(part: &P, outside: &Outside) -> u64
 }
 
 /// The lines that configured objects use.
-fn used_lines<P: Part>(part: &P) -> u64
+pub fn used_lines<P: Part>(part: &P) -> u64
     ensures { result ≡ bits_of (P.member (P.table part.now)).lines 32 }
 {
     let mut found = 0;
@@ -78,7 +78,7 @@ fn units_rest<P: Part>(part: &P, outside: &Outside) -> bool
 impl<P: Whole> Auditor<P> {
     /// Whether time goes on at the machines' rate.
     fn keeps_rate(&self) -> bool
-        ensures right { (t : P.Table) (p : Place P.State P.Call) → Stands P.setting P.table P.stands t self.now p →
+        ensures right { (t : P.Table) (p : Place P.State P.Call) → Stands P.agrees P.setting P.table P.stands t self.now p →
             Decides result (p.moment.chip.clock.rate ≡ (P.setting t).machine.rate p.moment.state) }
         ensures rate { OnTrue result (self.now.chip.clock.rate ≡ P.ticks self.now.parts) }
     {
@@ -89,7 +89,7 @@ impl<P: Whole> Auditor<P> {
 
     /// Whether it does, and the watchdog has as much of it left as they say.
     fn keeps_time(&self) -> bool
-        ensures time { (t : P.Table) (p : Place P.State P.Call) → Stands P.setting P.table P.stands t self.now p →
+        ensures time { (t : P.Table) (p : Place P.State P.Call) → Stands P.agrees P.setting P.table P.stands t self.now p →
             Decides result (KeepsTime (P.setting t) p.moment) }
         ensures rate { OnTrue result (self.now.chip.clock.rate ≡ P.ticks self.now.parts) }
     {
@@ -102,20 +102,20 @@ impl<P: Whole> Auditor<P> {
     /// Whether each line that is due is pending, and each that is pending is used.
     fn lines_agree(&self) -> bool
         requires fits { P.fits self.now.parts self.now.outside }
-        ensures { (t : P.Table) (p : Place P.State P.Call) → Stands P.setting P.table P.stands t self.now p →
+        ensures { (t : P.Table) (p : Place P.State P.Call) → Stands P.agrees P.setting P.table P.stands t self.now p →
             Decides result (LinesAgree (P.setting t) p.moment) }
     {
         let pending = self.bus.pending_lines() as u64;
-        if !covers(due_lines(&self.parts, &self.outside), pending) {
+        if !covers(self.due(), pending) {
             return false;
         }
-        covers(pending, used_lines(&self.parts))
+        covers(pending, self.seen.used)
     }
 
     /// Whether chip and machines agree in what they do wherever the mask is open, where it is.
     fn is_open_right(&self) -> bool
         requires fits { P.fits self.now.parts self.now.outside }
-        ensures { (t : P.Table) (p : Place P.State P.Call) → Stands P.setting P.table P.stands t self.now p →
+        ensures { (t : P.Table) (p : Place P.State P.Call) → Stands P.agrees P.setting P.table P.stands t self.now p →
             Decides result (OpenRight (P.setting t) p.moment) }
     {
         if self.bus.masked() {
@@ -124,6 +124,9 @@ impl<P: Whole> Auditor<P> {
         if !self.lines_agree() {
             return false;
         }
+        if self.seen.knows_open() {
+            return true;
+        }
         let origins = self.origins.as_slice();
         self.parts.agrees_open(&self.outside, &self.bus, origins)
     }
@@ -131,11 +134,11 @@ impl<P: Whole> Auditor<P> {
     /// Whether those lines are pending that are due, and no others.
     fn has_due_lines(&self) -> bool
         requires fits { P.fits self.now.parts self.now.outside }
-        ensures { (t : P.Table) (p : Place P.State P.Call) → Stands P.setting P.table P.stands t self.now p →
+        ensures { (t : P.Table) (p : Place P.State P.Call) → Stands P.agrees P.setting P.table P.stands t self.now p →
             Decides result ((l : ℕ) → is_pending p.moment.chip l ≡ (P.setting t).machine.due p.moment.world p.moment.state l) }
     {
         let pending = self.bus.pending_lines() as u64;
-        let due = due_lines(&self.parts, &self.outside);
+        let due = self.due();
         pending == due
     }
 
@@ -143,7 +146,7 @@ impl<P: Whole> Auditor<P> {
     fn is_quiet(&self) -> bool
         requires fits { P.fits self.now.parts self.now.outside }
         requires within { P.within self.now.parts }
-        ensures { (t : P.Table) (p : Place P.State P.Call) → Stands P.setting P.table P.stands t self.now p →
+        ensures { (t : P.Table) (p : Place P.State P.Call) → Stands P.agrees P.setting P.table P.stands t self.now p →
             Decides result (IsQuiet (P.setting t) p.moment) }
     {
         if !units_rest(&self.parts, &self.outside) {
@@ -152,6 +155,9 @@ impl<P: Whole> Auditor<P> {
         if !self.has_due_lines() {
             return false;
         }
+        if self.seen.knows_rest() {
+            return true;
+        }
         self.parts.agrees_at_rest(&self.outside, &self.bus)
     }
 
@@ -159,7 +165,7 @@ impl<P: Whole> Auditor<P> {
     fn is_quiet_at_rest(&self) -> bool
         requires fits { P.fits self.now.parts self.now.outside }
         requires within { P.within self.now.parts }
-        ensures { (t : P.Table) (p : Place P.State P.Call) → Stands P.setting P.table P.stands t self.now p →
+        ensures { (t : P.Table) (p : Place P.State P.Call) → Stands P.agrees P.setting P.table P.stands t self.now p →
             Decides result (QuietAtRest (P.setting t) p.moment p.moment.opens) }
     {
         match self.frames.top() {
@@ -170,17 +176,17 @@ impl<P: Whole> Auditor<P> {
 
     /// Whether each frame can go on within its bounds. Those below the newest one can.
     fn are_going(&self) -> bool
-        ensures { (t : P.Table) (p : Place P.State P.Call) → Stands P.setting P.table P.stands t self.now p →
+        ensures { (t : P.Table) (p : Place P.State P.Call) → Stands P.agrees P.setting P.table P.stands t self.now p →
             Decides result (AreGoing (P.setting t) p.moment.opens) }
     {
         self.frames.is_going()
     }
 
-    /// Whether the moment is one of a legal run: chip and machine agree as far as they have to.
-    pub fn is_served(&self) -> bool
+    /// Whether the moment is one of a legal run, with what is known of it.
+    fn is_right(&self) -> bool
         requires fits { P.fits self.now.parts self.now.outside }
         requires within { P.within self.now.parts }
-        ensures served { (t : P.Table) (p : Place P.State P.Call) → Stands P.setting P.table P.stands t self.now p →
+        ensures served { (t : P.Table) (p : Place P.State P.Call) → Stands P.agrees P.setting P.table P.stands t self.now p →
             Decides result (IsServed (P.setting t) p.moment) }
         ensures rate { OnTrue result (self.now.chip.clock.rate ≡ P.ticks self.now.parts) }
     {
@@ -194,5 +200,21 @@ impl<P: Whole> Auditor<P> {
             return false;
         }
         self.is_quiet_at_rest()
+    }
+
+    /// Whether the moment is one of a legal run: chip and machine agree as far as they have to. What of it is known isn't
+    /// looked at, and what is seen is known from now on.
+    pub fn is_served(&mut self) -> bool
+        requires fits { P.fits self.old.parts self.old.outside }
+        requires within { P.within self.old.parts }
+        ensures served { (t : P.Table) (p : Place P.State P.Call) → Stands P.agrees P.setting P.table P.stands t self.old p →
+            Decides result (IsServed (P.setting t) p.moment) }
+        ensures rate { OnTrue result (self.new.chip.clock.rate ≡ P.ticks self.new.parts) }
+        ensures same { self.new ≡ seeing self.new.seen self.old }
+        ensures stands { (t : P.Table) (p : Place P.State P.Call) → Stands P.agrees P.setting P.table P.stands t self.old p → Stands P.agrees P.setting P.table P.stands t self.new p }
+        ensures sound { (given : ℕ) → IsSound P.fits P.within given self.old → IsSound P.fits P.within given self.new }
+    {
+        self.looks();
+        self.is_right()
     }
 }

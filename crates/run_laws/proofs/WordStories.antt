@@ -4,9 +4,9 @@ use Rattle.std.specs.Prelude.{IsSome, if◌then◌else◌}
 use Rattle.std.specs.List.{list_any}
 use Rattle.std.proofs.lemmas.Bool.Decides.{nat_tests}
 use Rattle.std.proofs.lemmas.Bool.{and_parts, or_from}
-use Rattle.plain_facts.specs.Truths.{or_true}
-use Rattle.plain_facts.specs.Options.{some_is}
-use Rattle.plain_facts.specs.Numbers.{eq_is, eq_self}
+use Rattle.mcal_base.specs.facts.Truths.{or_true}
+use Rattle.mcal_base.specs.facts.Options.{some_is}
+use Rattle.mcal_base.specs.facts.Numbers.{eq_is, eq_self}
 use Rattle.mcal_base.specs.declared.answer_name.AnswerName.{AnswerName}
 use Rattle.mcal_base.specs.declared.directive.Order.TheVariants.{SpiFault}
 use Rattle.mcal_base.specs.declared.error_name.ErrorName.{ErrorName}

@@ -3,7 +3,7 @@ use Rattle.std.proofs.Common.{◌≡◌, ◌≢◌, ℕ, zero, suc, ◌+◌, ◌
 use Rattle.std.proofs.lemmas.Bool.Decides.{eqb_tells, nat_tests}
 use Rattle.std.proofs.lemmas.List.Sums.{sum_by-append}
 use Rattle.std.specs.Prelude.{if◌then◌else◌, slice_get}
-use Rattle.plain_facts.specs.Numbers.{same_or_other}
+use Rattle.mcal_base.specs.facts.Numbers.{same_or_other}
 use Rattle.chip_units.proofs.SerialLaws.{has_unit-after, unit_at-with_unit_same, unit_at-with_unit_other}
 use Rattle.chip_units.specs.SerialAccesses.{Access, Writes, Words, Faults, Passes, HasUnit, after as after_access}
 use Rattle.chip_units.specs.Serials as serials

@@ -4,7 +4,7 @@ use Rattle.std.specs.Prelude.{◌==◌}
 use Rattle.std.proofs.lemmas.Bool.Decides.{nat_tests}
 use Rattle.std.proofs.lemmas.List.{length-map}
 use Rattle.std.proofs.lemmas.List.Sums.{sum_by-cons}
-use Rattle.plain_facts.specs.Numbers.{isnt_zero, zero_from}
+use Rattle.mcal_base.specs.facts.Numbers.{isnt_zero, zero_from}
 use Rattle.chip_model.specs.Chip.{Chip}
 use Rattle.chip_model.proofs.DeviceLaws.{devices-move, devices-happened, devices_after}
 use Rattle.irq_control.specs.declared.held.Held.TheVariants.{Unknown}

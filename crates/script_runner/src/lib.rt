@@ -15,5 +15,6 @@ mod within;
 
 pub use caller::Caller;
 pub use engine::Engine;
+pub use sizes::words_given;
 pub use steps::TooLong;
 pub use within::{Ran, run_within};

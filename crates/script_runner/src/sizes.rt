@@ -56,8 +56,8 @@ pub(crate) fn words_by(order: &Order) -> usize
     }
 }
 
-/// The words that a script brings.
-pub(crate) fn words_given(script: &[Directive]) -> usize
+/// The words that a script of at most 1,100,000 directives brings: those that come in on serial units, and those of fills.
+pub fn words_given(script: &[Directive]) -> usize
     requires { length script.now ≤ 1100000 }
     ensures given { result ≡ spec.words_given script.now }
     ensures few { result ≤ 64 * length script.now }

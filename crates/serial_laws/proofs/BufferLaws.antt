@@ -3,7 +3,7 @@ use Rattle.std.proofs.Common.{◌≡◌, ◌≢◌, ℕ, zero, suc, ◌+◌, ◌
 use Rattle.std.specs.List.{list_all, enumerate_from}
 use Rattle.std.specs.Prelude.{slice_get, if◌then◌else◌}
 use Rattle.std.proofs.lemmas.List.{get_or-replicate, length-replicate}
-use Rattle.plain_facts.specs.Numbers.{same_or_other}
+use Rattle.mcal_base.specs.facts.Numbers.{same_or_other}
 use Rattle.mcal_base.specs.declared.error_name.ErrorName.{ErrorName}
 use Rattle.run_model.specs.Machine.{Happening, Acts, Outcome}
 use Rattle.run_model.specs.World.{World}

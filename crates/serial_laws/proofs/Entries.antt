@@ -1,7 +1,7 @@
 -- The entry of a sequence in the pending list.
 use Rattle.std.proofs.Common.{◌≡◌, ◌≢◌, ℕ, Bool, true, false, not, cond, ◌==◌, List, [], ◌∷◌, ◌++◌, Option, Some, None, refl, sym, ◌∙◌, ap}
 use Rattle.std.specs.Prelude.{find}
-use Rattle.plain_facts.specs.Numbers.{eq_is, eq_other, eq_self}
+use Rattle.mcal_base.specs.facts.Numbers.{eq_is, eq_other, eq_self}
 use Rattle.spi_machine.specs.Pending.{Pending, is_of, changed, without}
 
 -- ---- a change

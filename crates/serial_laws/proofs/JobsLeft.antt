@@ -1,8 +1,8 @@
 -- A sequence that is left alone is pending no longer than it has jobs.
 use Rattle.std.proofs.Common.{◌≡◌, ℕ, ◌+◌, ◌<◌, ◌≤◌, ◌||◌, not, Bool, true, false, List, length, Option, Some, None, refl, sym, ◌∙◌, ap, subst, arith}
 use Rattle.std.specs.Prelude.{find, if◌then◌else◌}
-use Rattle.plain_facts.specs.Numbers.{lt_is}
-use Rattle.plain_facts.specs.Options.{some_is}
+use Rattle.mcal_base.specs.facts.Numbers.{lt_is}
+use Rattle.mcal_base.specs.facts.Options.{some_is}
 use Rattle.mcal_base.specs.declared.answer_name.AnswerName.{AnswerName}
 use Rattle.run_model.specs.Frame.{state_by}
 use Rattle.run_model.specs.Machine.{Happening, Serves, Outcome}

@@ -1,7 +1,7 @@
 -- What is so of a state after an act or a start is so where it is so after those of the other calls and units, and after
 -- what Spi_SyncTransmit does.
 use Rattle.std.proofs.Common.{◌≡◌, ℕ, false, Option, Some, None, refl, sym, ◌∙◌}
-use Rattle.plain_facts.specs.Options.{some_is}
+use Rattle.mcal_base.specs.facts.Options.{some_is}
 use Rattle.run_model.specs.Frame.{state_by}
 use Rattle.run_model.specs.Machine.{Acts, Outcome}
 use Rattle.run_model.specs.World.{World}

@@ -2,8 +2,8 @@
 use Rattle.std.proofs.Common.{◌≡◌, ◌≢◌, ℕ, zero, suc, ◌+◌, ◌<◌, not, Bool, true, List, [], ◌∷◌, length, length-append, slice_index_or, Option, Some, None, refl, sym, ◌∙◌, ap, arith, ◌⊎◌, inl, inr}
 use Rattle.std.specs.Prelude.{if◌then◌else◌, nat_lt}
 use Rattle.std.proofs.lemmas.Bool.{and_parts}
-use Rattle.plain_facts.specs.Numbers.{lt_is, same_or_other}
-use Rattle.plain_facts.specs.Options.{some_is}
+use Rattle.mcal_base.specs.facts.Numbers.{lt_is, same_or_other}
+use Rattle.mcal_base.specs.facts.Options.{some_is}
 use Rattle.mcal_base.specs.declared.directive.Order.{Order}
 use Rattle.mcal_base.specs.declared.directive.Order.TheVariants.{Fill, SpiFault}
 use Rattle.run_model.specs.Frame.{state_by}

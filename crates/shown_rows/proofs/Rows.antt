@@ -15,11 +15,11 @@ use Rattle.bench_report.specs.Shown.{rows_text}
 use Rattle.bench_report.specs.declared.rows.Value.{Value}
 use Rattle.bench_report.specs.declared.rows.Value.TheVariants.{One, Pair}
 use Rattle.mcal_drivers.specs.Setting.{SystemState}
-use Rattle.shown_rows.specs.Boards.{pairs}
 use Rattle.shown_rows.specs.Places.{word_at}
 use Rattle.shown_rows.specs.declared.shown.Exchange.{Exchange}
 use Rattle.shown_rows.specs.Objects.{count, object_rows, all_rows}
 use Rattle.shown_rows.specs.Shows.{section_row, section_rows, AreInside}
+use Rattle.shown_rows.specs.Wires.{pairs}
 use Rattle.shown_rows.specs.Words.{words}
 use Rattle.shown_rows.specs.declared.objects.Objects.{Objects}
 use Rattle.shown_rows.specs.declared.objects.Objects.TheVariants.{Pins, Captures, Groups, Serials}

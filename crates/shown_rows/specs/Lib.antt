@@ -1,5 +1,5 @@
-pub mod Boards
 pub mod Objects
 pub mod Places
 pub mod Shows
+pub mod Wires
 pub mod Words

@@ -2,7 +2,9 @@ ghost use Rattle.std.specs.Prelude.{◌≡◌, ◌<◌, ◌++◌, OnOk, Some, st
 ghost use Rattle.mcal_base.specs.Layout.{length_of};
 ghost use Rattle.mcal_base.specs.declared.layout.Array.TheVariants.{Source};
 ghost use Rattle.bench_report.specs.Shown.{rows_text};
+ghost use Rattle.mcal_drivers.specs.Setting.{SystemState};
 ghost use Rattle.mcal_drivers.specs.Shows.{results_at, serial_channel, size_at};
+ghost use Rattle.run_model.specs.World.{World};
 ghost use Rattle.shown_rows.specs.Shows as spec;
 
 use crate::shown::{ShownBoard, Words};
@@ -22,7 +24,7 @@ pub(crate) fn write_capture<R: ShownBoard>(
     channel: u32,
 ) -> Result<(), AllocError>
     requires there { channel < 8 }
-    ensures { let s = (R.board run.now).state in
+    ensures { (w : World) (s : SystemState) → R.shows run.now w s →
         OnOk result (string_bytes text.new ≡ string_bytes text.old ++ rows_text line (spec.stamps_row s channel (size_at s channel))) }
 {
     let Some(size) = run.stamps(channel) else {
@@ -42,8 +44,8 @@ pub(crate) fn write_group<R: ShownBoard>(
     line: u32,
     group: u32,
 ) -> Result<(), AllocError>
-    ensures { let s = (R.board run.now).state in
-        OnOk result (string_bytes text.new ≡ string_bytes text.old ++ rows_text line (spec.results_row s group (results_at (R.board run.now).config s group))) }
+    ensures { (w : World) (s : SystemState) → R.shows run.now w s →
+        OnOk result (string_bytes text.new ≡ string_bytes text.old ++ rows_text line (spec.results_row s group (results_at (R.configured run.now) s group))) }
 {
     let Some((buffer, size)) = run.results(group) else {
         return Ok(());
@@ -64,9 +66,9 @@ fn write_channel<R: ShownBoard>(
     number: u32,
     channel: Channel,
 ) -> Result<(), AllocError>
-    requires known { serial_channel (R.board run.now).config number ≡ Some channel }
-    requires words { channel.length ≡ length_of (R.board run.now).config (Source number) }
-    ensures { OnOk result (string_bytes text.new ≡ string_bytes text.old ++ rows_text line (spec.channel_rows (R.board run.now).state number (Some channel))) }
+    requires known { serial_channel (R.configured run.now) number ≡ Some channel }
+    requires words { channel.length ≡ length_of (R.configured run.now) (Source number) }
+    ensures { (w : World) (s : SystemState) → R.shows run.now w s → OnOk result (string_bytes text.new ≡ string_bytes text.old ++ rows_text line (spec.channel_rows s number (Some channel))) }
 {
     let size = u32::from(channel.length);
     let name = RowName::Source(number);
@@ -93,8 +95,8 @@ pub(crate) fn write_serial<R: ShownBoard>(
     line: u32,
     number: u32,
 ) -> Result<(), AllocError>
-    ensures { let b = R.board run.now in
-        OnOk result (string_bytes text.new ≡ string_bytes text.old ++ rows_text line (spec.channel_rows b.state number (serial_channel b.config number))) }
+    ensures { (w : World) (s : SystemState) → R.shows run.now w s →
+        OnOk result (string_bytes text.new ≡ string_bytes text.old ++ rows_text line (spec.channel_rows s number (serial_channel (R.configured run.now) number))) }
 {
     match run.serial_channel(number) {
         Some(channel) => write_channel(alloc, text, run, line, number, channel),

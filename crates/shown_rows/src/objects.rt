@@ -1,5 +1,7 @@
 ghost use Rattle.std.specs.Prelude.{◌≡◌, ◌<◌, ◌++◌, OnOk, string_bytes};
 ghost use Rattle.bench_report.specs.Shown.{rows_text};
+ghost use Rattle.mcal_drivers.specs.Setting.{SystemState};
+ghost use Rattle.run_model.specs.World.{World};
 ghost use Rattle.shown_rows.specs.Objects as spec;
 
 use crate::buffers::{write_capture, write_group, write_serial};
@@ -42,8 +44,8 @@ fn write_object<R: ShownBoard>(
     number: u32,
 ) -> Result<(), AllocError>
     requires there { number < spec.count objects }
-    ensures { let b = R.board run.now in
-        OnOk result (string_bytes text.new ≡ string_bytes text.old ++ rows_text line (spec.object_rows b.config b.world b.state objects number)) }
+    ensures { (w : World) (s : SystemState) → R.shows run.now w s →
+        OnOk result (string_bytes text.new ≡ string_bytes text.old ++ rows_text line (spec.object_rows (R.configured run.now) w s objects number)) }
 {
     match objects {
         Objects::Pins => write_pin(text, run, line, number),
@@ -61,8 +63,8 @@ pub(crate) fn write_objects<R: ShownBoard>(
     line: u32,
     objects: Objects,
 ) -> Result<(), AllocError>
-    ensures { let b = R.board run.now in
-        OnOk result (string_bytes text.new ≡ string_bytes text.old ++ rows_text line (spec.all_rows b.config b.world b.state objects)) }
+    ensures { (w : World) (s : SystemState) → R.shows run.now w s →
+        OnOk result (string_bytes text.new ≡ string_bytes text.old ++ rows_text line (spec.all_rows (R.configured run.now) w s objects)) }
 {
     for number in 0..count(objects) {
         write_object(alloc, text, run, line, objects, number)?;

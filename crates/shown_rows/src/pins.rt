@@ -2,6 +2,8 @@ ghost use Rattle.std.specs.Prelude.{◌≡◌, ◌<◌, ◌++◌, ◌∷◌, [],
 ghost use Rattle.bench_report.specs.Shown.{rows_text};
 ghost use Rattle.bench_report.specs.declared.rows.RowName.TheVariants as names;
 ghost use Rattle.bench_report.specs.declared.rows.Value.TheVariants as values;
+ghost use Rattle.mcal_drivers.specs.Setting.{SystemState};
+ghost use Rattle.run_model.specs.World.{World};
 ghost use Rattle.shown_rows.specs.Shows as spec;
 
 use crate::shown::ShownBoard;
@@ -46,8 +48,8 @@ pub(crate) fn write_pin<R: ShownBoard>(
     pin: u32,
 ) -> Result<(), AllocError>
     requires there { pin < 64 }
-    ensures { let b = R.board run.now in
-        OnOk result (string_bytes text.new ≡ string_bytes text.old ++ rows_text line (spec.pin_row b.config b.world b.state pin)) }
+    ensures { (w : World) (s : SystemState) → R.shows run.now w s →
+        OnOk result (string_bytes text.new ≡ string_bytes text.old ++ rows_text line (spec.pin_row (R.configured run.now) w s pin)) }
 {
     if has_pin(run.config(), pin) {
         write_level(text, line, pin, run.pin(pin))

@@ -1,5 +1,7 @@
 ghost use Rattle.std.specs.Prelude.{◌≡◌, ◌+◌, ◌<◌, ◌≤◌, ◌++◌, ◌∷◌, [], OnOk, Some, length, slice_get, string_bytes};
 ghost use Rattle.bench_report.specs.Shown.{rows_text};
+ghost use Rattle.mcal_drivers.specs.Setting.{SystemState};
+ghost use Rattle.run_model.specs.World.{World};
 ghost use Rattle.shown_rows.specs.Shows as spec;
 
 use crate::shown::{ShownBoard, Words};
@@ -19,7 +21,7 @@ fn write_section<R: ShownBoard>(
     section: &McuRamSection,
 ) -> Result<(), AllocError>
     requires inside { section.now.base_address + section.now.size ≤ 512 }
-    ensures { OnOk result (string_bytes text.new ≡ string_bytes text.old ++ rows_text line (spec.section_row (R.board run.now).state number section.now ∷ [])) }
+    ensures { (w : World) (s : SystemState) → R.shows run.now w s → OnOk result (string_bytes text.new ≡ string_bytes text.old ++ rows_text line (spec.section_row s number section.now ∷ [])) }
 {
     let values = words_of(alloc, run, Words::Ram, section.base_address, section.size)?;
     write_row(text, line, RowName::Ram(number), &values)
@@ -45,7 +47,7 @@ pub(crate) fn write_sections<R: ShownBoard>(
 ) -> Result<(), AllocError>
     requires inside { spec.AreInside sections.now }
     requires few { length sections.now ≤ 8 }
-    ensures { OnOk result (string_bytes text.new ≡ string_bytes text.old ++ rows_text line (spec.section_rows (R.board run.now).state 0 sections.now)) }
+    ensures { (w : World) (s : SystemState) → R.shows run.now w s → OnOk result (string_bytes text.new ≡ string_bytes text.old ++ rows_text line (spec.section_rows s 0 sections.now)) }
 {
     for number in 0..sections.len() as u32 {
         let section = section_at(sections, number);

@@ -1,6 +1,8 @@
 ghost use Rattle.std.specs.Prelude.{◌≡◌, ◌++◌, IfOk, OnOk, string_bytes};
 ghost use Rattle.config_facts.specs.Valid.{IsValid};
 ghost use Rattle.bench_report.specs.Shown.{rows_text};
+ghost use Rattle.mcal_drivers.specs.Setting.{SystemState};
+ghost use Rattle.run_model.specs.World.{World};
 ghost use Rattle.shown_rows.specs.Shows as spec;
 
 use crate::objects::{Objects, write_objects};
@@ -18,7 +20,7 @@ fn write_buffers<R: ShownBoard>(
     run: &R,
     line: u32,
 ) -> Result<(), AllocError>
-    ensures { OnOk result (string_bytes text.new ≡ string_bytes text.old ++ rows_text line (spec.buffer_rows (R.board run.now).config (R.board run.now).state)) }
+    ensures { (w : World) (s : SystemState) → R.shows run.now w s → OnOk result (string_bytes text.new ≡ string_bytes text.old ++ rows_text line (spec.buffer_rows (R.configured run.now) s)) }
 {
     write_objects(alloc, text, run, line, Objects::Captures)?;
     write_objects(alloc, text, run, line, Objects::Groups)?;
@@ -33,9 +35,9 @@ fn write_shown<R: ShownBoard>(
     line: u32,
     shown: Shown,
 ) -> Result<(), AllocError>
-    requires valid { IsValid (R.board run.now).config }
-    ensures { let b = R.board run.now in
-        OnOk result (string_bytes text.new ≡ string_bytes text.old ++ rows_text line (spec.show_rows b.config b.world b.state shown)) }
+    requires valid { IsValid (R.configured run.now) }
+    ensures { (w : World) (s : SystemState) → R.shows run.now w s →
+        OnOk result (string_bytes text.new ≡ string_bytes text.old ++ rows_text line (spec.show_rows (R.configured run.now) w s shown)) }
 {
     match shown {
         Shown::Pins => write_objects(alloc, text, run, line, Objects::Pins),
@@ -55,9 +57,9 @@ pub fn shown_text<R: ShownBoard>(
     line: u32,
     shown: Shown,
 ) -> Result<String, AllocError>
-    requires valid { IsValid (R.board run.now).config }
-    ensures { let b = R.board run.now in
-        IfOk result (λ text. string_bytes text ≡ rows_text line (spec.show_rows b.config b.world b.state shown)) }
+    requires valid { IsValid (R.configured run.now) }
+    ensures { (w : World) (s : SystemState) → R.shows run.now w s →
+        IfOk result (λ text. string_bytes text ≡ rows_text line (spec.show_rows (R.configured run.now) w s shown)) }
 {
     let mut text = String::new(alloc);
     write_shown(alloc, &mut text, run, line, shown)?;

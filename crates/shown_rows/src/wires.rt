@@ -1,5 +1,7 @@
 ghost use Rattle.std.specs.Prelude.{◌≡◌, ◌<◌, ◌++◌, ◌∷◌, [], IfOk, OnOk, string_bytes};
 ghost use Rattle.bench_report.specs.Shown.{rows_text};
+ghost use Rattle.mcal_drivers.specs.Setting.{SystemState};
+ghost use Rattle.run_model.specs.World.{World};
 ghost use Rattle.shown_rows.specs.Shows as spec;
 
 use crate::shown::ShownBoard;
@@ -9,7 +11,7 @@ use std::alloc::{AllocError, Global};
 /// The words on the wire of a serial unit.
 fn wire_words<R: ShownBoard>(alloc: Global, run: &R, unit: u32) -> Result<Vec<Value>, AllocError>
     requires there { unit < 2 }
-    ensures { IfOk result (λ values. values.items ≡ spec.wire_words (R.board run.now).state unit) }
+    ensures { (w : World) (s : SystemState) → R.shows run.now w s → IfOk result (λ values. values.items ≡ spec.wire_words s unit) }
 {
     let words = run.wire(alloc, unit)?;
     let mut values = Vec::new(alloc);
@@ -30,7 +32,7 @@ fn write_wire<R: ShownBoard>(
     unit: u32,
 ) -> Result<(), AllocError>
     requires there { unit < 2 }
-    ensures { OnOk result (string_bytes text.new ≡ string_bytes text.old ++ rows_text line (spec.wire_row (R.board run.now).state unit ∷ [])) }
+    ensures { (w : World) (s : SystemState) → R.shows run.now w s → OnOk result (string_bytes text.new ≡ string_bytes text.old ++ rows_text line (spec.wire_row s unit ∷ [])) }
 {
     let values = wire_words(alloc, run, unit)?;
     write_row(text, line, RowName::Wire(unit), &values)
@@ -44,7 +46,7 @@ pub(crate) fn write_wires<R: ShownBoard>(
     run: &R,
     line: u32,
 ) -> Result<(), AllocError>
-    ensures { OnOk result (string_bytes text.new ≡ string_bytes text.old ++ rows_text line (spec.wire_rows (R.board run.now).state)) }
+    ensures { (w : World) (s : SystemState) → R.shows run.now w s → OnOk result (string_bytes text.new ≡ string_bytes text.old ++ rows_text line (spec.wire_rows s)) }
 {
     write_wire(alloc, text, run, line, 0)?;
     write_wire(alloc, text, run, line, 1)

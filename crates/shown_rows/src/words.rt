@@ -1,5 +1,7 @@
 ghost use Rattle.std.specs.Prelude.{◌≡◌, ◌+◌, ◌≤◌, ◌++◌, ◌∷◌, [], IfOk, OnOk, string_bytes};
 ghost use Rattle.bench_report.specs.Shown.{rows_text};
+ghost use Rattle.mcal_drivers.specs.Setting.{SystemState};
+ghost use Rattle.run_model.specs.World.{World};
 ghost use Rattle.shown_rows.specs.Places.{HasPlaces};
 ghost use Rattle.shown_rows.specs.Words as spec;
 
@@ -15,9 +17,9 @@ pub(crate) fn words_of<R: ShownBoard>(
     first: u32,
     size: u32,
 ) -> Result<Vec<Value>, AllocError>
-    requires inside { HasPlaces (R.board run.now).config words (first + size) }
+    requires inside { HasPlaces (R.configured run.now) words (first + size) }
     requires few { first + size ≤ 4294967295 }
-    ensures { IfOk result (λ values. values.items ≡ spec.words (R.board run.now).state words first size) }
+    ensures { (w : World) (s : SystemState) → R.shows run.now w s → IfOk result (λ values. values.items ≡ spec.words s words first size) }
 {
     let mut values = Vec::new(alloc);
     for number in 0..size {
@@ -37,8 +39,8 @@ pub(crate) fn write_words<R: ShownBoard>(
     words: Words,
     size: u32,
 ) -> Result<(), AllocError>
-    requires inside { HasPlaces (R.board run.now).config words size }
-    ensures { OnOk result (string_bytes text.new ≡ string_bytes text.old ++ rows_text line (spec.words_row (R.board run.now).state name words size ∷ [])) }
+    requires inside { HasPlaces (R.configured run.now) words size }
+    ensures { (w : World) (s : SystemState) → R.shows run.now w s → OnOk result (string_bytes text.new ≡ string_bytes text.old ++ rows_text line (spec.words_row s name words size ∷ [])) }
 {
     let values = words_of(alloc, run, words, 0, size)?;
     write_row(text, line, name, &values)

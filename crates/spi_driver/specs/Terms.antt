@@ -9,7 +9,7 @@ pub use Rattle.std.proofs.lemmas.List.Concat.{flat_map-cons}
 pub use Rattle.std.proofs.lemmas.List.Elements.{Contains-get_or}
 pub use Rattle.std.proofs.lemmas.List.Sums.{count_by-le-length, sum_by-cons, sum_by-le}
 pub use Rattle.std.specs.List.{enumerate_from, list_all, list_any}
-pub use Rattle.plain_facts.specs.{Options.{some_is}, Truths.{and_false, and_first}}
+pub use Rattle.mcal_base.specs.facts.{Options.{some_is}, Truths.{and_false, and_first}}
 pub use Rattle.mcal_base.specs.{Bits.{has_bit}, Layout.{is_within, start_of, words_of}, declared.TheConstants.{WORDS}}
 pub use Rattle.mcal_base.specs.{declared.answer.Answer.{Answer}, declared.answer_name.AnswerName.TheVariants.{ENotOk}}
 pub use Rattle.mcal_base.specs.{declared.answer_name.AnswerName.TheVariants.{EOk, SpiUninit}}

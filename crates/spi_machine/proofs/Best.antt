@@ -3,8 +3,8 @@ use Rattle.std.proofs.Common.{◌≡◌, ◌≢◌, ◌≤◌, ◌<◌, ◌⊎�
 use Rattle.std.specs.Prelude.{Contains, filter, if◌then◌else◌}
 use Rattle.std.specs.List.{AllByRecursion}
 use Rattle.std.proofs.lemmas.Bool.Decides.{nat_tests}
-use Rattle.plain_facts.specs.Options.{some_is}
-use Rattle.plain_facts.specs.Numbers.{same_or_other}
+use Rattle.mcal_base.specs.facts.Options.{some_is}
+use Rattle.mcal_base.specs.facts.Numbers.{same_or_other}
 use Rattle.spi_machine.specs.Promised.{IsNext, Yields, ToStarted, ToPriority, ToEarlier, HasPriorities}
 use Rattle.spi_machine.specs.Pending.{Pending, is_for, keeps_unit, priority_of, next_job, rank, precedes, better, best, next_on}
 use Rattle.spi_machine.specs.declared.table.SpiTable.{SpiTable}

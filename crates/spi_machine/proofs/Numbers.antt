@@ -1,6 +1,6 @@
 -- Lists by number: an item that is put there, and the others.
 use Rattle.std.proofs.Common.{◌≡◌, ℕ, zero, suc, ◌≢◌, List, [], ◌∷◌, slice_index_or, refl, ◌∙◌, ap, ◌⊎◌, inl, inr}
-use Rattle.plain_facts.specs.Numbers.{same_or_other}
+use Rattle.mcal_base.specs.facts.Numbers.{same_or_other}
 use Rattle.spi_machine.specs.Channels.{ChannelState, untouched}
 use Rattle.spi_machine.specs.State.{SpiState, channel_at, with_channel}
 use Rattle.spi_machine.specs.Numbered.{with_item}

@@ -1,8 +1,8 @@
 -- How a call that sends a sequence and waits takes part in what happens: its words, its end, and its errors.
 use Rattle.std.proofs.Common.{◌≡◌, ℕ, Bool, true, false, ◌==◌, ◌||◌, not, Option, Some, None, refl, ◌∙◌, ap, subst}
 use Rattle.std.specs.Prelude.{IsSome, if◌then◌else◌}
-use Rattle.plain_facts.specs.Options.{some_is}
-use Rattle.plain_facts.specs.Numbers.{eq_is}
+use Rattle.mcal_base.specs.facts.Options.{some_is}
+use Rattle.mcal_base.specs.facts.Numbers.{eq_is}
 use Rattle.mcal_base.specs.declared.error_name.ErrorName.{ErrorName}
 use Rattle.run_model.specs.Machine.{Outcome, outcome, tells_error}
 use Rattle.run_model.specs.World.{World}

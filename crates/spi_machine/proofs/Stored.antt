@@ -4,8 +4,8 @@ use Rattle.std.proofs.Common.{◌≡◌, ◌≤◌, ℕ, zero, suc, arith, Bool,
 use Rattle.std.specs.Prelude.{if◌then◌else◌}
 use Rattle.std.proofs.lemmas.Bool.Decides.{nat_tests}
 use Rattle.std.proofs.lemmas.Bool.{or_parts}
-use Rattle.plain_facts.specs.Options.{some_is}
-use Rattle.plain_facts.specs.Numbers.{eq_self, eq_turned, same_or_other}
+use Rattle.mcal_base.specs.facts.Options.{some_is}
+use Rattle.mcal_base.specs.facts.Numbers.{eq_self, eq_turned, same_or_other}
 use Rattle.run_model.specs.Machine.{Serves, Outcome}
 use Rattle.run_model.specs.World.{World}
 use Rattle.spi_machine.proofs.Numbers.{item-same, item-other, channel-seen}

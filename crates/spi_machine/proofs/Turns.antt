@@ -4,9 +4,9 @@ use Rattle.std.specs.Prelude.{find, drop}
 use Rattle.std.specs.List.{list_any}
 use Rattle.std.proofs.lemmas.List.Folds.{list_any-append}
 use Rattle.std.proofs.lemmas.Bool.{or_parts}
-use Rattle.plain_facts.specs.Truths.{and_false, and_true, or_false, or_true}
-use Rattle.plain_facts.specs.Options.{some_is}
-use Rattle.plain_facts.specs.Numbers.{eq_is, eq_self, eq_turned, same_or_other}
+use Rattle.mcal_base.specs.facts.Truths.{and_false, and_true, or_false, or_true}
+use Rattle.mcal_base.specs.facts.Options.{some_is}
+use Rattle.mcal_base.specs.facts.Numbers.{eq_is, eq_self, eq_turned, same_or_other}
 use Rattle.mcal_base.specs.declared.answer_name.AnswerName.{AnswerName}
 use Rattle.mcal_base.specs.declared.answer_name.AnswerName.TheVariants.{SpiSeqOk, SpiSeqPending, SpiSeqFailed, SpiSeqCanceled}
 use Rattle.mcal_base.specs.declared.directive.Order.{Order}

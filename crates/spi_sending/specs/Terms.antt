@@ -19,8 +19,8 @@ pub use Rattle.mcal_base.specs.declared.moves.Move.{Move}
 pub use Rattle.mcal_base.specs.declared.moves.Move.TheVariants.{Load, Mask, Read, Store, Unmask, Write}
 pub use Rattle.mcal_base.specs.declared.register.Reg.TheVariants.{SerialData, SerialSelect, SerialWait}
 pub use Rattle.mcal_base.specs.declared.service.Service.TheVariants.{SpiSyncTransmit}
-pub use Rattle.plain_facts.specs.Numbers.{lt_itself, lt_next, same_or_other}
-pub use Rattle.plain_facts.specs.Options.{some_is}
+pub use Rattle.mcal_base.specs.facts.Numbers.{lt_itself, lt_next, same_or_other}
+pub use Rattle.mcal_base.specs.facts.Options.{some_is}
 pub use Rattle.run_model.proofs.OutsideLaws.{stands-move}
 pub use Rattle.run_model.specs.Causes.{blocks}
 pub use Rattle.run_model.specs.Frame.{begins_word, Called, is_shared, missed_after, Origin, owing, resets_chip}

@@ -20,7 +20,7 @@ pub use Rattle.std.proofs.lemmas.Nat.{or_disjoint, pow_apart}
 pub use Rattle.std.proofs.lemmas.Option.{same_Some, slice_get-map}
 pub use Rattle.std.specs.List.{enumerate_from, list_any}
 pub use Rattle.std.specs.Option.{option_map}
-pub use Rattle.plain_facts.specs.{Numbers.{eq_isnt, same_or_other}, Options.{some_is}, Truths.{and_false, clear_apart, set_apart}}
+pub use Rattle.mcal_base.specs.facts.{Numbers.{eq_isnt, same_or_other}, Options.{some_is}, Truths.{and_false, clear_apart, set_apart}}
 pub use Rattle.mcal_base.proofs.BitLaws.{has_bit-or, has_bit-pow_other, has_bit-without, has_bit-zero}
 pub use Rattle.mcal_base.specs.{Bits.{has_bit}, Layout.{is_within, place_of, start_of}, declared.TheConstants.{WORDS}}
 pub use Rattle.mcal_base.specs.{declared.answer.Answer.{Answer}, declared.answer_name.AnswerName.{AnswerName}}

@@ -13,7 +13,7 @@ pub use Rattle.std.proofs.lemmas.List.Elements.{Contains-get_or}
 pub use Rattle.std.proofs.lemmas.List.Sums.{sum_by-cons}
 pub use Rattle.std.proofs.lemmas.Nat.{and_le_l, and_le_r, or_disjoint, or_mod, or_shr}
 pub use Rattle.std.specs.List.{enumerate_from, list_any}
-pub use Rattle.plain_facts.specs.{Numbers.{lt_itself, lt_next, lt_zero, same_or_other}, Options.{some_is}}
+pub use Rattle.mcal_base.specs.facts.{Numbers.{lt_itself, lt_next, lt_zero, same_or_other}, Options.{some_is}}
 pub use Rattle.mcal_base.specs.{Bits.{bit_of, has_bit}, Layout.{place_of}, declared.TheConstants.{WORDS}}
 pub use Rattle.mcal_base.specs.{declared.answer.Answer.{Answer}, declared.answer_name.AnswerName.{AnswerName}}
 pub use Rattle.mcal_base.specs.{declared.answer_name.AnswerName.TheVariants.{SpiJobOk, SpiJobPending, SpiJobQueued}}

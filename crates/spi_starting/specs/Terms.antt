@@ -10,7 +10,7 @@ pub use Rattle.std.proofs.lemmas.List.Concat.{flat_map-cons}
 pub use Rattle.std.proofs.lemmas.List.Elements.{Contains-get_or}
 pub use Rattle.std.proofs.lemmas.Option.{same_Some, slice_get_within}
 pub use Rattle.std.specs.List.{list_any}
-pub use Rattle.plain_facts.specs.{Numbers.{lt_itself, lt_next, same_or_other}, Options.{some_is}}
+pub use Rattle.mcal_base.specs.facts.{Numbers.{lt_itself, lt_next, same_or_other}, Options.{some_is}}
 pub use Rattle.mcal_base.specs.{Bits.{has_bit}, Layout.{place_of}, declared.TheConstants.{WORDS}}
 pub use Rattle.mcal_base.specs.{declared.answer.Answer.{Answer}, declared.answer_name.AnswerName.TheVariants.{SpiJobOk}}
 pub use Rattle.mcal_base.specs.{declared.answer_name.AnswerName.TheVariants.{SpiJobPending, SpiJobQueued}}

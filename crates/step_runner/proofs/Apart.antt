@@ -3,7 +3,7 @@ use Rattle.std.proofs.Common.{◌≡◌, ℕ, Bool, true, false, cond, not, ◌&
 use Rattle.std.specs.Prelude.{IsSome}
 use Rattle.std.specs.List.{list_all}
 use Rattle.std.proofs.lemmas.Bool.{and_from}
-use Rattle.plain_facts.specs.Truths.{and_first, and_second}
+use Rattle.mcal_base.specs.facts.Truths.{and_first, and_second}
 use Rattle.mcal_base.specs.declared.moves.Move.{Move}
 use Rattle.run_model.specs.World.{World}
 use Rattle.run_model.specs.Machine.{Starts, Aborts, Outcome}

@@ -4,7 +4,7 @@ use Rattle.std.specs.Prelude.{IsSome, Result, Ok, Err}
 use Rattle.std.proofs.lemmas.List.{append-nil}
 use Rattle.std.proofs.lemmas.Bool.Decides.{nat_tests}
 use Rattle.std.proofs.lemmas.Bool.{not-false}
-use Rattle.plain_facts.specs.Truths.{and_first, and_second}
+use Rattle.mcal_base.specs.facts.Truths.{and_first, and_second}
 use Rattle.chip_model.specs.Chip.{Chip, expiry_of, happened, CanHappen, reset_chip, is_masked, is_pending}
 use Rattle.chip_model.proofs.HistoryLaws.{rate-event}
 use Rattle.irq_control.specs.declared.held.Held.{Held}

@@ -4,7 +4,7 @@ use Rattle.std.specs.List.{list_any, list_all}
 use Rattle.std.proofs.lemmas.Bool.Decides.{nat_tests}
 use Rattle.std.proofs.lemmas.List.{reverse-append}
 use Rattle.std.proofs.lemmas.List.Folds.{list_any-append, list_all-append}
-use Rattle.plain_facts.specs.Truths.{and_true, or_false}
+use Rattle.mcal_base.specs.facts.Truths.{and_true, or_false}
 use Rattle.run_model.specs.declared.class.Class.{Class}
 use Rattle.run_model.specs.Causes.{may_reenter, blocks, reads_source, is_full}
 use Rattle.step_runner.specs.Kept.{tags_under, is_read}

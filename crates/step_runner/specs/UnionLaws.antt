@@ -4,8 +4,8 @@ use Rattle.std.proofs.Math.Nat.{min-le_left, min-le_right, min-eq_left}
 use Rattle.std.specs.Prelude.{IsSome, option_map}
 use Rattle.std.specs.List.{list_any, list_all}
 use Rattle.std.proofs.lemmas.Bool.{and_from, false_from_ne_true, not-true, or_from, or_left, or_parts, or_right}
-use Rattle.plain_facts.specs.Truths.{and_first, and_second}
-use Rattle.plain_facts.specs.Options.{some_same}
+use Rattle.mcal_base.specs.facts.Truths.{and_first, and_second}
+use Rattle.mcal_base.specs.facts.Options.{some_same}
 use Rattle.chip_model.specs.Chip.{Chip, value_of, chip_after, expiry_of, happened, reset_chip, is_masked, is_pending}
 use Rattle.mcal_base.specs.Bits.{has_bit}
 use Rattle.mcal_base.specs.Reach.{CanApply}

@@ -2,7 +2,7 @@
 use Rattle.std.proofs.Common.{◌≡◌, ℕ, zero, suc, ◌+◌, ◌-◌, ◌*◌, ◌/◌, ◌<◌, ◌≤◌, min, Bool, true, false, nat_lt, refl, arith, ◌⊎◌, inl, inr}
 use Rattle.std.specs.Prelude.{◌↔◌}
 use Rattle.std.proofs.Math.Nat.{div-mul-le_self, div-zero, mul-le-mul_right}
-use Rattle.plain_facts.specs.Numbers.{lt_from, lt_is}
+use Rattle.mcal_base.specs.facts.Numbers.{lt_from, lt_is}
 use Rattle.mcal_base.specs.Expiry.{expiries}
 use Rattle.mcal_base.proofs.ExpiryLaws.{expiries-reached}
 use Rattle.timer_laws.specs.Expiries.{ExpiresBetween}

@@ -1,8 +1,8 @@
 -- A script that was read has numbers of 32 bits.
-use Rattle.std.proofs.Common.{◌≡◌, ℕ, ◌+◌, ◌==◌, ◌≤◌, Bool, true, false, List, [], ◌∷◌, length, inl, inr, sym, subst, arith}
-use Rattle.std.specs.Prelude.{Ok, if◌then◌else◌}
+use Rattle.std.proofs.Common.{◌≡◌, ℕ, ◌+◌, ◌==◌, ◌≤◌, List, [], ◌∷◌, length, inl, inr, sym, subst, arith}
+use Rattle.std.specs.Prelude.{Ok}
 use Rattle.std.specs.List.{slice_split}
-use Rattle.std.specs.Str.Lines.{lines, lines_of_parts}
+use Rattle.std.specs.Str.Lines.{lines}
 use Rattle.std.proofs.lemmas.List.Splits.{length-slice_split}
 use Rattle.std.proofs.lemmas.List.Sums.{count_by-le-length}
 use Rattle.mcal_base.specs.declared.directive.Directive.{Directive}
@@ -11,6 +11,7 @@ use Rattle.mcal_base.specs.declared.directive.Order.TheVariants.{Enter, Serve}
 use Rattle.bench_script.proofs.Whole.{script_is}
 use Rattle.bench_script.specs.Productions.{HoldsOrder, HoldDirectives}
 use Rattle.bench_script.specs.Script.{script}
+use Rattle.bench_top.proofs.Scripts.{lines_few}
 use Rattle.trace_laws.specs.Numbers.{OrderFits, DirectiveFits}
 use Rattle.bench_report.specs.Numbers.{Each}
 
@@ -25,15 +26,6 @@ directives_fit n [] (d ∷ ds) le h = absurd h
 directives_fit n (line ∷ ls) ds le (inl h) = directives_fit (n + 1) ls ds (omega (arith, le)) h.1
 directives_fit n (line ∷ ls) ds le (inr h) =
     subst (λ (xs : List Directive). Each DirectiveFits xs) (sym h.2) ((omega (arith, le), order_fits line h.0 h.3), directives_fit (n + 1) ls h.1 (omega (arith, le)) h.4)
-
-last_few : (b : Bool) (x : List ℕ) → length (if b then [] else x ∷ []) ≤ 1
-last_few true x = omega arith
-last_few false x = omega arith
-
-lines_few : (ps : List (List ℕ)) → length (lines_of_parts ps) ≤ length ps
-lines_few [] = omega arith
-lines_few (x ∷ []) = last_few (length x == 0) x
-lines_few (x ∷ y ∷ more) = let ih = lines_few (y ∷ more) in omega (arith, ih)
 
 pub script_fits : (text : List ℕ) (ds : List Directive) → length text ≤ 1048576 → script text ≡ Ok ds → Each DirectiveFits ds
 script_fits text ds few h =

@@ -3,11 +3,13 @@ pub mod Digits
 pub mod Eaches
 pub mod FeedLaws
 pub mod FoundRows
+pub mod Fronts
 pub mod Lengths
 pub mod LineByLine
 pub mod LineLaws
 pub mod NameLaws
 pub mod RegisterLaws
+pub mod Scanning
 pub mod Short
 pub mod Splits
 pub mod Steps

@@ -6,7 +6,7 @@ use Rattle.std.specs.List.{position, position_or_len}
 use Rattle.std.specs.Str.{all_ascii_digits}
 use Rattle.std.proofs.lemmas.Bool.{and_parts}
 use Rattle.std.proofs.lemmas.List.{append-nil, take_at}
-use Rattle.plain_facts.specs.Numbers.{lt_from, lt_itself}
+use Rattle.mcal_base.specs.facts.Numbers.{lt_from, lt_itself}
 use Rattle.det_errors.specs.Spelling.{error_text}
 use Rattle.irq_control.specs.Spelling.{held_text}
 use Rattle.mcal_base.specs.Names.{service_text, answer_text, notice_text}

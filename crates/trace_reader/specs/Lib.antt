@@ -4,5 +4,6 @@ pub mod Numbers
 pub mod Read
 pub mod Reading
 pub mod Registers
+pub mod Scan
 pub mod Told
 pub mod Trace

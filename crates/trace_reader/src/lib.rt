@@ -1,6 +1,7 @@
 //! Reads the report of a traced run back: what each of its lines tells.
 #![tactic(auto)]
 
+mod front;
 mod guess;
 mod laws;
 mod line;
@@ -9,6 +10,7 @@ mod names;
 mod numbers;
 mod read;
 mod registers;
+mod scan;
 mod tally;
 mod told;
 

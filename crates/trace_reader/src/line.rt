@@ -90,19 +90,34 @@ fn reply_of(head: Head, words: &[u32]) -> Reply
     }
 }
 
+/// What the line of a step tells: its depth, its move, the value that this gave, the word that came in, and its event.
+pub(crate) fn told_step(
+    depth: u32,
+    made: Move,
+    value: u32,
+    received: u32,
+    event: Option<Event>,
+) -> Told
+    ensures { result ≡ tells.told (spec.Makes depth made value received event) }
+{
+    Told::Step(Step {
+        depth,
+        made,
+        value: given(made, value),
+        received: incoming(made, received),
+        mark: event.map(mark_of),
+    })
+}
+
 /// What a line tells.
 fn told_by(line: Line<'_>) -> Told
     ensures { result ≡ tells.told (spec.line_of line.entry) }
 {
     match line {
         Line::Holds(cause) => Told::Held(cause),
-        Line::Makes(depth, made, value, received, event) => Told::Step(Step {
-            depth,
-            made,
-            value: given(made, value),
-            received: incoming(made, received),
-            mark: event.map(mark_of),
-        }),
+        Line::Makes(depth, made, value, received, event) => {
+            told_step(depth, made, value, received, event)
+        }
         Line::Waits(ticks) => Told::Waited(ticks),
         Line::Notes(notice) => Told::Noted(notice),
         Line::Errs(found) => Told::Erred(found),

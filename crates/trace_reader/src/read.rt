@@ -8,6 +8,7 @@ ghost use Rattle.trace_reader.specs.declared.read.TraceFault.TheVariants.{NoMemo
 use crate::line::Read;
 use crate::lists::guess;
 use crate::numbers::{number, place_of};
+use crate::scan::step_line;
 use crate::tally::tally_of;
 use crate::told::TraceLine;
 use std::alloc::{AllocError, AllocFailed, Global};
@@ -107,6 +108,9 @@ fn read_words(alloc: Global, words: &[&[u8]], text: &[u8]) -> Result<Option<Trac
 pub fn read_line(alloc: Global, text: &[u8]) -> Result<Option<TraceLine>, AllocError>
     ensures { IfOk result (λ r. r ≡ spec.read_line text.now) }
 {
+    if let Some(line) = step_line(text) {
+        return Ok(Some(line));
+    }
     let words = words(alloc, text)?;
     read_words(alloc, words.as_slice(), text)
 }

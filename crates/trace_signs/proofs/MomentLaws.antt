@@ -3,7 +3,7 @@ use Rattle.std.proofs.Common.{◌≡◌, ℕ, ◌+◌, List, [], ◌∷◌, ◌+
 use Rattle.std.specs.Prelude.{Ok, Err, ◌==◌, flat_map, if◌then◌else◌}
 use Rattle.std.proofs.lemmas.Grind.{flat_map-append}
 use Rattle.std.proofs.lemmas.List.{append-nil, map-append}
-use Rattle.plain_facts.specs.Numbers.{eq_is}
+use Rattle.mcal_base.specs.facts.Numbers.{eq_is}
 use Rattle.mcal_base.specs.declared.directive.Directive.{Directive}
 use Rattle.trace_reader.specs.declared.told.TraceLine.{TraceLine}
 use Rattle.trace_signs.specs.Moments.{first_of, later_of, own_lines, lines_behind, moments_from, moments_of}

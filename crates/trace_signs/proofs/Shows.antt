@@ -4,7 +4,7 @@ use Rattle.std.specs.Prelude.{Ok, Err, ◌==◌, nat_lt, nat_le, flat_map, if◌
 use Rattle.std.proofs.lemmas.Bool.{false≢true, and_parts}
 use Rattle.std.proofs.lemmas.List.{append-nil}
 use Rattle.std.proofs.lemmas.Slice.Eq.{bytes_eq-Decides}
-use Rattle.plain_facts.specs.Numbers.{eq_is}
+use Rattle.mcal_base.specs.facts.Numbers.{eq_is}
 use Rattle.mcal_base.specs.Names.{service_text}
 use Rattle.mcal_base.specs.declared.service.Service.{Service}
 use Rattle.bench_report.specs.declared.frames.Purpose.{Purpose}

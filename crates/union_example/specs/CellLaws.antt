@@ -3,8 +3,8 @@ use Rattle.std.proofs.Common.{◌≡◌, ℕ, ◌+◌, ◌<◌, ◌≤◌, ◌�
 use Rattle.std.specs.Prelude.{slice_index}
 use Rattle.std.proofs.lemmas.Bool.Decides.{nat_tests}
 use Rattle.std.proofs.lemmas.List.{get_or-set_same, get_or_append_left, get_or-take, length-append, length-take-le}
-use Rattle.plain_facts.specs.Options.{some_same}
-use Rattle.plain_facts.specs.Numbers.{eq_is, eq_other, eq_self}
+use Rattle.mcal_base.specs.facts.Options.{some_same}
+use Rattle.mcal_base.specs.facts.Numbers.{eq_is, eq_other, eq_self}
 use Rattle.chip_model.specs.Chip.{Chip, chip_after, value_of, word_of, happened, is_masked, overwritten, source_length}
 use Rattle.chip_model.specs.Histories.{Made, Hardware, WasReset, HasAll, FillsThere, LeavesWord}
 use Rattle.chip_model.proofs.HistoryLaws.{word-left}

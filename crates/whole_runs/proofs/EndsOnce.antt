@@ -5,8 +5,8 @@ use Rattle.std.specs.List.{list_any}
 use Rattle.std.proofs.lemmas.List.Folds.{list_any-append}
 use Rattle.std.proofs.lemmas.List.Sums.{sum_by-cons}
 use Rattle.std.proofs.lemmas.Bool.{or_from, or_parts}
-use Rattle.plain_facts.specs.Truths.{or_false, or_true}
-use Rattle.plain_facts.specs.Numbers.{eq_is, eq_self, eq_turned, same_or_other}
+use Rattle.mcal_base.specs.facts.Truths.{or_false, or_true}
+use Rattle.mcal_base.specs.facts.Numbers.{eq_is, eq_self, eq_turned, same_or_other}
 use Rattle.mcal_base.specs.declared.answer_name.AnswerName.{AnswerName}
 use Rattle.mcal_base.specs.declared.answer_name.AnswerName.TheVariants.{SpiSeqOk, SpiSeqPending}
 use Rattle.mcal_base.specs.declared.error_name.ErrorName.{ErrorName}

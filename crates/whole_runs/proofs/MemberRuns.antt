@@ -1,7 +1,7 @@
 -- A run of a larger machine has a run of each part in it.
 use Rattle.std.proofs.Common.{◌≡◌, ℕ, Bool, true, false, cond, List, [], ◌∷◌, Option, Some, None, refl, sym, ◌∙◌, ap, subst}
 use Rattle.std.specs.Prelude.{is_some, IsSome}
-use Rattle.plain_facts.specs.Options.{some_same}
+use Rattle.mcal_base.specs.facts.Options.{some_same}
 use Rattle.run_model.specs.Frame.{state_by}
 use Rattle.run_model.specs.World.{World}
 use Rattle.run_model.specs.Machine.{Happening, Acts, Serves, Starts, Aborts, Moves, Restarts, Outcome, Machine, outcome, outcome_with, tells_nothing}

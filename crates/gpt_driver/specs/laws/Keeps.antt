@@ -3,7 +3,7 @@
 -- Used by mcal_drivers: proofs/Joining.
 use Rattle.std.proofs.Common.{◌≡◌, ℕ, ◌<◌, ◌≤◌, ◌^◌, ◌%◌, true, false, Option, Some, None, refl, arith}
 use Rattle.std.specs.Prelude.{is_some}
-use Rattle.plain_facts.specs.Truths.{and_first}
+use Rattle.mcal_base.specs.facts.Truths.{and_first}
 use Rattle.gpt_driver.specs.laws.Base.{lt-ltb, le-ltb, nat_tests, has_bit, has_bit-above, Move, EnableSet, EnableClear, TimerTarget, gpt_owns, is_own_word, has_lines, is_for_lines, is_timer, may_name, may_write, owns_written, channel_of, Channel, GptTable, Asked, Load, Read, Store, Write, Reg, driver_of, names_there}
 use Rattle.mcal_base.specs.declared.module_name.ModuleName.TheVariants.{Gpt}
 use Rattle.service_outline.specs.Services.{entering}

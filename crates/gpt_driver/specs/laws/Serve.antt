@@ -3,7 +3,7 @@
 -- Used by service/serve/rt, Lawful.
 use Rattle.std.proofs.Common.{◌≡◌, ℕ, ◌<◌, Bool, true, false, ◌&&◌, ◌==◌, not, nat_lt, Option, Some, None, refl, sym, ◌∙◌, ap, subst, arith}
 use Rattle.std.specs.Prelude.{if◌then◌else◌}
-use Rattle.plain_facts.specs.Numbers.{eq_self}
+use Rattle.mcal_base.specs.facts.Numbers.{eq_self}
 use Rattle.gpt_driver.specs.laws.Base.{lt-ltb, or_right, false_from_ne_true, Chip, Timers, timer_at, acted, expired_between, flags_of, has_bit, Serve, Move, Notice, TimerFlags, World, Told, no_answer, outcome, Origin, Entered, missed_after, Epilogue, Nothing, One, BodyTaken, Done, goes, ends, never_clean, Shortens, Bodies, Happens, AreRight, StepsTo, Serving, Is_serving, Served, Is_served, Lag, settled, none, only, behind, TheState, SwitchesOf, state_word, GptRepresents, gpt_ground, gpt_setting, GptState, channel_at, Mode, Off, is_off, is_asleep, is_marked, with_channel, notes, served, served_by, wakes, notifies, gpt_machine, channel_of, bit, switches_word, packed, switches_of, Call, GptTable, Switches, STATE, Unflags, Load, Read, Store, Write, either_way, on_later, timed, AllGood, all_right}
 use Rattle.mcal_base.specs.declared.notice.NoticeKind.{NoticeKind}
 use Rattle.mcal_base.specs.declared.notice.NoticeKind.TheVariants.{GptNotification, EcuMCheckWakeup}

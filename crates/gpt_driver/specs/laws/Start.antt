@@ -3,7 +3,7 @@
 -- Used by service/start/rt, Lawful.
 use Rattle.std.proofs.Common.{◌≡◌, ℕ, ◌<◌, ◌≤◌, ◌^◌, Bool, true, false, ◌||◌, ◌==◌, Option, Some, None, cond, refl, sym, ◌∙◌, ap, subst, arith}
 use Rattle.std.specs.Prelude.{if◌then◌else◌}
-use Rattle.plain_facts.specs.Numbers.{eq_self}
+use Rattle.mcal_base.specs.facts.Numbers.{eq_self}
 use Rattle.gpt_driver.specs.laws.Base.{ne_eqb, lt-ltb, Chip, Timers, timer_at, is_flagged, expired_between, gate_set, running_of, Since, Timer, timer_at-acted_on, timer_at-with_timer_same, has_bit-running_of, has_bit, bits_of, has_bit-bits_of, GptBusy, Act, Move, TimerTarget, TimerPrescaler, TimerOneShot, TimerGateSet, TimerFlags, TimerRun, World, Told, no_answer, tells_nothing, Origin, Called, missed_after, Nothing, BodyTaken, Cleans, goes, acts_on, ends, owed_error, Shortens, Bodies, AreRight, StepsTo, Before, Is_before, After, Is_after, error_by, Lag, settled, none, only, open_at, behind, IsSet, TimerAgrees, TargetOf, GptRepresents, gpt_ground, GptState, channel_at, Timing, Course, Running, is_off, is_asleep, target_of, prescaler_of, runs, started, reporting, gpt_machine, channel_of, one_shot_of, is_one_shot, bit, target_word, Call, OfChannel, StartTimer, Channel, GptTable, Unflags, Opens, Read, Store, Write, either_way, on_later, timed, AllGood, all_right, acts_so, finds_busy}
 use Rattle.mcal_base.specs.declared.service.Service.TheVariants.{GptStartTimer}
 use Rattle.gpt_driver.specs.declared.service.start.Start.{Start}

@@ -3,7 +3,7 @@
 -- Used by Mode, service/stop/rt, Lawful.
 use Rattle.std.proofs.Common.{◌≡◌, ℕ, ◌<◌, Bool, true, false, Option, Some, None, refl, sym, ◌∙◌, ap, subst, arith}
 use Rattle.std.specs.Prelude.{if◌then◌else◌}
-use Rattle.plain_facts.specs.Numbers.{eq_self}
+use Rattle.mcal_base.specs.facts.Numbers.{eq_self}
 use Rattle.gpt_driver.specs.laws.Base.{ne_eqb, Chip, Timers, timer_at, acted, acting, counter, is_flagged, expired_between, flag_clear, Still, Timer, timer_at-acted_on, has_bit, Act, Move, TimerGateClear, TimerFlags, World, Told, no_answer, tells_nothing, Origin, Nothing, BodyTaken, acts_on, ends, never_clean, Shortens, Bodies, AreRight, Before, Is_before, After, Is_after, Lag, settled, none, only, open_at, TimerAgrees, GptRepresents, gpt_ground, GptState, channel_at, Timing, Stopped, elapsed, target_of, runs, runs_at, is_marked, stopped, with_channel, channel_of, one_shot_of, bit, Call, OfChannel, StopTimer, Channel, GptTable, Unflags, Shuts, Write, MayRun, steady, AllGood, all_right, acts_so}
 use Rattle.gpt_driver.specs.declared.service.stop.StopBody.{StopBody}
 use Rattle.gpt_driver.specs.declared.service.stop.StopBody.TheVariants.{OneShot, Continuous, Flag}

@@ -3,7 +3,7 @@
 use Rattle.std.proofs.Common.{◌≡◌, ℕ, zero, suc, ◌<◌, ◌≢◌, Bool, true, false, ◌==◌, nat_lt, Option, None, refl, ◌∙◌, ap, arith}
 use Rattle.std.specs.Prelude.{if◌then◌else◌, is_some, slice_index_or}
 use Rattle.std.proofs.lemmas.Bool.{ltb-true}
-use Rattle.plain_facts.specs.Numbers.{eq_other, eq_self}
+use Rattle.mcal_base.specs.facts.Numbers.{eq_other, eq_self}
 use Rattle.gpt_machine.specs.Machine.{Timing, GptState, table, untouched, channel_at, with_channel}
 use Rattle.gpt_machine.specs.Table.{channel_of}
 use Rattle.gpt_machine.specs.declared.table.Channel.{Channel}

@@ -3,7 +3,7 @@
 -- Used by RefinementRight, Measure.
 use Rattle.std.proofs.Common.{◌≡◌, ℕ, ◌+◌, ◌<◌, false, List, [], Option, Some, None, refl, sym, ◌∙◌, ap, subst, arith}
 use Rattle.std.specs.Prelude.{is_some}
-use Rattle.plain_facts.specs.Truths.{off_on}
+use Rattle.mcal_base.specs.facts.Truths.{off_on}
 use Rattle.chip_captures.specs.Captures.{captures_fresh, capture_at as chip_capture, closed}
 use Rattle.chip_model.specs.Chip.{Chip, word_of, reset_chip}
 use Rattle.chip_model.proofs.WordLaws.{slice_index-blank}

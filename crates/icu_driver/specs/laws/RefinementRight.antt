@@ -5,7 +5,7 @@ use Rattle.std.proofs.Common.{◌≡◌, ℕ, suc, ◌+◌, ◌-◌, ◌/◌, �
 use Rattle.std.specs.Prelude.{is_some, IsSome, if◌then◌else◌}
 use Rattle.std.proofs.lemmas.Bool.Decides.{nat_tests}
 use Rattle.std.proofs.lemmas.Bool.{and_parts, or_left, or_right}
-use Rattle.plain_facts.specs.Truths.{clear_apart, set_apart}
+use Rattle.mcal_base.specs.facts.Truths.{clear_apart, set_apart}
 use Rattle.chip_captures.specs.Captures.{capture_at as chip_capture, is_waiting}
 use Rattle.chip_captures.specs.declared.capture.Edge as chip_edges
 use Rattle.chip_model.specs.Chip.{Chip, chip_after, after_read, is_pending}

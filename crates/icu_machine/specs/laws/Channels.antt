@@ -2,7 +2,7 @@
 -- Used by audit_captures: proofs/ModuleLaws, icu_driver: DeInit, icu_driver: Steady, icu_driver: Init and 24 more.
 use Rattle.std.proofs.Common.{◌≡◌, ℕ, zero, suc, ◌<◌, Bool, true, false, refl, arith, ◌≢◌, ◌==◌, ◌∙◌, ap}
 use Rattle.std.specs.Prelude.{if◌then◌else◌, slice_index_or}
-use Rattle.plain_facts.specs.Numbers.{eq_other, eq_self}
+use Rattle.mcal_base.specs.facts.Numbers.{eq_other, eq_self}
 use Rattle.icu_machine.specs.Machine.{Capture, by_channel, untouched, capture_at, IcuState, with_capture}
 
 -- a fact about each of the eight channels

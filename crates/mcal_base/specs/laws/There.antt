@@ -2,7 +2,7 @@
 -- Used by wdg_driver: Ground, icu_driver: RefinementRight, gpt_driver: RefinementRight.
 use Rattle.std.proofs.Common.{◌≡◌, ℕ, ◌<◌, nat_lt, true, ◌&&◌, arith}
 use Rattle.std.proofs.lemmas.Bool.Decides.{nat_tests}
-use Rattle.plain_facts.specs.Numbers.{lt_is}
+use Rattle.mcal_base.specs.facts.Numbers.{lt_is}
 use Rattle.mcal_base.specs.Reach.{IsThere, CanApply}
 use Rattle.mcal_base.specs.declared.TheConstants.{WORDS}
 use Rattle.mcal_base.specs.declared.register.Reg.{Reg}

@@ -1,7 +1,7 @@
 -- A change of a level within so many units of time, against the time at which it comes.
 -- Used by pwm_driver: Flags, proofs/StayLaws, proofs/laws/changes_by_times/Answers, Relation.
 use Rattle.std.proofs.Common.{◌≡◌, ◌+◌, ◌-◌, ◌<◌, ◌||◌, ◌⊎◌, ◌∙◌, ap, arith, Bool, false, inl, inr, refl, suc, sym, true, zero, ℕ}
-use Rattle.plain_facts.specs.Truths.{or_true}
+use Rattle.mcal_base.specs.facts.Truths.{or_true}
 use Rattle.pwm_machine.specs.declared.call.PwmEdge.{PwmEdge}
 use Rattle.pwm_machine.specs.Output.{turns, turns_between, turns_within}
 use Rattle.pwm_machine.specs.Runs.{TurnsBetween}

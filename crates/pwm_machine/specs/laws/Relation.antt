@@ -10,7 +10,7 @@ use Rattle.pwm_machine.specs.Output.{GivesWay, Idle, level_of, Output, period_en
 use Rattle.std.proofs.Math.Nat.{mod-le, mod-lt}
 use Rattle.std.proofs.lemmas.Bool.Decides.{nat_tests}
 use Rattle.chip_pulses.specs.Regime.{next_of, period_begin, regime_at, turn_of, turns_to}
-use Rattle.plain_facts.specs.Numbers.{positive}
+use Rattle.mcal_base.specs.facts.Numbers.{positive}
 use Rattle.pwm_machine.specs.declared.call.PwmEdge.{PwmEdge}
 use Rattle.chip_pulses.specs.declared.regime.Commit.{Commit}
 use Rattle.pwm_machine.specs.laws.Changes.{times_of, of_times}

@@ -20,7 +20,7 @@ use Rattle.run_model.specs.Causes.{blocks, may_reenter, all_below}
 use Rattle.run_model.specs.Moment.{Setting, call_tag, line_tag}
 use Rattle.std.specs.List.{list_any, list_all}
 use Rattle.std.proofs.lemmas.Bool.{not-true}
-use Rattle.plain_facts.specs.Truths.{and_first, and_second}
+use Rattle.mcal_base.specs.facts.Truths.{and_first, and_second}
 use Rattle.step_runner.specs.Driver.{IsLawful, IsFree, AllOutside, tags_in, origins_in}
 use Rattle.service_outline.specs.declared.done.Epilogue.{Epilogue}
 use Rattle.service_outline.specs.declared.done.Epilogue.TheVariants.{Nothing, Error, One, Two}

@@ -17,8 +17,8 @@ use Rattle.run_model.specs.Frame.{Origin, Called, Entered, Owing, ActedAt, Open,
 use Rattle.run_model.specs.Legal.{is_beside_act, WindowRight, has_line, MayEnd, LeavesNone, AllMade, MadeUnless, HasMade}
 use Rattle.std.specs.List.{list_all}
 use Rattle.std.proofs.lemmas.Bool.{and_from, or_left, or_right}
-use Rattle.plain_facts.specs.Truths.{and_first, and_second}
-use Rattle.plain_facts.specs.Numbers.{eq_is}
+use Rattle.mcal_base.specs.facts.Truths.{and_first, and_second}
+use Rattle.mcal_base.specs.facts.Numbers.{eq_is}
 use Rattle.step_runner.specs.Driver.{most_steps, KeepsStep, stepped, ComesRight}
 use Rattle.service_outline.specs.declared.done.Epilogue.{Epilogue}
 use Rattle.service_outline.specs.declared.done.Epilogue.TheVariants.{Nothing, Error, One, Two}

@@ -4,8 +4,8 @@
 use Rattle.std.proofs.Common.{◌≡◌, ℕ, ◌+◌, ◌<◌, ◌≤◌, ◌≢◌, ◌==◌, nat_lt, Bool, true, false, length, refl, sym, ◌∙◌, ap, subst, arith}
 use Rattle.std.specs.Prelude.{if◌then◌else◌}
 use Rattle.std.proofs.lemmas.Bool.Decides.{nat_tests}
-use Rattle.plain_facts.specs.Truths.{if_false, if_true}
-use Rattle.plain_facts.specs.Numbers.{eq_is, eq_isnt}
+use Rattle.mcal_base.specs.facts.Truths.{if_false, if_true}
+use Rattle.mcal_base.specs.facts.Numbers.{eq_is, eq_isnt}
 use Rattle.chip_model.specs.Chip.{Chip, chip_after, word_of}
 use Rattle.mcal_base.specs.declared.TheConstants.{WORDS}
 use Rattle.mcal_base.specs.declared.moves.Move.TheVariants.{Store}

@@ -3,7 +3,7 @@
 -- Used by held_example: ToyLaws.
 use Rattle.std.proofs.Common.{◌≡◌, ℕ, ◌+◌, ◌-◌, ◌<◌, ◌≤◌, Bool, true, false, ◌||◌, nat_lt, List, None, refl, sym, subst, arith}
 use Rattle.std.specs.Prelude.{if◌then◌else◌}
-use Rattle.plain_facts.specs.Numbers.{lt_is}
+use Rattle.mcal_base.specs.facts.Numbers.{lt_is}
 use Rattle.chip_model.specs.Chip.{Chip, value_of, chip_after, happened, is_masked}
 use Rattle.mcal_base.specs.declared.directive.Order.{Order}
 use Rattle.mcal_base.specs.declared.moves.Move.{Move}

@@ -9,7 +9,7 @@ use Terms.{StructureOp, subst, sym, true, WindowWrite, WriteBatch, ℕ}
 use Rattle.adc_driver.specs.laws.bookkeeping.Decreases.{is_inner, place_lowers}
 use Rattle.adc_driver.specs.laws.bookkeeping.Rank.{bodies, body_fuel, cost, then_cost}
 use Rattle.adc_groups.specs.declared.making.Continuation.TheVariants as thens
-use Rattle.plain_facts.specs.Truths.{or_true}
+use Rattle.mcal_base.specs.facts.Truths.{or_true}
 
 -- ---- moves that are owed
 

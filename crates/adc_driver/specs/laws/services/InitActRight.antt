@@ -13,7 +13,7 @@ use Terms.{stored_same, subst, suc, trio_past, true, unit_word, UnitAgrees, wait
 use Terms.{World, zero, ℕ}
 use Rattle.adc_driver.specs.laws.services.InitWords.{clearing, off_quiet}
 use Rattle.adc_groups.specs.declared.words.Word.TheVariants as words
-use Rattle.plain_facts.specs.Truths.{and_false}
+use Rattle.mcal_base.specs.facts.Truths.{and_false}
 
 -- all lines of the module are enabled
 abbrev pub AreOn : (enabled : ℕ) → Type 0

@@ -11,7 +11,7 @@ use Terms.{STATE, Store, stored_other, stored_same, subst, sym, trio_apart, trio
 use Terms.{and_from, word_number, word_of, WORDS, words_below, World, ℕ}
 use Rattle.adc_groups.specs.declared.words.Word.TheVariants.{Phase}
 use Rattle.adc_machine.specs.declared.call.Call.TheVariants as calls
-use Rattle.plain_facts.specs.Numbers.{lt_from}
+use Rattle.mcal_base.specs.facts.Numbers.{lt_from}
 
 -- ---- the moves
 

@@ -9,7 +9,7 @@ use Terms.{length, level_in, List, nat_lt, nat_tests, None, object_count, Option
 use Terms.{slice_get_within, slice_index_or, Software, Some, start_in, subst, suc, sum_by, sum_by-cons, sum_by-le, sym}
 use Terms.{table_of, taken, trigger_input, true, unit_level, words_for, zero, ℕ}
 use Rattle.adc_machine.specs.Table.{group_in}
-use Rattle.plain_facts.specs.Options.{some_is}
+use Rattle.mcal_base.specs.facts.Options.{some_is}
 
 -- ---- a sound configuration
 

@@ -7,8 +7,8 @@ use Terms.{group_at, group_of, inl, inr, is_finished, is_handler, is_on, is_outr
 use Terms.{list_any, nat_lt, next_group, next_is, None, none_is, not, Option, Origin, priority_of, Promised}
 use Terms.{rank_of, refl, Reservations, Round, round_at, Some, some_hold, starts, starts_by, starts_on, sym, true}
 use Terms.{or_right, waits_for, will_yield, World, ℕ}
-use Rattle.plain_facts.specs.Numbers.{eq_other, same_or_other}
-use Rattle.plain_facts.specs.Truths.{and_false}
+use Rattle.mcal_base.specs.facts.Numbers.{eq_other, same_or_other}
+use Rattle.mcal_base.specs.facts.Truths.{and_false}
 
 any_same : (p q : ℕ → Bool) → ((h : ℕ) → p h ≡ q h) → (gs : List ℕ) → list_any p gs ≡ list_any q gs
 any_same p q same [] = refl

@@ -28,7 +28,7 @@ use Rattle.chip_converter.specs.Rounds as rounds
 use Rattle.mcal_base.specs.declared.directive.Order.TheVariants as orders
 use Rattle.mcal_base.specs.declared.moves.Unit as units
 use Rattle.adc_machine.specs.declared.table.Group as configured
-use Rattle.plain_facts.specs.Numbers.{eq_self}
+use Rattle.mcal_base.specs.facts.Numbers.{eq_self}
 
 -- ---- lines
 

@@ -18,7 +18,7 @@ use Rattle.adc_groups.specs.laws.hardware.PendingWritesStable.{done_later, sound
 use Rattle.adc_groups.specs.laws.hardware.PendingWritesStable.{aborted_list, acknowledged_list, unkept_same}
 use Rattle.chip_converter.specs.Converters as chips
 use Rattle.mcal_base.specs.declared.directive.Order.TheVariants as orders
-use Rattle.plain_facts.specs.Truths.{set_apart}
+use Rattle.mcal_base.specs.facts.Truths.{set_apart}
 
 -- ---- what the hardware leaves of the block
 

@@ -17,7 +17,7 @@ use Rattle.chip_converter.specs.Converters as chips
 use Rattle.chip_converter.specs.Rounds as rounds
 use Rattle.mcal_base.specs.declared.directive.Order.TheVariants as orders
 use Rattle.std.proofs.lemmas.Bool.{and_right}
-use Rattle.plain_facts.specs.Truths.{and_first}
+use Rattle.mcal_base.specs.facts.Truths.{and_first}
 
 -- ---- levels and samples
 

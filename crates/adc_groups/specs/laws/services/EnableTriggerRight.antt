@@ -34,8 +34,8 @@ use Rattle.mcal_base.specs.declared.service.Service.TheVariants as services
 use Rattle.adc_machine.specs.declared.call.Call.TheVariants as calls
 use Rattle.adc_machine.specs.declared.table.Group as configured
 use Rattle.adc_groups.specs.declared.words.Word.TheVariants as words
-use Rattle.plain_facts.specs.Numbers.{eq_self, same_or_other}
-use Rattle.plain_facts.specs.Truths.{set_apart}
+use Rattle.mcal_base.specs.facts.Numbers.{eq_self, same_or_other}
+use Rattle.mcal_base.specs.facts.Truths.{set_apart}
 
 -- ---- Adc_EnableHardwareTrigger
 

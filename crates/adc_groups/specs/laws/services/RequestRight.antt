@@ -40,7 +40,7 @@ use Rattle.adc_machine.specs.declared.table.Group as configured
 use Rattle.adc_groups.specs.declared.making.StructureOp.TheVariants as shapes
 use Rattle.adc_groups.specs.declared.window.Window.TheVariants as windows
 use Rattle.adc_groups.specs.declared.words.Word.TheVariants as words
-use Rattle.plain_facts.specs.Numbers.{eq_self, same_or_other}
+use Rattle.mcal_base.specs.facts.Numbers.{eq_self, same_or_other}
 
 -- ---- groups of a changed state
 

@@ -19,7 +19,7 @@ use Rattle.adc_groups.specs.laws.{services.YieldRight.{drop_starts, drop_yields,
 use Rattle.word_shapes.specs.Playing as playing
 use Rattle.word_shapes.specs.declared.search.Search.TheVariants as searches
 use Rattle.adc_groups.specs.declared.window.Window.TheVariants as windows
-use Rattle.plain_facts.specs.Truths.{and_false}
+use Rattle.mcal_base.specs.facts.Truths.{and_false}
 
 none_ends : (q : Option Answer) (left : Option Done) → q ≡ None → ended_by q left ≡ None
 none_ends None left e = refl

@@ -23,7 +23,7 @@ use Rattle.adc_machine.specs.declared.call.Call.TheVariants as calls
 use Rattle.adc_machine.specs.declared.table.Group as configured
 use Rattle.adc_groups.specs.declared.words.Word.TheVariants as words
 use Rattle.mcal_base.specs.declared.moves.Event.TheVariants as events
-use Rattle.plain_facts.specs.Numbers.{eq_is}
+use Rattle.mcal_base.specs.facts.Numbers.{eq_is}
 
 module _ (d : AdcTable) (fits : FitsAdc d) (f r : AdcBody → ℕ) (below : Reservations) (chip : Chip) (w : World) (s : AdcState) (h : Agrees d below chip w s) (m : ℕ → Bool) (y : ℕ) (g : ℕ) (K : Place) (k v : ℕ) (ends : place_ends K ≡ None) where
   -- ---- stops

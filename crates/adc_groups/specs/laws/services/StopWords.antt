@@ -24,7 +24,7 @@ use Rattle.adc_groups.specs.laws.{services.RequestRight.{past_untouched, other_a
 use Rattle.adc_groups.specs.laws.{words.StructureParts.{lows_set, units_set, AllOf, own_named, deeds_unit, deeds_whole}}
 use Rattle.chip_converter.specs.Converters as chips
 use Rattle.adc_groups.specs.declared.words.Word.TheVariants as words
-use Rattle.plain_facts.specs.Truths.{or_true}
+use Rattle.mcal_base.specs.facts.Truths.{or_true}
 
 -- ---- the state
 

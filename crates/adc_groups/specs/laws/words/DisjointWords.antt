@@ -6,7 +6,7 @@ use Terms.{AdcTable, ap, arith, Bool, cases_lt, end_of, false, FitsAdc, Group, g
 use Terms.{inr, is_some, kept_word, length, nat_tests, None, Option, own_of, refl, result_word, ResultBuffer, rounds_of}
 use Terms.{Some, start_of, STATE, sym, trio_of, true, ℕ}
 use Rattle.adc_machine.specs.declared.call.ResultBuffer.TheVariants as buffers
-use Rattle.plain_facts.specs.Numbers.{same_or_other}
+use Rattle.mcal_base.specs.facts.Numbers.{same_or_other}
 
 module _ (d : AdcTable) (fits : FitsAdc d) where
   -- the first word of a group and the one after its last, of one that is there

@@ -7,7 +7,7 @@ use Terms.{inl, inr, is_on, is_some, is_there, is_there-append, is_there-waiting
 use Terms.{nat_tests, number-waiting, number_at, or_false, or_right, refl, same_or_other, slice_get, Some, subst, suc}
 use Terms.{and_parts, or_left, sym, true, waiting, with_wait, zero, ℕ}
 use Rattle.word_shapes.specs.Order.{without}
-use Rattle.plain_facts.specs.Truths.{and_second}
+use Rattle.mcal_base.specs.facts.Truths.{and_second}
 
 -- ---- lists
 

@@ -13,7 +13,7 @@ use Rattle.adc_serving.specs.laws.services.CopyRight.{filler, fills_value, fills
 use Rattle.adc_serving.specs.laws.services.CopyRight.{kept_value, result_value}
 use Rattle.adc_stream.specs.declared.copying.Copied.TheVariants as copied
 use Rattle.adc_groups.specs.declared.outside.Outside.TheVariants as outsides
-use Rattle.plain_facts.specs.Numbers.{lt_isnt}
+use Rattle.mcal_base.specs.facts.Numbers.{lt_isnt}
 
 module _ (d : AdcTable) (fits : FitsAdc d) (f r : AdcBody → ℕ) (below : Reservations) (chip : Chip) (w : World) (s : AdcState) (m : ℕ → Bool) (y : ℕ) (t : Taken) (e i : ℕ) where
   abbrev copying_at : ℕ → Option ℕ → Copying

@@ -41,7 +41,7 @@ use Rattle.chip_converter.specs.Converters as chips
 use Rattle.word_shapes.specs.PriorityQueue as ranked
 use Rattle.adc_groups.specs.declared.making.WindowWrite.TheVariants as deeds
 use Rattle.adc_groups.specs.declared.words.Word.TheVariants as words
-use Rattle.plain_facts.specs.Truths.{and_false, and_true}
+use Rattle.mcal_base.specs.facts.Truths.{and_false, and_true}
 
 module _ (d : AdcTable) (fits : FitsAdc d) (below : Reservations) (chip : Chip) (w : World) (s : AdcState) (u g : ℕ) (b : Bank) (few : u < 2) (alone : IsAlone (24 + u) below) (x : Round) (is : round_at s u ≡ Some x) (h : Agrees d (claiming u (Full u g b) below) chip w s) where
   abbrev before : Reservations

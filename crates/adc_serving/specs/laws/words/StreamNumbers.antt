@@ -7,7 +7,7 @@ use Terms.{lt_is, lt_isnt, min, mod-eq_of_lt, mod-lt, mod_self, nat_le, nat_lt, 
 use Terms.{phase_number, phase_of, phase_on, refl, samples_of, Status, status_after, StreamCompleted, subst, suc}
 use Terms.{suc-mod, sym, true, ℕ}
 use Rattle.adc_groups.specs.declared.words.Phase.TheVariants as phases
-use Rattle.plain_facts.specs.Numbers.{eq_from}
+use Rattle.mcal_base.specs.facts.Numbers.{eq_from}
 
 pub count_after : (n m : ℕ) → one_more (min n m) m ≡ min (n + 1) m
 count_after n m = by (nat_lt (min n m) m) refl

@@ -20,7 +20,7 @@ use Rattle.word_shapes.specs.PriorityQueue as ranked
 use Rattle.adc_machine.specs.declared.call.ResultBuffer.TheVariants as buffers
 use Rattle.adc_groups.specs.declared.window.Window.TheVariants as windows
 use Rattle.adc_groups.specs.declared.words.Word.TheVariants as words
-use Rattle.plain_facts.specs.Truths.{and_false, and_first}
+use Rattle.mcal_base.specs.facts.Truths.{and_false, and_first}
 use Rattle.std.proofs.lemmas.Bool.{not-true, or_right}
 
 -- ---- claims

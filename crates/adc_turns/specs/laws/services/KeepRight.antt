@@ -19,7 +19,7 @@ use Rattle.chip_converter.specs.Converters as chips
 use Rattle.adc_groups.specs.declared.making.Continuation.TheVariants as thens
 use Rattle.adc_groups.specs.declared.window.Window.TheVariants as windows
 use Rattle.adc_groups.specs.declared.words.Word.TheVariants as words
-use Rattle.plain_facts.specs.Truths.{and_first}
+use Rattle.mcal_base.specs.facts.Truths.{and_first}
 use Rattle.std.proofs.lemmas.Bool.{not-true, or_parts}
 
 -- a word that keeps values is of that group, or the claim was lost

@@ -26,8 +26,8 @@ use Rattle.adc_groups.specs.declared.making.StructureOp.TheVariants as shapes
 use Rattle.adc_groups.specs.declared.window.Window.TheVariants as windows
 use Rattle.adc_groups.specs.declared.words.Word.TheVariants as words
 use Rattle.std.proofs.lemmas.Bool.{not-false}
-use Rattle.plain_facts.specs.Truths.{and_first}
-use Rattle.plain_facts.specs.Numbers.{eq_self}
+use Rattle.mcal_base.specs.facts.Truths.{and_first}
+use Rattle.mcal_base.specs.facts.Numbers.{eq_self}
 
 some_ahead : (left : ℕ) (c : Bool) → 0 < moves_ahead left c
 some_ahead left true = omega arith

@@ -27,7 +27,7 @@ use Rattle.word_shapes.specs.Playing as playing
 use Rattle.adc_groups.specs.declared.making.StructureOp.TheVariants as shapes
 use Rattle.adc_groups.specs.declared.window.Window.TheVariants as windows
 use Rattle.adc_groups.specs.declared.words.Word.TheVariants as words
-use Rattle.plain_facts.specs.Numbers.{same_or_other}
+use Rattle.mcal_base.specs.facts.Numbers.{same_or_other}
 
 test_le : (m n : ℕ) → m ≤ n → nat_le m n ≡ true
 test_le m n le = grind (arith, nat_tests)

@@ -26,7 +26,7 @@ use Rattle.chip_converter.specs.Rounds as rounds
 use Rattle.adc_machine.specs.declared.table.Group as configured
 use Rattle.adc_groups.specs.declared.window.Window.TheVariants as windows
 use Rattle.adc_groups.specs.declared.words.Word.TheVariants as words
-use Rattle.plain_facts.specs.Numbers.{lt_since}
+use Rattle.mcal_base.specs.facts.Numbers.{lt_since}
 use Rattle.std.proofs.lemmas.Bool.{not-false, or_parts}
 
 -- a word behind a unit's five isn't one that is stored ahead

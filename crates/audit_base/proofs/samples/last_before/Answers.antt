@@ -1,5 +1,5 @@
 use Rattle.std.proofs.Common.{ap, arith, cond, get_or, sym, take, ◌-◌, ◌∙◌}
-use Rattle.plain_facts.specs.Numbers.{lt_from, lt_since}
+use Rattle.mcal_base.specs.facts.Numbers.{lt_from, lt_since}
 use Rattle.audit_base.proofs.Last.{level_at}
 use Rattle.audit_base.specs.Inputs.{level_before}
 use Rattle.audit_base.specs.declared.samples.Taken.{Taken}

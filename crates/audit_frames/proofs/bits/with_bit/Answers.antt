@@ -2,7 +2,7 @@
 use Rattle.std.proofs.Common.{sym, ◌∙◌, ap, ◌^◌}
 use Rattle.std.specs.Prelude.{bit_or, if◌then◌else◌}
 use Rattle.std.proofs.lemmas.Nat.{one_shl}
-use Rattle.plain_facts.specs.Numbers.{lt_from, lt_since}
+use Rattle.mcal_base.specs.facts.Numbers.{lt_from, lt_since}
 use Rattle.audit_frames.proofs.bits.with_bit.Goals as goal
 
 pub returns-then-number-lt64 : goal.returns-then-number-lt64

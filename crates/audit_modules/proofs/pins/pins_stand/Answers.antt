@@ -1,5 +1,5 @@
 use Rattle.std.proofs.Common.{sym, ◌∙◌}
-use Rattle.plain_facts.specs.Truths.{on_off}
+use Rattle.mcal_base.specs.facts.Truths.{on_off}
 use Rattle.audit_frames.proofs.Deciding.{yes}
 use Rattle.audit_modules.proofs.Joining.{unless}
 use Rattle.audit_modules.proofs.pins.pins_stand.Goals as goal

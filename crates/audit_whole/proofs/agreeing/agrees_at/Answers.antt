@@ -7,7 +7,7 @@ use Rattle.audit_machines.specs.System.{Tables}
 use Rattle.audit_modules.specs.Agrees.{Shows}
 use Rattle.audit_subject.specs.Origins.{origin_of}
 use Rattle.audit_whole.specs.Whole.{module_by}
-use Rattle.audit_whole.proofs.Joins.{shows_from, shows_to}
+use Rattle.audit_whole.specs.laws.Joins.{shows_from, shows_to}
 use Rattle.audit_whole.proofs.agreeing.agrees_at.Goals as goal
 
 pub returns-in-Call : goal.returns-in-Call

@@ -1,7 +1,7 @@
 use Rattle.spi_machine.specs.declared.table.SpiTable.{SpiTable}
 use Rattle.audit_frames.proofs.Deciding.{worded}
 use Rattle.audit_machines.specs.System.{Tables}
-use Rattle.audit_whole.proofs.Joins.{rest_from, rest_to}
+use Rattle.audit_whole.specs.laws.Joins.{rest_from, rest_to}
 use Rattle.audit_whole.proofs.agreeing.agrees_at_rest.Goals as goal
 
 pub returns : goal.returns

@@ -6,7 +6,7 @@ use Rattle.audit_machines.specs.System.{Tables}
 use Rattle.audit_modules.proofs.Below.{fails}
 use Rattle.audit_subject.specs.Origins.{origin_of}
 use Rattle.audit_whole.specs.Whole.{AnyCall, keeps_pins_busy}
-use Rattle.audit_whole.proofs.Joins.{any_map, open_arrays, open_outputs, open_to}
+use Rattle.audit_whole.specs.laws.Joins.{any_map, open_arrays, open_outputs, open_to}
 use Rattle.audit_whole.proofs.agreeing.agrees_open.Goals as goal
 
 pub returns-then-not-outputs_stand : goal.returns-then-not-outputs_stand

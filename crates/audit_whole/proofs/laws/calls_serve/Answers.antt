@@ -1,4 +1,4 @@
-use Rattle.audit_whole.proofs.ServiceLaws.{serves}
+use Rattle.audit_whole.specs.laws.Services.{serves}
 use Rattle.audit_whole.proofs.laws.calls_serve.Goals as goal
 
 pub returns : goal.returns

@@ -1,4 +1,4 @@
-use Rattle.audit_whole.proofs.Limits.{few_channels}
+use Rattle.audit_whole.specs.laws.Places.{few_channels}
 use Rattle.audit_whole.proofs.laws.channels_are_few.Goals as goal
 
 pub returns : goal.returns

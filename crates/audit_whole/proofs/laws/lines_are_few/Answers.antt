@@ -1,5 +1,5 @@
 -- Lines of modules are few.
-use Rattle.audit_whole.proofs.LineLaws.{due_below, used_below}
+use Rattle.audit_whole.specs.laws.Lines.{due_below, used_below}
 use Rattle.audit_whole.proofs.laws.lines_are_few.Goals as goal
 
 pub returns : goal.returns

@@ -1,4 +1,4 @@
-use Rattle.audit_whole.proofs.WaitLaws.{any_waits}
+use Rattle.audit_whole.specs.laws.Waits.{any_waits}
 use Rattle.audit_whole.proofs.laws.waits_are_there.Goals as goal
 
 pub returns : goal.returns

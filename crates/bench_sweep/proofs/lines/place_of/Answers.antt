@@ -2,7 +2,7 @@
 use Rattle.std.proofs.Common.{◌≡◌, ℕ, ◌==◌, List, Option, None, Some, sym, arith}
 use Rattle.std.specs.List.{position}
 use Rattle.memchr.specs.Find.{IsFirstByte, is_byte}
-use Rattle.plain_facts.specs.Lists.{first_place, no_place}
+use Rattle.mcal_base.specs.facts.Lists.{first_place, no_place}
 use Rattle.bench_sweep.proofs.lines.place_of.Goals as goal
 
 at_first : (byte : ℕ) (text : List ℕ) (r : Option ℕ) → IsFirstByte (is_byte byte) text r → r ≡ position (λ b. b == byte) text

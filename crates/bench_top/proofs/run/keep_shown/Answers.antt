@@ -1,4 +1,4 @@
-use Rattle.std.proofs.Common.{◌≡◌, ◌<◌, [], length, Option, ◌∙◌, sym, subst}
+use Rattle.std.proofs.Common.{◌≡◌, ◌<◌, [], length, Option, ◌∙◌, refl, sym, subst}
 use Rattle.std.specs.Prelude.{MatchOption, string_bytes}
 use Rattle.std.specs.Option.{IfSome}
 use Rattle.std.proofs.lemmas.Result.{on_ok_weaker}
@@ -29,7 +29,7 @@ returns c =
     let alone = subst (λ (o : Option RestingRun). IfSome o (λ rest. (moment_of run).opens ≡ [])) c.in-Some-at_rest.is c.at_rest.ensures.alone in
     let rests = subst (λ (o : Option RestingRun). MatchOption o (0 < length (moment_of run).opens) (λ rest. rest ≡ resting run)) c.in-Some-at_rest.is c.at_rest.ensures.is in
     let text = string_bytes c.in_ok-shown_text.field-0 in
-    let told = subst (λ (x : RestingRun). text ≡ rows_text c.args.directive.now.line (show_rows x.config (moment_at x).world (moment_at x).state c.in-Some.what)) rests c.in_ok-shown_text.ensures in
+    let told = subst (λ (x : RestingRun). text ≡ rows_text c.args.directive.now.line (show_rows x.config (moment_at x).world (moment_at x).state c.in-Some.what)) rests (c.in_ok-shown_text.ensures (moment_at c.in-Some-at_rest.rest).world (moment_at c.in-Some-at_rest.rest).state refl) in
     λ before same adds kept.
     on_ok_weaker c.push.result (λ put. kept_shown before run c.args.directive.now c.in-Some.what c.args.shown.now c.push.new.self text same adds (sym c.shown_by.ensures ∙ c.in-Some.is)
     alone told put kept) c.push.ensures.put

@@ -1,6 +1,6 @@
 -- A notice of a serving is looked at.
 use Rattle.std.proofs.Common.{not, sym, ◌∙◌, ap}
-use Rattle.plain_facts.specs.Truths.{off_on}
+use Rattle.mcal_base.specs.facts.Truths.{off_on}
 use Rattle.audit_frames.proofs.Deciding.{worded, yes}
 use Rattle.report_auditor.proofs.HearLaws.{not_off}
 use Rattle.report_auditor.proofs.asking.shows_next.Goals as goal

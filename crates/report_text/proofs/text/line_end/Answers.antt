@@ -2,7 +2,7 @@
 use Rattle.std.proofs.Common.{◌≡◌, ℕ, ◌+◌, ◌==◌, List, [], ◌∷◌, Option, None, Some, arith, take, drop}
 use Rattle.std.specs.Prelude.{MatchOption}
 use Rattle.memchr.specs.Find.{IsFirstByte, is_byte}
-use Rattle.plain_facts.specs.Lists.{first_place, no_place}
+use Rattle.mcal_base.specs.facts.Lists.{first_place, no_place}
 use Rattle.trace_reader.specs.Reading.{parts_of}
 use Rattle.trace_reader.proofs.Cuts.{cut_here, cut_nowhere}
 use Rattle.report_text.proofs.text.line_end.Goals as goal

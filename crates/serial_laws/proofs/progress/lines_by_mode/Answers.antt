@@ -1,6 +1,6 @@
 use Rattle.std.proofs.Common.{◌≡◌, ◌&&◌, [], ◌∷◌, ◌∙◌, ap}
 use Rattle.std.specs.Prelude.{if◌then◌else◌}
-use Rattle.plain_facts.specs.Truths.{and_false, and_true}
+use Rattle.mcal_base.specs.facts.Truths.{and_false, and_true}
 use Rattle.spi_machine.specs.Machine.{ready}
 use Rattle.spi_machine.specs.Runs.{after_all}
 use Rattle.spi_machine.specs.State.{is_interrupt, is_polling}

@@ -4,13 +4,13 @@ use Rattle.shown_rows.proofs.Rows.{numbers_more, numbers_all}
 use Rattle.shown_rows.proofs.objects.write_objects.Goals as goal
 
 pub loop-number-preserved : goal.loop-number-preserved
-loop-number-preserved g c =
-    let b = g.R.ShownBoard.board c.args.run.now in
-    c.in_ok-write_object.ensures ∙ numbers_more _ _ c.args.line c.loop-number.number (object_rows b.config b.world b.state c.args.objects) c.loop-number.invariant
+loop-number-preserved g c w s h =
+    let config = g.R.ShownBoard.configured c.args.run.now in
+    c.in_ok-write_object.ensures w s h ∙ numbers_more _ _ c.args.line c.loop-number.number (object_rows config w s c.args.objects) (c.loop-number.invariant w s h)
 
 pub returns : goal.returns
-returns g c =
-    let b = g.R.ShownBoard.board c.args.run.now in
+returns g c w s h =
+    let config = g.R.ShownBoard.configured c.args.run.now in
     let all = c.count-number-end.ensures in
     let end : c.loop-number.number ≡ count c.args.objects = omega (arith, c.loop-number.auto.number-end, c.loop-number-test.false, all) in
-    c.loop-number.invariant ∙ numbers_all _ c.args.line b.config b.world b.state c.args.objects c.loop-number.number end
+    c.loop-number.invariant w s h ∙ numbers_all _ c.args.line config w s c.args.objects c.loop-number.number end

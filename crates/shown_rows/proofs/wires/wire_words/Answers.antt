@@ -7,7 +7,7 @@ use Rattle.shown_rows.proofs.Rows.{wire_values}
 use Rattle.shown_rows.proofs.wires.wire_words.Goals as goal
 
 pub returns : goal.returns
-returns g c =
+returns g c w s h =
     let xs = c.in_ok-words.words.items in
     let end : length xs ≤ c.loop-place.place =
     let over = c.loop-place-test.false in
@@ -16,4 +16,4 @@ returns g c =
     c.loop-place.invariant
     ∙ ap (λ (ys : List Exchange). map (λ (x : Exchange). Pair x.sent x.received) ys) (take_all c.loop-place.place xs end)
     ∙ wire_values xs
-    ∙ ap (λ (ps : List (ℕ × ℕ)). map (λ (p : ℕ × ℕ). Pair p.0 p.1) ps) c.in_ok-words.ensures
+    ∙ ap (λ (ps : List (ℕ × ℕ)). map (λ (p : ℕ × ℕ). Pair p.0 p.1) ps) (c.in_ok-words.ensures w s h)

@@ -20,7 +20,7 @@ use Rattle.spi_machine.specs.declared.call.Call.TheVariants as calls
 use Rattle.spi_sequences.specs.declared.service.request.RequestPlace.TheVariants as request
 use Rattle.spi_sequences.specs.declared.service.request.Requested.TheVariants as requested
 use Rattle.spi_sequences.specs.declared.service.unit.UnitPlace.TheVariants as place
-use Rattle.plain_facts.specs.Numbers.{lt_is}
+use Rattle.mcal_base.specs.facts.Numbers.{lt_is}
 
 -- ---- two sequences have a job in common, as the frame finds it
 

@@ -9,7 +9,7 @@ use Terms.{Job, job_in, job_list, job_of, job_row, jobs_by, jobs_by_number, jobs
 use Terms.{Option, refl, rows, Sequence, sequence_in, sequence_of, sequence_row, sequences_by_number, slice_index_or}
 use Terms.{so_at, Some, some_of, SpiChannel, SpiConfig, SpiJob, SpiSequence, SpiTable, subst, suc, sum_by, sum_by-cons}
 use Terms.{sym, table_of, take, taken_channel, taken_job, taken_sequence, true, uses_channel, words_of, zero, ℕ}
-use Rattle.plain_facts.specs.Options.{some_is}
+use Rattle.mcal_base.specs.facts.Options.{some_is}
 
 -- ---- the words of channels
 

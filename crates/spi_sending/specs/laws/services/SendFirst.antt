@@ -18,7 +18,7 @@ use Rattle.spi_sending.specs.laws.{bookkeeping.HeldWord.{sending_of}}
 use Rattle.spi_serving.specs.laws.services.JobLeft as left
 use Rattle.spi_sending.specs.laws.{services.SendFurther.{number_named}, services.SendWindows.{asks}}
 use Rattle.mcal_base.specs.declared.error_name.ErrorName.TheVariants as errors
-use Rattle.plain_facts.specs.Numbers.{lt_from}
+use Rattle.mcal_base.specs.facts.Numbers.{lt_from}
 
 -- ---- the word on the wire
 

@@ -24,7 +24,7 @@ use Rattle.spi_serving.specs.laws.words.AllKept.{lt_else, put_owed}
 use Rattle.spi_serving.specs.laws.words.CommitWords.{commits_owed, held_kept}
 use Rattle.spi_serving.specs.laws.words.LastKept as kept_laws
 use Rattle.spi_sequences.specs.declared.service.sync.SyncPlace.TheVariants as place
-use Rattle.plain_facts.specs.Numbers.{lt_is}
+use Rattle.mcal_base.specs.facts.Numbers.{lt_is}
 
 -- of two places that aren't the same, where the second isn't before the first
 less_so : (a c : ℕ) → a ≢ c → (c < a → ⊥) → a < c

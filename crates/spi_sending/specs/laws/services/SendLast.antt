@@ -39,7 +39,7 @@ use Rattle.spi_sequences.specs.Refinement.{IsLast as IsLastResult}
 use Rattle.spi_sequences.specs.declared.service.serve.SequenceNext.TheVariants as courses
 use Rattle.spi_sequences.specs.declared.service.serve.ServePlace.TheVariants as serve
 use Rattle.spi_sequences.specs.declared.service.sync.SyncPlace.TheVariants as place
-use Rattle.plain_facts.specs.Numbers.{lt_from}
+use Rattle.mcal_base.specs.facts.Numbers.{lt_from}
 
 -- ---- the moves of the end, as the frame owes them
 

@@ -22,7 +22,7 @@ use Rattle.spi_sequences.specs.laws.{words.WordsToState.{any_none, any_some, at_
 use Rattle.spi_sequences.specs.laws.{words.WordsToState.{not_true, one_unit, other_number, same_number}}
 use Rattle.word_shapes.specs.Order as order
 use Rattle.word_shapes.specs.PriorityQueue as ranked
-use Rattle.plain_facts.specs.Truths.{and_false}
+use Rattle.mcal_base.specs.facts.Truths.{and_false}
 
 -- ---- lists with one more
 

@@ -7,7 +7,7 @@ use Terms.{is_owed, None, not, Option, Origin, Pending, readied_by, refl, Reserv
 use Terms.{run_at, same_or_other, SpiRepresents, SpiState, SpiTable, stored_by, subst, sym, true, World, ℕ}
 use Rattle.spi_sequences.specs.laws.words.PendingWords.{HoldsLike, holds_back, holds_changed}
 use Rattle.spi_sequences.specs.laws.words.WordsToState.{going_free, other_number}
-use Rattle.plain_facts.specs.Truths.{and_second}
+use Rattle.mcal_base.specs.facts.Truths.{and_second}
 
 -- what a frame of this origin holds that acted so and has cleared the unit
 abbrev pub cleared_of : (number : ℕ) → Origin Call → Option Answer → ReservedBy Call Reservation

@@ -39,7 +39,7 @@ use Rattle.chip_units.specs.declared.serial.Word as chips
 use Rattle.mcal_base.specs.declared.moves.Unit as units
 use Rattle.mcal_base.specs.declared.directive.Order.TheVariants.{Tick}
 use Rattle.std.proofs.lemmas.Bool.{or_from}
-use Rattle.plain_facts.specs.Truths.{and_true}
+use Rattle.mcal_base.specs.facts.Truths.{and_true}
 
 -- ---- in time
 

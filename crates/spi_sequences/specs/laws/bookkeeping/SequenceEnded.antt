@@ -21,7 +21,7 @@ use Rattle.spi_sequences.specs.laws.{words.WordsToState.{none_any, not_true, oth
 use Rattle.word_shapes.specs.Order as order
 use Rattle.word_shapes.specs.PriorityQueue as ranked
 use Rattle.std.proofs.lemmas.Bool.{or_from}
-use Rattle.plain_facts.specs.Truths.{and_false}
+use Rattle.mcal_base.specs.facts.Truths.{and_false}
 
 -- ---- lists that are filtered
 

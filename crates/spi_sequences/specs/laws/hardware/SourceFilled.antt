@@ -21,7 +21,7 @@ use Rattle.spi_sequences.specs.laws.{words.KeptWords.{next_view, sequences_as, s
 use Rattle.spi_sequences.specs.laws.{words.SendsKept.{sends_as}, words.AllSequences.{all_cases, none_under_way}}
 pub use Rattle.spi_sequences.specs.laws.words.ListTests.{any_in}
 use Rattle.spi_sequences.specs.laws.{words.WordsOfModule.{own_held, own_set_up, some_at}, hardware.StableUnderHardware.{pointwise}}
-use Rattle.plain_facts.specs.Numbers.{eq_from, eq_is, lt_is, lt_isnt}
+use Rattle.mcal_base.specs.facts.Numbers.{eq_from, eq_is, lt_is, lt_isnt}
 
 -- ---- how many words the module has
 

@@ -34,7 +34,7 @@ use Rattle.spi_machine.specs.declared.call.AsyncMode.TheVariants as modes
 use Rattle.spi_machine.specs.declared.call.Call.TheVariants as calls
 use Rattle.spi_machine.specs.declared.call.Query.TheVariants as queries
 use Rattle.spi_sequences.specs.declared.service.whole.WholeBody.TheVariants as whole
-use Rattle.plain_facts.specs.Truths.{and_false, or_true}
+use Rattle.mcal_base.specs.facts.Truths.{and_false, or_true}
 
 -- ---- a module in which a sequence is under way, and one in which none is
 

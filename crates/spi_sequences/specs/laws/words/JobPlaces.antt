@@ -10,7 +10,7 @@ use Terms.{Sequence, sequence_of, slice_get, slice_index_or, Some, SpiTable, sub
 use Terms.{unit_of_sequence, zero, ℕ}
 use Rattle.spi_sequences.specs.laws.words.ListTests.{any_in, any_some, at_contained, is_number, same_number}
 use Rattle.spi_machine.specs.Wiring as wiring
-use Rattle.plain_facts.specs.Numbers.{lt_is}
+use Rattle.mcal_base.specs.facts.Numbers.{lt_is}
 
 -- ---- what is left of a list
 

@@ -4,7 +4,7 @@ use Rattle.std.proofs.Common.{◌≡◌, ◌≢◌, ◌<◌, ◌≤◌, ◌==◌
 use Rattle.spi_sequences.specs.Terms
 use Terms.{ap, arith, Bool, Contains, false, is_on_unit, Job, job_of, length, List, list_any, nat_lt, nat_tests, None}
 use Terms.{Option, refl, slice_get, slice_index_or, Some, SpiTable, suc, sym, true, zero, ℕ}
-use Rattle.plain_facts.specs.Truths.{or_true}
+use Rattle.mcal_base.specs.facts.Truths.{or_true}
 
 -- ---- tests
 

@@ -9,7 +9,7 @@ use Terms.{or_else, or_left, or_right, order_word, own_words, place_of, placed_o
 use Terms.{Side, slice_index_or, Some, Source, SpiTable, start_of, STATE, subst, suc, sym, trio_of, true, zero, ℕ}
 use Rattle.word_shapes.specs.PriorityQueue as ranked
 use Rattle.word_shapes.specs.TripleBuffer as trio
-use Rattle.plain_facts.specs.Truths.{or_true}
+use Rattle.mcal_base.specs.facts.Truths.{or_true}
 
 -- a word of a channel: one of its first four, or of its banks
 pub record IsWordOf (d : SpiTable) (c : ℕ) (k : Channel) (word : ℕ) : Type 0 where

@@ -17,7 +17,7 @@ pub use Rattle.spi_sequences.specs.laws.words.ListTests.{none_any, not_true, one
 use Rattle.spi_sequences.specs.laws.{words.SameWords.{job_small}, words.ListTests.{any_in}}
 use Rattle.spi_sequences.specs.laws.{words.AllSequences.{all_cases, all_pending, any_all, one_of_all}}
 use Rattle.spi_sequences.specs.laws.{words.WordsOfModule.{some_at}}
-use Rattle.plain_facts.specs.Truths.{or_true}
+use Rattle.mcal_base.specs.facts.Truths.{or_true}
 
 -- ---- results
 

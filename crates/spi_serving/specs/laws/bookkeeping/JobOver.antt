@@ -14,8 +14,8 @@ use Rattle.spi_serving.specs.laws.words.JoinedLists.{before-all, before-less, be
 use Rattle.spi_serving.specs.laws.bookkeeping.MovedOn.{by_unit, going_other, going_with}
 use Rattle.spi_serving.specs.laws.words.Positions.{Stands, words_count}
 use Rattle.word_shapes.specs.Order as order
-use Rattle.plain_facts.specs.Numbers.{lt_is, lt_isnt}
-use Rattle.plain_facts.specs.Options.{some_is}
+use Rattle.mcal_base.specs.facts.Numbers.{lt_is, lt_isnt}
+use Rattle.mcal_base.specs.facts.Options.{some_is}
 
 -- ---- the last word
 

@@ -9,7 +9,7 @@ use Terms.{received_of, refl, same_number, same_or_other, slice_get, Some, SpiTa
 use Terms.{true, words_before, ℕ}
 use Rattle.spi_serving.specs.laws.{words.JoinedLists.{before-less, before-next, dropped-count, dropped-more, taken-all}}
 use Rattle.spi_serving.specs.laws.{words.JoinedLists.{taken-same}, words.Positions.{Follows, Same, Next, Stands}}
-use Rattle.plain_facts.specs.Options.{some_is}
+use Rattle.mcal_base.specs.facts.Options.{some_is}
 
 -- the job with its next word in transfer, after this one came in
 abbrev pub moved_on : Going → Position → (came : ℕ) → Going

@@ -13,7 +13,7 @@ use Rattle.spi_serving.specs.laws.{bookkeeping.MovedOn.{begins_here, begins_same
 use Rattle.spi_serving.specs.laws.{bookkeeping.MovedOn.{going_with, moved_on, received_here, received_same, taken_here}}
 use Rattle.spi_serving.specs.laws.{bookkeeping.MovedOn.{taken_same}, words.Positions.{Follows, Stands, begins_next}}
 use Rattle.spi_serving.specs.laws.{ToServe.{ToServe}}
-use Rattle.plain_facts.specs.Options.{some_is}
+use Rattle.mcal_base.specs.facts.Options.{some_is}
 
 -- no frame of an initialised module puts what a channel received
 pub none_received : (d : SpiTable) (mode : Mode) (cs : List ChannelState) (sources : ℕ → List ℕ) (c : ℕ) (hs : Reservations) → is_off mode ≡ false → AllRight d mode cs hs → put_held d sources c true hs ≡ None

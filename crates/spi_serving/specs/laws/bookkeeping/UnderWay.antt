@@ -12,7 +12,7 @@ use Terms.{WordAgrees, World, ℕ}
 use Rattle.chip_units.specs.Serials as serials
 use Rattle.chip_units.specs.declared.serial.Word as chips
 use Rattle.spi_machine.specs.Machine as machine
-use Rattle.plain_facts.specs.Truths.{and_false}
+use Rattle.mcal_base.specs.facts.Truths.{and_false}
 
 -- ---- a unit's state register
 

@@ -20,7 +20,7 @@ use Rattle.spi_serving.specs.laws.{bookkeeping.MovedOn.{by_unit, going_here, goi
 use Rattle.spi_serving.specs.laws.{words.JoinedLists.{get_within}, bookkeeping.PinsTurned.{After, At, going1, later}}
 use Rattle.spi_serving.specs.laws.{ToServe.{ToServe}}
 use Rattle.word_shapes.specs.PriorityQueue as ranked
-use Rattle.plain_facts.specs.Options.{some_is}
+use Rattle.mcal_base.specs.facts.Options.{some_is}
 
 -- ---- channels that differ in the users' destinations alone
 

@@ -21,7 +21,7 @@ use Rattle.spi_serving.specs.laws.{bookkeeping.UnderWay.{under_way}}
 use Rattle.chip_units.specs.Serials as serials
 use Rattle.spi_jobs.specs.declared.finding.Find.TheVariants as finds
 use Rattle.spi_sequences.specs.declared.service.serve.ServePlace.TheVariants as serve
-use Rattle.plain_facts.specs.Options.{some_is}
+use Rattle.mcal_base.specs.facts.Options.{some_is}
 
 -- the load that is made
 pub asks_load : (x : Placed) (i : ℕ) → asking x i ≡ Load (asked_word x i)

@@ -25,7 +25,7 @@ use Rattle.spi_serving.specs.laws.{words.SidesApart.{is_inside, says_inside}, bo
 use Rattle.spi_serving.specs.laws.bookkeeping.PinsTurned.{none_received}
 use Rattle.spi_serving.specs.laws.{ToServe.{ToServe}}
 use Rattle.word_shapes.specs.TripleBuffer as trio
-use Rattle.plain_facts.specs.Truths.{and_false}
+use Rattle.mcal_base.specs.facts.Truths.{and_false}
 
 -- a channel has a part of the job, or none
 pub part_or_none : (xs : List Part) (c : ℕ) → ((n : ℕ) × (x : Part) × (slice_get xs n ≡ Some x) × (x.channel ≡ c)) ⊎ ((n : ℕ) (x : Part) → slice_get xs n ≡ Some x → x.channel ≢ c)

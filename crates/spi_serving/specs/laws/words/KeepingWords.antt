@@ -20,7 +20,7 @@ use Rattle.spi_serving.specs.laws.{words.SidesApart.{banks_words, is_inside, say
 use Rattle.spi_serving.specs.laws.{bookkeeping.PinsTurned.{After, At, going1, none_received, put_more, put_stays}}
 use Rattle.spi_serving.specs.laws.{bookkeeping.PinsTurned.{take_ends, take_stays}, ToServe.{ToServe}}
 use Rattle.word_shapes.specs.TripleBuffer as trio
-use Rattle.plain_facts.specs.Options.{some_is}
+use Rattle.mcal_base.specs.facts.Options.{some_is}
 
 -- a list of no items
 pub none_of : (xs : List ℕ) → length xs ≡ 0 → xs ≡ []

@@ -23,7 +23,7 @@ use Rattle.spi_serving.specs.laws.{words.SidesApart.{banks_fit, banks_own, is_in
 use Rattle.spi_serving.specs.laws.{bookkeeping.PinsTurned.{none_received}, ToServe.{ToServe}}
 use Rattle.word_shapes.specs.TripleBuffer as trio
 use Rattle.spi_jobs.specs.declared.keeping.Keep.TheVariants as keeps
-use Rattle.plain_facts.specs.Numbers.{lt_is}
+use Rattle.mcal_base.specs.facts.Numbers.{lt_is}
 
 taken_all : (a i n k : ℕ) → n < a → (if nat_lt n a then k else if n == a then i else 0) ≡ k
 taken_all a i n k lt = grind (arith, nat_tests)

@@ -22,7 +22,7 @@ use Rattle.spi_serving.specs.laws.{words.SidesApart.{is_inside}, ToServe.{ToServ
 use Rattle.word_shapes.specs.TripleBuffer as trio
 use Rattle.spi_sequences.specs.declared.service.serve.ServePlace.TheVariants as serve
 use Rattle.std.proofs.lemmas.Bool.{not-false}
-use Rattle.plain_facts.specs.Truths.{and_first}
+use Rattle.mcal_base.specs.facts.Truths.{and_first}
 
 pub release_owes : (d : SpiTable) (l : Leaving) (n : ℕ) → serve_owes (release_last d l n) ≡ true
 release_owes d l n =

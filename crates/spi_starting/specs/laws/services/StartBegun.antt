@@ -23,7 +23,7 @@ use Rattle.word_shapes.specs.PriorityQueue as ranked
 use Rattle.word_shapes.specs.TripleBuffer as trio
 use Rattle.word_shapes.specs.declared.choosing.Next.TheVariants as nexts
 use Rattle.spi_sequences.specs.declared.service.start.StartPlace.TheVariants as start
-use Rattle.plain_facts.specs.Numbers.{lt_zero}
+use Rattle.mcal_base.specs.facts.Numbers.{lt_zero}
 
 -- what a start has chosen: the next job of this sequence, by the words of next jobs and of marks
 abbrev pub choosing : SpiTable → Chip → Pending → Chosen

@@ -3,7 +3,7 @@ use Rattle.std.proofs.Common.{◌≡◌, ℕ, [], sym, ◌∙◌, subst}
 use Rattle.std.specs.Prelude.{length, nat_lt}
 use Rattle.mcal_base.proofs.BitLaws.{has_bit-zero}
 use Rattle.mcal_base.specs.Bits.{has_bit}
-use Rattle.plain_facts.specs.Numbers.{lt_zero}
+use Rattle.mcal_base.specs.facts.Numbers.{lt_zero}
 use Rattle.audit_base.specs.Product.{either}
 use Rattle.audit_machines.proofs.hosting.HostedSubject.duties.Goals as goal
 

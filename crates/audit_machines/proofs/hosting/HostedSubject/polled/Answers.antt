@@ -1,7 +1,7 @@
 -- Channels and ports poll no line.
 use Rattle.std.proofs.Common.{◌≡◌, true, [], sym, subst}
 use Rattle.mcal_base.specs.Bits.{has_bit}
-use Rattle.plain_facts.specs.Truths.{off_on}
+use Rattle.mcal_base.specs.facts.Truths.{off_on}
 use Rattle.run_model.specs.Legal.{has_line}
 use Rattle.audit_base.specs.Product.{either}
 use Rattle.audit_machines.proofs.hosting.HostedSubject.polled.Goals as goal

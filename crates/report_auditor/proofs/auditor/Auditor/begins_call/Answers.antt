@@ -14,6 +14,6 @@ returns-clause-comes g c t p stands served free =
     let own = g.P.Subject.setting t in
     let begun = c.call_terms-terms.ensures t p stands in
     let deed = beginning (Called c.args.call) c.args.level in
-    subst (λ x. IfOk c.begins.result (λ right. Judges right (Comes own p.moment deed) (Stands g.P.Subject.setting g.P.Part.table g.P.Part.stands t c.begins.new.self (record { moment = after own p.moment deed; frames = x ∷ p.frames; tally = p.tally }))))
+    subst (λ x. IfOk c.begins.result (λ right. Judges right (Comes own p.moment deed) (Stands g.P.Whole.agrees g.P.Subject.setting g.P.Part.table g.P.Part.stands t c.begins.new.self (record { moment = after own p.moment deed; frames = x ∷ p.frames; tally = p.tally }))))
     (purpose_called own c.call_terms-terms.result.asked c.call_terms-terms.result.task c.args.call begun.task)
     (c.begins.ensures.comes t p c.args.level stands served begun free)

@@ -14,6 +14,6 @@ returns-clause-comes g c t p stands served free =
     let own = g.P.Subject.setting t in
     let begun = c.line_terms-terms.ensures t p stands in
     let deed = beginning (Entered c.args.line) 0 in
-    subst (λ x. IfOk c.begins.result (λ right. Judges right (Comes own p.moment deed) (Stands g.P.Subject.setting g.P.Part.table g.P.Part.stands t c.begins.new.self (record { moment = after own p.moment deed; frames = x ∷ p.frames; tally = p.tally }))))
+    subst (λ x. IfOk c.begins.result (λ right. Judges right (Comes own p.moment deed) (Stands g.P.Whole.agrees g.P.Subject.setting g.P.Part.table g.P.Part.stands t c.begins.new.self (record { moment = after own p.moment deed; frames = x ∷ p.frames; tally = p.tally }))))
     (purpose_entered own c.line_terms-terms.result.asked c.line_terms-terms.result.task c.args.line begun.task)
     (c.begins.ensures.comes t p 0 stands served begun free)

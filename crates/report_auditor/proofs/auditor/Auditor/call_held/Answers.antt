@@ -9,4 +9,4 @@ returns-clause-free g c none = rw (← c.self.view_is) (call_free c.self.inside.
 pub returns-clause-held : goal.returns-clause-held
 returns-clause-held g c t p stands =
     let s = rw (← c.self.view_is) at stands in
-    c.call_held.ensures ∙ call_held_is g.P.Subject.setting g.P.Part.table g.P.Part.stands t _ p s c.args.call.now c.args.level c.masked.result c.class-class.result c.masked.ensures c.class-class.ensures
+    c.call_held.ensures ∙ call_held_is g.P.Whole.agrees g.P.Subject.setting g.P.Part.table g.P.Part.stands t _ p s c.args.call.now c.args.level c.masked.result c.class-class.result c.masked.ensures c.class-class.ensures

@@ -16,4 +16,4 @@ returns-clause-held g c t p stands =
     let s = rw (← c.self.view_is) at stands in
     let own = g.P.Subject.setting (g.P.Part.table c.self.inside.parts) in
     let read = c.one_reads-read.ensures ∙ (ap (λ xs. list_any (λ o. reads_from own c.args.channel (origin_of o)) xs) c.as_slice.ensures.value ∙ any_origin origin_of (reads_from own c.args.channel) c.self.inside.origins.items) in
-    c.fill_cause.ensures ∙ fill_is g.P.Subject.setting g.P.Part.table g.P.Part.stands t _ p s c.args.channel c.masked-masked.result c.fills-there.result c.in_use-used.result c.one_reads-read.result c.masked-masked.ensures c.fills-there.ensures (c.in_use-used.ensures p.moment.world p.moment.state s.state) read
+    c.fill_cause.ensures ∙ fill_is g.P.Whole.agrees g.P.Subject.setting g.P.Part.table g.P.Part.stands t _ p s c.args.channel c.masked-masked.result c.fills-there.result c.in_use-used.result c.one_reads-read.result c.masked-masked.ensures c.fills-there.ensures (c.in_use-used.ensures p.moment.world p.moment.state s.state) read

@@ -9,7 +9,7 @@ returns-in-Some-clause-held g c t p stands = c.fill_held.ensures.held t p stands
 pub returns-in-None-clause-held : goal.returns-in-None-clause-held
 returns-in-None-clause-held g c t p stands =
     let s = rw (← c.self.view_is) at stands in
-    c.other_cause.ensures ∙ (other_is g.P.Subject.setting g.P.Part.table g.P.Part.stands t _ p s c.args.order.now ∙ sym (other_held (g.P.Subject.setting t) p.moment c.args.order.now (sym c.filled.ensures ∙ c.in-None.is)))
+    c.other_cause.ensures ∙ (other_is g.P.Whole.agrees g.P.Subject.setting g.P.Part.table g.P.Part.stands t _ p s c.args.order.now ∙ sym (other_held (g.P.Subject.setting t) p.moment c.args.order.now (sym c.filled.ensures ∙ c.in-None.is)))
 
 pub returns-in-Some-clause-filled : goal.returns-in-Some-clause-filled
 returns-in-Some-clause-filled g c none n words is = fill_below c.args.order.now c.in-Some.channel n words (sym c.filled.ensures ∙ c.in-Some.is) is (c.fill_held.ensures.there none)

@@ -6,7 +6,6 @@ pub returns : goal.returns
 returns g c t p stands =
     let i = c.self.inside in
     let s = rw (← c.self.view_is) at stands in
-    let fits = rw (← c.self.view_is) at c.requires.fits in
-    quiet_lines g.P.Subject.setting g.P.Part.table g.P.Part.stands g.P.Part.member g.met.P.Subject.member_is t _ p s c.pending_lines-pending.result c.pending_lines-pending.ensures
+    quiet_lines g.P.Whole.agrees g.P.Subject.setting g.P.Part.table g.P.Part.stands g.P.Part.member g.met.P.Subject.member_is t _ p s c.pending_lines-pending.result c.pending_lines-pending.ensures
     (λ l on. g.met.P.Whole.due_lines i.parts p.moment.world p.moment.state l s.state on) (λ l on. g.met.P.Whole.used_lines i.parts l on)
-    c.due_lines-due.result (c.due_lines-due.ensures p.moment.world p.moment.state fits s.world s.state)
+    c.due-due.result (c.due-due.ensures t p stands)

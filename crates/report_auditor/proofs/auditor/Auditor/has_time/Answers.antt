@@ -2,7 +2,7 @@
 use Rattle.std.proofs.Common.{nat_lt, arith}
 use Rattle.std.proofs.lemmas.Bool.{OnTrue_from}
 use Rattle.report_auditor.specs.Auditing.{HasTime}
-use Rattle.plain_facts.specs.Numbers.{lt_is}
+use Rattle.mcal_base.specs.facts.Numbers.{lt_is}
 use Rattle.report_auditor.proofs.auditor.Auditor.has_time.Goals as goal
 
 pub returns : goal.returns

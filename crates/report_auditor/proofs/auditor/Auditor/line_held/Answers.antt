@@ -9,4 +9,4 @@ returns-clause-free g c none = rw (← c.self.view_is) (line_free c.self.inside.
 pub returns-clause-held : goal.returns-clause-held
 returns-clause-held g c t p stands =
     let s = rw (← c.self.view_is) at stands in
-    c.line_held.ensures ∙ line_held_is g.P.Subject.setting g.P.Part.table g.P.Part.stands t _ p s c.args.line c.level-level.result c.masked.result c.pending-pending.result c.masked.ensures c.level-level.ensures c.pending-pending.ensures
+    c.line_held.ensures ∙ line_held_is g.P.Whole.agrees g.P.Subject.setting g.P.Part.table g.P.Part.stands t _ p s c.args.line c.level-level.result c.masked.result c.pending-pending.result c.masked.ensures c.level-level.ensures c.pending-pending.ensures

@@ -7,21 +7,19 @@ pub returns-then-not-covers : goal.returns-then-not-covers
 returns-then-not-covers g c t p stands =
     let i = c.self.inside in
     let s = rw (← c.self.view_is) at stands in
-    let fits = rw (← c.self.view_is) at c.requires.fits in
-    let d = all_due g.P.Subject.setting g.P.Part.table g.P.Part.stands g.P.Part.member g.met.P.Subject.member_is t _ p s c.pending_lines-pending.result c.pending_lines-pending.ensures
+    let d = all_due g.P.Whole.agrees g.P.Subject.setting g.P.Part.table g.P.Part.stands g.P.Part.member g.met.P.Subject.member_is t _ p s c.pending_lines-pending.result c.pending_lines-pending.ensures
     (λ l on. g.met.P.Whole.due_lines i.parts p.moment.world p.moment.state l s.state on) (λ l on. g.met.P.Whole.used_lines i.parts l on)
-    c.covers.result c.due_lines.result c.covers.ensures (c.due_lines.ensures p.moment.world p.moment.state fits s.world s.state) in
+    c.covers.result c.due.result c.covers.ensures (c.due.ensures t p stands) in
     no (λ h. fails c.covers.result d c.if-not-covers.true h.due)
 
 pub returns : goal.returns
 returns g c t p stands =
     let i = c.self.inside in
     let s = rw (← c.self.view_is) at stands in
-    let fits = rw (← c.self.view_is) at c.requires.fits in
-    let d = all_due g.P.Subject.setting g.P.Part.table g.P.Part.stands g.P.Part.member g.met.P.Subject.member_is t _ p s c.pending_lines-pending.result c.pending_lines-pending.ensures
+    let d = all_due g.P.Whole.agrees g.P.Subject.setting g.P.Part.table g.P.Part.stands g.P.Part.member g.met.P.Subject.member_is t _ p s c.pending_lines-pending.result c.pending_lines-pending.ensures
     (λ l on. g.met.P.Whole.due_lines i.parts p.moment.world p.moment.state l s.state on) (λ l on. g.met.P.Whole.used_lines i.parts l on)
-    c.covers.result c.due_lines.result c.covers.ensures (c.due_lines.ensures p.moment.world p.moment.state fits s.world s.state) in
-    let u = none_unused g.P.Subject.setting g.P.Part.table g.P.Part.stands g.P.Part.member g.met.P.Subject.member_is t _ p s c.pending_lines-pending.result c.pending_lines-pending.ensures
+    c.covers.result c.due.result c.covers.ensures (c.due.ensures t p stands) in
+    let u = none_unused g.P.Whole.agrees g.P.Subject.setting g.P.Part.table g.P.Part.stands g.P.Part.member g.met.P.Subject.member_is t _ p s c.pending_lines-pending.result c.pending_lines-pending.ensures
     (λ l on. g.met.P.Whole.due_lines i.parts p.moment.world p.moment.state l s.state on) (λ l on. g.met.P.Whole.used_lines i.parts l on)
-    c.covers-2.result c.used_lines.result c.covers-2.ensures c.used_lines.ensures in
+    c.covers-2.result i.seen.used c.covers-2.ensures s.seen.used in
     worded (λ h. record { due = d.says c.if-not-covers.false; unused = h }) (λ h. h.unused) u

@@ -1,0 +1,4 @@
+pub mod Counted
+pub mod Cuts
+pub mod Feeds
+pub mod Judging

@@ -1,0 +1,9 @@
+pub mod Events
+pub mod Joins
+pub mod Keeping
+pub mod Lines
+pub mod Opening
+pub mod Places
+pub mod Services
+pub mod Untouched
+pub mod Waits

@@ -1,0 +1,11 @@
+pub mod BlockLaws
+pub mod DirectiveLaws
+pub mod FirstLaws
+pub mod ItemsLaws
+pub mod JudgeLaws
+pub mod KindLaws
+pub mod ObeyLaws
+pub mod ReadLaws
+pub mod ShowLaws
+pub mod TakeLaws
+pub mod VerdictLaws

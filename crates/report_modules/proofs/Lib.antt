@@ -1,0 +1,3 @@
+pub mod CarryLaws
+pub mod FreshLaws
+pub mod VerdictLaws

@@ -1,0 +1,6 @@
+//! The checker of reports over all modules.
+#![tactic(auto)]
+
+mod entry;
+
+pub use entry::audit;

@@ -1,0 +1,9 @@
+use Rattle.std.proofs.Common.{refl}
+use Rattle.std.specs.Prelude.{codes}
+use Rattle.trace_reader.proofs.Fronts.{named_of, no_names, one_more}
+use Rattle.trace_reader.proofs.front.port.Goals as goal
+
+pub returns : goal.returns
+returns c =
+    named_of (λ w. w.now) (codes "Q") c.args.text.now c.in_ok-q.rest.now c.in_ok-q.q _ c.first_named.result c.in_ok-q.ensures c.first_named.ensures
+    (one_more refl c.in_ok-q.ensures.fits (one_more refl c.in_ok-q.ensures.fits no_names))
