@@ -1,67 +1,45 @@
+ghost use Rattle.std.specs.Prelude.{length, ◌^◌, ◌<◌};
+
+use crate::line::{Line, number};
+use bench_script::service_named;
 use det_errors::{Facts, first_error, text};
 use mcal_base::Service;
 
-const NO: bool = false;
-
-const YES: bool = true;
-
-/// The spelling of the first error of a service, where the conditions at these places hold.
-fn spelled(service: Service, holds: [bool; 6]) -> &'static str {
+/// The spelling of the first error of a service, where the conditions of these bits hold.
+fn spelled(service: Service, bits: u32) -> &'static str {
+    let mut holds = [false; 6];
+    for place in 0..6 {
+        holds[place] = (bits >> place) % 2 == 1;
+    }
     match first_error(service, &Facts { holds }) {
         Some(error) => text(error),
         None => "none",
     }
 }
 
-#[test]
-fn the_first_error_that_holds(rt: HostRuntime) {
-    let rows = [
-        ([NO, NO, NO, NO, NO, NO], "none"),
-        ([YES, YES, YES, YES, YES, NO], "GPT_E_UNINIT"),
-        ([NO, YES, NO, NO, YES, NO], "GPT_E_PARAM_CHANNEL"),
-        ([NO, NO, YES, YES, YES, NO], "GPT_E_PARAM_VALUE"),
-        ([NO, NO, NO, YES, YES, NO], "GPT_E_MODE"),
-        ([NO, NO, NO, NO, YES, NO], "GPT_E_BUSY"),
-        ([NO, NO, NO, NO, NO, YES], "none"),
-    ];
-    for (holds, want) in rows {
-        assert_eq!(rt; spelled(Service::GptStartTimer, holds), want);
+/// Whether a service has this first error where the conditions of these bits hold.
+fn errs(service: &str, behind: &str) -> bool {
+    let (Some(service), Some((bits, wanted))) = (
+        service_named(service.as_bytes()),
+        behind.split_once(' '),
+    ) else {
+        return false;
+    };
+    match number(bits) {
+        Some(bits) => spelled(service, bits) == wanted,
+        None => false,
     }
 }
 
-#[test]
-fn one_row_of_each_module(rt: HostRuntime) {
-    let first = [YES, NO, NO, NO, NO, NO];
-    let second = [NO, YES, NO, NO, NO, NO];
-    let third = [NO, NO, YES, NO, NO, NO];
-    let fourth = [NO, NO, NO, YES, NO, NO];
-    let rows = [
-        (Service::McuInit, [YES; 6], "none"),
-        (
-            Service::McuDistributePllClock,
-            second,
-            "MCU_E_PLL_NOT_LOCKED",
-        ),
-        (Service::PortSetPinMode, third, "PORT_E_PARAM_INVALID_MODE"),
-        (Service::GptInit, first, "GPT_E_ALREADY_INITIALIZED"),
-        (
-            Service::PwmSetPeriodAndDuty,
-            third,
-            "PWM_E_PERIOD_UNCHANGEABLE",
-        ),
-        (
-            Service::IcuStartTimestamp,
-            fourth,
-            "ICU_E_PARAM_NOTIFY_INTERVAL",
-        ),
-        (
-            Service::AdcStartGroupConversion,
-            fourth,
-            "ADC_E_BUFFER_UNINIT",
-        ),
-        (Service::SpiAsyncTransmit, third, "SPI_E_SEQ_PENDING"),
-    ];
-    for (service, holds, want) in rows {
-        assert_eq!(rt; spelled(service, holds), want);
+/// The number of the first line that is wrong, from 1, and 0 where none is.
+pub fn first_wrong(lines: &[Line<'_>]) -> usize
+    requires { length lines.now < 2 ^ 20 }
+{
+    for (place, line) in lines.iter().enumerate() {
+        match line {
+            Line::Word(service, behind) if errs(service, behind) => {}
+            _ => return place + 1,
+        }
     }
+    0
 }

@@ -1,127 +1,133 @@
-use crate::other_table::Line::{Flip, Pin, Ram, Rate, Read, Reset, Selected, Tick, Write};
-use crate::other_table::first_wrong;
-use mcal_base::{Reason, Reg};
+ghost use Rattle.std.specs.Prelude.{length, ◌≤◌, ◌+◌, ◌^◌, ◌<◌};
 
-#[test]
-fn the_pll_and_the_rate(rt: HostRuntime) {
-    let lines = [
-        Read(Reg::ResetReason, 0),
-        Write(Reg::ClockRate, 1),
-        Rate(1),
-        Write(Reg::ClockPll, 8),
-        Tick(99),
-        Read(Reg::ClockLock, 0),
-        Tick(1),
-        Read(Reg::ClockLock, 1),
-        Rate(1),
-        Write(Reg::ClockRate, 2),
-        Write(Reg::ClockPll, 0),
-        Rate(1),
-        Write(Reg::ClockRate, 1),
-        Rate(8),
-        Read(Reg::ClockLock, 1),
-        Write(Reg::ClockPll, 4),
-        Rate(1),
-        Read(Reg::ClockLock, 0),
-        Write(Reg::ClockRate, 1),
-        Write(Reg::ClockRate, 0),
-        Rate(1),
-        Tick(u32::MAX),
-        Read(Reg::ClockLock, 1),
-        Write(Reg::ClockRate, 1),
-        Reset(Reason::Software),
-        Rate(1),
-        Read(Reg::ClockLock, 0),
-        Read(Reg::ResetReason, 2),
-        Write(Reg::ResetReason, 0),
-        Write(Reg::ResetRequest, 1),
-        Read(Reg::ResetReason, 2),
-        Reset(Reason::Watchdog),
-        Read(Reg::ResetReason, 1),
-    ];
-    assert_eq!(rt; first_wrong(&lines), 0);
+use crate::line::{Line, numbers, reason};
+use chip_units::{ClockBlock, PinBlock, RamBlock, SerialBlock};
+use mcal_base::{Config, Move, Reason, Reg};
+
+/// The clock, the pins, the RAM words and the serial units. Each access is given to all of them, so a register of
+/// another block is seen to read 0 and to be ignored.
+#[derive(Drop)]
+struct Blocks {
+    clock: ClockBlock,
+    pins: PinBlock,
+    ram: RamBlock,
+    serials: SerialBlock,
 }
 
-#[test]
-fn the_levels_of_pins(rt: HostRuntime) {
-    let lines = [
-        Pin(63, true, Some(false), true),
-        Write(Reg::PinDirectionSet(1), 0x8000_0000),
-        Pin(63, true, Some(true), false),
-        Write(Reg::PinOutSet(1), 0xc000_0000),
-        Pin(63, false, Some(false), true),
-        Pin(62, false, None, false),
-        Write(Reg::PinMode(63), 3),
-        Pin(63, true, Some(false), false),
-        Pin(63, false, None, true),
-        Write(Reg::PinMode(63), 5),
-        Pin(63, true, Some(false), false),
-        Write(Reg::PinMode(63), 4),
-        Pin(63, false, Some(false), true),
-        Write(Reg::PinOutClear(0), 0xffff_ffff),
-        Pin(63, false, None, true),
-        Write(Reg::PinOutClear(1), 0x8000_0000),
-        Pin(63, true, None, false),
-        Write(Reg::PinDirectionClear(1), 0x8000_0000),
-        Pin(63, true, None, true),
-        Read(Reg::PinMode(63), 0),
-        Tick(9),
-        Write(Reg::PinDirectionSet(1), 0x4000_0000),
-        Pin(62, false, None, true),
-        Reset(Reason::PowerOn),
-        Pin(62, false, None, false),
-    ];
-    assert_eq!(rt; first_wrong(&lines), 0);
+/// The level of a pulse output by its number; none for a pin without one.
+fn pulse(number: u32) -> Option<bool> {
+    match number {
+        0 => Some(false),
+        1 => Some(true),
+        _ => None,
+    }
 }
 
-#[test]
-fn words_put_to_ports_and_flips(rt: HostRuntime) {
-    let lines = [
-        Write(Reg::PinDirectionSet(0), 0x0000_8500),
-        Write(Reg::PortPut(1), 0xffff),
-        Pin(8, false, None, true),
-        Pin(9, false, None, false),
-        Pin(10, false, None, true),
-        Pin(15, false, None, true),
-        Write(Reg::PortPut(1), 0x8001),
-        Pin(8, false, None, true),
-        Pin(15, false, None, false),
-        Write(Reg::PortPut(0), 0xff00),
-        Write(Reg::PortPut(8), 0xff00),
-        Pin(8, false, None, true),
-        Flip(8),
-        Pin(8, true, None, false),
-        Flip(8),
-        Pin(8, false, None, true),
-        Flip(9),
-        Flip(64),
-        Write(Reg::PinDirectionSet(0), 0x200),
-        Pin(9, true, None, false),
-        Write(Reg::PortPut(1), 0x1_ff00),
-        Pin(10, true, None, false),
-        Read(Reg::PortPut(1), 0),
-        Read(Reg::PortLevels(1), 0),
-        Read(Reg::PinFlip(8), 0),
-        Pin(8, true, None, false),
-    ];
-    assert_eq!(rt; first_wrong(&lines), 0);
+impl Blocks {
+    fn read(&mut self, reg: Reg) -> u32
+        ensures clock { self.new.clock.osc ≤ self.old.clock.osc }
+        ensures serials { self.new.serials.time ≤ self.old.serials.time }
+    {
+        let first = self.clock.read(reg) | self.pins.read(reg);
+        first | self.ram.read(reg) | self.serials.read(reg)
+    }
+
+    fn write(&mut self, reg: Reg, value: u32)
+        ensures clock { self.new.clock.osc ≤ self.old.clock.osc }
+        ensures serials { self.new.serials.time ≤ self.old.serials.time }
+    {
+        self.clock.write(reg, value);
+        self.pins.write(reg, value);
+        self.ram.write(reg, value);
+        self.serials.write(reg, value);
+    }
+
+    fn tick(&mut self, ticks: u32)
+        requires clock { self.old.clock.osc < 2 ^ 63 }
+        requires serials { self.old.serials.time < 2 ^ 63 }
+        ensures clock { self.new.clock.osc ≤ self.old.clock.osc + 2 ^ 32 }
+        ensures serials { self.new.serials.time ≤ self.old.serials.time + 2 ^ 32 }
+    {
+        self.clock.tick(u64::from(ticks));
+        self.pins.tick(u64::from(ticks));
+        self.ram.tick(u64::from(ticks));
+        self.serials.tick(u64::from(ticks));
+    }
+
+    fn reset(&mut self, reason: Reason)
+        ensures clock { self.new.clock.osc ≤ self.old.clock.osc }
+        ensures serials { self.new.serials.time ≤ self.old.serials.time }
+    {
+        self.clock.reset(reason);
+        self.pins.reset();
+        self.ram.reset();
+        self.serials.reset();
+    }
+
+    /// Whether what is asked by a word with its numbers is so.
+    fn shows(&self, word: &str, numbers: [u32; 4]) -> bool {
+        let [first, second, third, fourth] = numbers;
+        match word {
+            "rate" => self.clock.rate() == first,
+            "pin" => self.pins.pin(first, second == 1, pulse(third)) == (fourth == 1),
+            "ram" => first < 512 && self.ram.ram(first) == second,
+            "selected" => self.serials.selected(first) == second,
+            _ => false,
+        }
+    }
+
+    /// Whether the blocks do as a word with its numbers says.
+    fn event(&mut self, word: &str, numbers: [u32; 4]) -> bool
+        requires clock { self.old.clock.osc < 2 ^ 63 }
+        requires serials { self.old.serials.time < 2 ^ 63 }
+        ensures clock { self.new.clock.osc ≤ self.old.clock.osc + 2 ^ 32 }
+        ensures serials { self.new.serials.time ≤ self.old.serials.time + 2 ^ 32 }
+    {
+        match word {
+            "tick" => self.tick(numbers[0]),
+            "flip" => self.pins.flip(numbers[0]),
+            "reset" => self.reset(reason(numbers[0])),
+            _ => return self.shows(word, numbers),
+        }
+        true
+    }
+
+    /// Whether the blocks do as the line says.
+    fn follow(&mut self, line: &Line<'_>) -> bool
+        requires clock { self.old.clock.osc < 2 ^ 63 }
+        requires serials { self.old.serials.time < 2 ^ 63 }
+        ensures clock { self.new.clock.osc ≤ self.old.clock.osc + 2 ^ 32 }
+        ensures serials { self.new.serials.time ≤ self.old.serials.time + 2 ^ 32 }
+    {
+        match line {
+            Line::Word(word, behind) => self.event(word, numbers(behind)),
+            Line::Step(step) => match step.made {
+                Move::Read(reg) => self.read(reg) == step.value,
+                Move::Write(reg, value) => {
+                    self.write(reg, value);
+                    true
+                }
+                _ => false,
+            },
+        }
+    }
 }
 
-#[test]
-fn ram_words_and_selected_devices(rt: HostRuntime) {
-    let lines = [
-        Write(Reg::Ram(511), u32::MAX),
-        Write(Reg::Ram(0), 3),
-        Tick(9),
-        Ram(511, u32::MAX),
-        Read(Reg::Ram(0), 3),
-        Read(Reg::Ram(1), 0),
-        Reset(Reason::PowerOn),
-        Read(Reg::Ram(511), 0),
-        Write(Reg::SerialSelect(1), 3),
-        Selected(1, 3),
-        Selected(0, 0),
-        Read(Reg::SerialSelect(1), 0),
-    ];
-    assert_eq!(rt; first_wrong(&lines), 0);
+/// The number of the first line that the blocks don't follow, from 1, and 0 where they follow all.
+pub fn first_wrong(lines: &[Line<'_>]) -> usize
+    requires { length lines.now < 2 ^ 20 }
+{
+    let config = Config::default();
+    let mut blocks = Blocks {
+        clock: ClockBlock::new(&config),
+        pins: PinBlock::new(&config),
+        ram: RamBlock::new(&config),
+        serials: SerialBlock::new(&config),
+    };
+    for (place, line) in lines.iter().enumerate() {
+        if !blocks.follow(line) {
+            return place + 1;
+        }
+    }
+    0
 }

@@ -1,81 +1,153 @@
 use desk_tables::{KeyRow, Kind, Need, Range, Table};
 use std::alloc::{AllocError, Global};
+use std::fmt::{self, Display};
 
-/// So many of a value, as an array.
-fn array(alloc: Global, count: u32, value: &str) -> Result<String, AllocError> {
-    let mut text = String::from_str(alloc, "[")?;
-    for _ in 0..count {
-        text.push_str(value)?;
-        text.push_str(",")?;
+/// A text between quotes.
+#[derive(Clone, Copy)]
+struct Quoted<'a>(&'a str);
+
+impl Display for Quoted<'_> {
+    fn fmt<W: fmt::Write>(&self, f: &mut fmt::Formatter<W>) -> fmt::Result {
+        write!(f, "\"{}\"", self.0)
     }
-    text.push_str("]")?;
-    Ok(text)
 }
 
-/// Values that a kind takes: the least and the most numbers, each name, the shortest and the longest array.
-pub(crate) fn good(alloc: Global, kind: Kind) -> Result<Vec<String>, AllocError> {
-    let mut values = Vec::new(alloc);
+/// So many of a value, as an array.
+#[derive(Clone, Copy)]
+struct ArrayOf<'a> {
+    count: u32,
+    value: Value<'a>,
+}
+
+/// A value that stands in an array.
+#[derive(Clone, Copy)]
+enum Value<'a> {
+    /// A number.
+    Number(u32),
+    /// A name.
+    Name(&'a str),
+    /// A table without members.
+    Table,
+}
+
+impl Display for ArrayOf<'_> {
+    fn fmt<W: fmt::Write>(&self, f: &mut fmt::Formatter<W>) -> fmt::Result {
+        f.write_str("[")?;
+        for _ in 0..self.count {
+            match self.value {
+                Value::Number(number) => write!(f, "{number},")?,
+                Value::Name(name) => write!(f, "\"{name}\",")?,
+                Value::Table => f.write_str("{},")?,
+            }
+        }
+        f.write_str("]")
+    }
+}
+
+/// Adds a value that is printed so.
+fn add<V: Display + Drop>(
+    alloc: Global,
+    values: &mut Vec<String>,
+    value: V,
+) -> Result<(), AllocError> {
+    values.push(format!(in alloc; "{value}")?)?;
+    Ok(())
+}
+
+/// Adds an array of so many of a value.
+fn add_array(
+    alloc: Global,
+    values: &mut Vec<String>,
+    count: u32,
+    value: Value<'_>,
+) -> Result<(), AllocError> {
+    add(alloc, values, ArrayOf { count, value })
+}
+
+/// Adds the shortest and the longest array of each name.
+fn add_names(
+    alloc: Global,
+    values: &mut Vec<String>,
+    lengths: Range,
+    names: &[&str],
+) -> Result<(), AllocError> {
+    let Range(least, most) = lengths;
+    for name in names {
+        add_array(alloc, values, least, Value::Name(name))?;
+        add_array(alloc, values, most, Value::Name(name))?;
+    }
+    Ok(())
+}
+
+/// Adds the values that a kind takes: the least and the most numbers, each name, the shortest and the longest array.
+pub(crate) fn add_good(
+    alloc: Global,
+    values: &mut Vec<String>,
+    kind: Kind,
+) -> Result<(), AllocError> {
     match kind {
         Kind::Truth => {
-            values.push(String::from_str(alloc, "true")?)?;
-            values.push(String::from_str(alloc, "false")?)?;
+            add(alloc, values, true)?;
+            add(alloc, values, false)
         }
-        Kind::Text => values.push(String::from_str(alloc, "\"any\"")?)?,
+        Kind::Text => add(alloc, values, Quoted("any")),
         Kind::Whole(Range(low, high)) => {
-            values.push(format!(in alloc; "{low}")?)?;
-            values.push(format!(in alloc; "{high}")?)?;
+            add(alloc, values, low)?;
+            add(alloc, values, high)
         }
         Kind::Name(names) => {
             for name in names {
-                values.push(format!(in alloc; "\"{name}\"")?)?;
+                add(alloc, values, Quoted(name))?;
             }
+            Ok(())
         }
         Kind::Wholes(Range(least, most), Range(low, _)) => {
-            let low = format!(in alloc; "{low}")?;
-            values.push(array(alloc, least, low.as_str())?)?;
-            values.push(array(alloc, most, low.as_str())?)?;
+            add_array(alloc, values, least, Value::Number(low))?;
+            add_array(alloc, values, most, Value::Number(low))
         }
-        Kind::Names(Range(least, most), names) => {
-            for name in names {
-                let name = format!(in alloc; "\"{name}\"")?;
-                values.push(array(alloc, least, name.as_str())?)?;
-                values.push(array(alloc, most, name.as_str())?)?;
-            }
-        }
-        Kind::Tables(_) => values.push(String::from_str(alloc, "[]")?)?,
+        Kind::Names(lengths, names) => add_names(alloc, values, lengths, names),
+        Kind::Tables(_) => add_array(alloc, values, 0, Value::Table),
     }
-    Ok(values)
 }
 
-/// Values that a kind doesn't take: of another kind, past a range, no name, an array too short or too long.
-pub(crate) fn bad(alloc: Global, kind: Kind) -> Result<Vec<String>, AllocError> {
-    let mut values = Vec::new(alloc);
-    values.push(String::from_str(alloc, "1979-05-27")?)?;
-    match kind {
-        Kind::Truth | Kind::Text => {}
-        Kind::Whole(Range(low, high)) => {
-            values.push(format!(in alloc; "{}", i64::from(low).saturating_sub(1))?)?;
-            values.push(format!(in alloc; "{}", i64::from(high).saturating_add(1))?)?;
-            values.push(String::from_str(alloc, "1.0")?)?;
-        }
-        Kind::Name(_) => values.push(String::from_str(alloc, "\"no such name\"")?)?,
-        Kind::Wholes(Range(least, most), Range(low, _)) => {
-            let low = format!(in alloc; "{low}")?;
-            if least > 0 {
-                values.push(array(alloc, least.saturating_sub(1), low.as_str())?)?;
-            }
-            values.push(array(alloc, most.saturating_add(1), low.as_str())?)?;
-        }
-        Kind::Names(Range(least, most), names) => {
-            let name = format!(in alloc; "\"{}\"", names.first().copied().unwrap_or(""))?;
-            if least > 0 {
-                values.push(array(alloc, least.saturating_sub(1), name.as_str())?)?;
-            }
-            values.push(array(alloc, most.saturating_add(1), name.as_str())?)?;
-        }
-        Kind::Tables(most) => values.push(array(alloc, most.saturating_add(1), "{}")?)?,
+/// Adds arrays that are too short and too long.
+fn add_beyond(
+    alloc: Global,
+    values: &mut Vec<String>,
+    lengths: Range,
+    value: Value<'_>,
+) -> Result<(), AllocError> {
+    let Range(least, most) = lengths;
+    if least > 0 {
+        add_array(alloc, values, least.saturating_sub(1), value)?;
     }
-    Ok(values)
+    add_array(alloc, values, most.saturating_add(1), value)
+}
+
+/// Adds values that a kind doesn't take: of another kind, past a range, no name, an array too short or too long.
+pub(crate) fn add_bad(
+    alloc: Global,
+    values: &mut Vec<String>,
+    kind: Kind,
+) -> Result<(), AllocError> {
+    add(alloc, values, "1979-05-27")?;
+    match kind {
+        Kind::Truth | Kind::Text => Ok(()),
+        Kind::Whole(Range(low, high)) => {
+            add(alloc, values, i64::from(low).saturating_sub(1))?;
+            add(alloc, values, i64::from(high).saturating_add(1))?;
+            add(alloc, values, "1.0")
+        }
+        Kind::Name(_) => add(alloc, values, Quoted("no such name")),
+        Kind::Wholes(lengths, Range(low, _)) => {
+            add_beyond(alloc, values, lengths, Value::Number(low))
+        }
+        Kind::Names(lengths, names) => {
+            let name = names.first().copied().unwrap_or("");
+            add_beyond(alloc, values, lengths, Value::Name(name))
+        }
+        Kind::Tables(most) => add_beyond(alloc, values, Range(0, most), Value::Table),
+    }
 }
 
 /// A key and a value that a table is to have beside those that it has to have.
@@ -105,45 +177,50 @@ fn has_to_be(need: Need, other: Option<(&str, &str)>) -> bool {
     }
 }
 
-/// The first value that a kind takes; of a name, the one that is asked for.
-fn first_good(
-    alloc: Global,
-    row: KeyRow,
-    other: Option<(&str, &str)>,
-) -> Result<String, AllocError> {
-    let KeyRow(key, kind, _) = row;
-    if let Some((asked, name)) = other {
-        if asked == key.text() {
-            return format!(in alloc; "\"{name}\"");
-        }
-    }
-    match good(alloc, kind)?.first() {
-        Some(value) => value.clone(),
-        None => Ok(String::new(alloc)),
+/// Writes a key with the first value that its kind takes.
+fn put_first(alloc: Global, text: &mut String, key: &str, kind: Kind) -> Result<(), AllocError> {
+    let mut values = Vec::new(alloc);
+    add_good(alloc, &mut values, kind)?;
+    match values.first() {
+        Some(value) => write!(text, "{key} = {value}, "),
+        None => Ok(()),
     }
 }
 
-/// The members of a table that has what it has to have, and for one row this value, or none.
-pub(crate) fn members(
+/// Writes a key that has to be there beside the one that is tried: with the name that is asked for, if it is the key of
+/// which one is.
+fn put_member(
     alloc: Global,
+    text: &mut String,
+    row: KeyRow,
+    other: Option<(&str, &str)>,
+) -> Result<(), AllocError> {
+    let KeyRow(key, kind, need) = row;
+    let key = key.text();
+    match other {
+        Some((asked, name)) if asked == key => write!(text, "{key} = \"{name}\", "),
+        _ if has_to_be(need, other) => put_first(alloc, text, key, kind),
+        _ => Ok(()),
+    }
+}
+
+/// Writes the members of a table that has what it has to have, and for one row this value, or none.
+pub(crate) fn put_members(
+    alloc: Global,
+    text: &mut String,
     table: &Table,
     row: KeyRow,
     given: Option<Given<'_>>,
-) -> Result<String, AllocError> {
+) -> Result<(), AllocError> {
     let KeyRow(tried, _, need) = row;
     let other = asked_by(need);
-    let mut text = String::new(alloc);
     for row in table.rows {
-        let KeyRow(key, _, need) = *row;
-        let is_asked = other.is_some_and(|(asked, _)| asked == key.text());
-        if key.text() != tried.text() && (is_asked || has_to_be(need, other)) {
-            let value = first_good(alloc, *row, other)?;
-            let key = key.text();
-            write!(text, "{key} = {value}, ")?;
+        if row.0.text() != tried.text() {
+            put_member(alloc, text, *row, other)?;
         }
     }
-    if let Some(Given { key, value }) = given {
-        write!(text, "{key} = {value}, ")?;
+    match given {
+        Some(Given { key, value }) => write!(text, "{key} = {value}, "),
+        None => Ok(()),
     }
-    Ok(text)
 }

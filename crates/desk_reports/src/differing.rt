@@ -22,11 +22,12 @@ fn number_at(lines: &[ReportLine<'_>], place: usize) -> u32 {
 
 /// Whether lines say the same.
 fn are_same(one: &[ReportLine<'_>], other: &[ReportLine<'_>]) -> bool {
+    for (line, other) in one.iter().zip(other) {
+        if line.text != other.text {
+            return false;
+        }
+    }
     one.len() == other.len()
-        && one
-            .iter()
-            .zip(other)
-            .all(|(line, other)| line.text == other.text)
 }
 
 /// Where two reports differ, by the lines of their script.

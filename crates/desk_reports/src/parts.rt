@@ -38,6 +38,10 @@ pub(crate) fn lines_at<'a>(
     number: u32,
 ) -> &'a [ReportLine<'a>] {
     let rest = lines.get(place..).unwrap_or(&[]);
-    let count = rest.iter().take_while(|line| line.number == number).count();
-    rest.get(..count).unwrap_or(&[])
+    for (count, line) in rest.iter().enumerate() {
+        if line.number != number {
+            return rest.get(..count).unwrap_or(&[]);
+        }
+    }
+    rest
 }

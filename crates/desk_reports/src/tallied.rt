@@ -70,14 +70,30 @@ fn begun_by(order: &Order) -> Option<FrameName> {
     }
 }
 
+/// The place of the tally of a name.
+fn place_of_name(frames: &[FrameTally], name: FrameName) -> Option<usize> {
+    for (place, tally) in frames.iter().enumerate() {
+        if is_same(tally.name, name) {
+            return Some(place);
+        }
+    }
+    None
+}
+
+/// The place of the count of a cause.
+fn place_of_cause(held: &[(String, usize)], cause: &str) -> Option<usize> {
+    for (place, (other, _)) in held.iter().enumerate() {
+        if other.as_str() == cause {
+            return Some(place);
+        }
+    }
+    None
+}
+
 impl Tallies {
     /// The tally of a name, begun where there is none.
     fn tally_of(&mut self, open: Open) -> Result<usize, AllocError> {
-        let found = self
-            .frames
-            .iter()
-            .position(|tally| is_same(tally.name, open.name));
-        if let Some(place) = found {
+        if let Some(place) = place_of_name(&self.frames, open.name) {
             return Ok(place);
         }
         self.frames.push(FrameTally {
@@ -138,11 +154,7 @@ impl Tallies {
 
     /// Counts a cause for which a directive was held.
     fn hold(&mut self, alloc: Global, cause: &str) -> Result<(), AllocError> {
-        let found = self
-            .held
-            .iter()
-            .position(|(other, _)| other.as_str() == cause);
-        match found {
+        match place_of_cause(&self.held, cause) {
             Some(place) => {
                 if let Some((_, count)) = self.held.get_mut(place) {
                     *count = count.saturating_add(1);
@@ -159,11 +171,7 @@ impl Tallies {
             return self.hold(alloc, cause);
         }
         if let Some(step) = text.strip_prefix("step ") {
-            let made = match step.split_once(' ') {
-                Some((_, made)) => first_word(made),
-                None => "",
-            };
-            return self.step(made);
+            return self.step(made_by(step));
         }
         if text.starts_with("return ") || text.starts_with("left ") {
             if let Some(open) = self.open.pop() {
@@ -171,13 +179,27 @@ impl Tallies {
             }
         }
         if text.starts_with("reset ") {
-            for _ in 0..self.open.len() {
-                if let Some(open) = self.open.pop() {
-                    self.count_frame(open, false)?;
-                }
+            self.drop_all()?;
+        }
+        Ok(())
+    }
+
+    /// Counts the frames that are under way as such as don't end.
+    fn drop_all(&mut self) -> Result<(), AllocError> {
+        for _ in 0..self.open.len() {
+            if let Some(open) = self.open.pop() {
+                self.count_frame(open, false)?;
             }
         }
         Ok(())
+    }
+}
+
+/// The name of the move that a step made, by what stands behind its word.
+fn made_by(step: &str) -> &str {
+    match step.split_once(' ') {
+        Some((_, made)) => first_word(made),
+        None => "",
     }
 }
 
@@ -227,10 +249,6 @@ pub fn tally(
             tallies.line(alloc, line.text)?;
         }
     }
-    for _ in 0..tallies.open.len() {
-        if let Some(open) = tallies.open.pop() {
-            tallies.count_frame(open, false)?;
-        }
-    }
+    tallies.drop_all()?;
     Ok(tallies)
 }

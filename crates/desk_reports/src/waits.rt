@@ -58,9 +58,12 @@ fn pass(waits: &mut [Wait], steps: u64, ticks: u64) {
 
 /// Whether a line waits.
 fn is_waiting(waits: &[Wait], line: u32) -> bool {
-    waits
-        .iter()
-        .any(|wait| wait.line == line && wait.began.is_none())
+    for wait in waits {
+        if wait.line == line && wait.began.is_none() {
+            return true;
+        }
+    }
+    false
 }
 
 /// Has a line wait no longer.

@@ -2,7 +2,7 @@ use crate::json::differences_json;
 use crate::junit::suite;
 use crate::running::run_bench;
 use crate::told::{Style, Told};
-use desk_reports::{differences, put_difference, report_lines};
+use desk_reports::{Difference, differences, put_difference, report_lines};
 use std::alloc::{AllocError, Global};
 
 /// The status where two reports differ.
@@ -19,6 +19,40 @@ pub struct Comparison<'a> {
     pub printed: &'a str,
 }
 
+/// Differences for a person.
+fn page(alloc: Global, found: &[Difference<'_>]) -> Result<String, AllocError> {
+    let mut text = String::new(alloc);
+    for difference in found {
+        put_difference(&mut text, *difference)?;
+    }
+    Ok(text)
+}
+
+/// Differences as a suite of one test.
+fn tested(alloc: Global, name: &str, found: &[Difference<'_>]) -> Result<String, AllocError> {
+    let failure = page(alloc, found)?;
+    suite(alloc, name, failure.as_str())
+}
+
+/// Differences as they are told.
+fn told(
+    alloc: Global,
+    name: &str,
+    found: &[Difference<'_>],
+    style: Style,
+) -> Result<Told, AllocError> {
+    let status = if found.is_empty() { 0 } else { DIFFERENT };
+    let text = match style {
+        Style::Plain => page(alloc, found),
+        Style::Json => differences_json(alloc, name, found),
+        Style::Junit => tested(alloc, name, found),
+    };
+    Ok(Told {
+        status,
+        text: text?,
+    })
+}
+
 /// Tells where two reports differ, by the lines of their script. The status is 8 where they do.
 pub fn compared(
     alloc: Global,
@@ -28,19 +62,7 @@ pub fn compared(
     let expected = report_lines(alloc, comparison.expected)?;
     let printed = report_lines(alloc, comparison.printed)?;
     let found = differences(alloc, &expected, &printed)?;
-    let mut text = String::new(alloc);
-    for difference in &found {
-        put_difference(&mut text, *difference)?;
-    }
-    let text = match style {
-        Style::Plain => text,
-        Style::Json => differences_json(alloc, comparison.name, &found)?,
-        Style::Junit => suite(alloc, comparison.name, text.as_str())?,
-    };
-    Ok(Told {
-        status: if found.is_empty() { 0 } else { DIFFERENT },
-        text,
-    })
+    told(alloc, comparison.name, &found, style)
 }
 
 /// Runs a file, and tells where what it prints is not what is expected. Where the bench refuses it, that is told, with its
@@ -55,10 +77,7 @@ pub fn expected(
 ) -> Result<Told, AllocError> {
     let ran = run_bench(alloc, bytes, is_traced)?;
     if ran.status != 0 {
-        return Ok(Told {
-            status: ran.status,
-            text: ran.text,
-        });
+        return Ok(ran);
     }
     let comparison = Comparison {
         name,

@@ -1,99 +1,138 @@
 use clap::{Arg, ArgAction, Command};
 use std::alloc::{AllocError, Global};
 
-/// A word that may be given or not.
-fn flag<'a>(alloc: Global, name: &'a str, help: &'a str) -> Arg<'a> {
-    Arg::new(alloc, name)
-        .long(name)
-        .action(ArgAction::SetTrue)
-        .help(help)
+/// How a word of the command line is given.
+#[derive(Clone, Copy)]
+enum Kind {
+    /// As `--NAME`, or not at all.
+    Flag,
+    /// As `--NAME REPORT`, or not at all.
+    Report,
+    /// As the path of a file, always.
+    File,
+    /// As the paths of files, at least one.
+    Files,
 }
 
-/// The path of a file that has to be given.
-fn file<'a>(alloc: Global, name: &'a str, help: &'a str) -> Arg<'a> {
-    Arg::new(alloc, name)
-        .required(true)
-        .action(ArgAction::Set)
-        .help(help)
-}
+use Kind::{File, Files, Flag, Report};
+
+/// A word of the command line: how it is given, its name, and what help says of it.
+#[derive(Clone, Copy)]
+struct Word(Kind, &'static str, &'static str);
+
+/// A form: its name, what help says of it, and its words.
+#[derive(Clone, Copy)]
+struct Form(&'static str, &'static str, &'static [Word]);
+
+/// A word for a bench file.
+const BENCH: Word = Word(File, "FILE", "A bench file");
 
 /// `mcal lint`.
-fn lint<'a>(alloc: Global) -> Result<Command<'a>, AllocError> {
-    let files = Arg::new(alloc, "FILE")
-        .required(true)
-        .num_args(1..)
-        .action(ArgAction::Append)
-        .help("Bench files");
-    Command::new(alloc, "lint")
-        .about("Tell all that is wrong in bench files, with places, and what may not be meant")
-        .arg(flag(alloc, "strict", "Warnings count as errors"))?
-        .arg(flag(alloc, "json", "Print a line of JSON for each file"))?
-        .arg(files)
-}
+const LINT: Form = Form(
+    "lint",
+    "Tell all that is wrong in bench files, with places, and what may not be meant",
+    &[
+        Word(Flag, "strict", "Warnings count as errors"),
+        Word(Flag, "json", "Print a line of JSON for each file"),
+        Word(Files, "FILE", "Bench files"),
+    ],
+);
 
 /// `mcal list`.
-fn list<'a>(alloc: Global) -> Result<Command<'a>, AllocError> {
-    Command::new(alloc, "list")
-        .about("Print a script with what each line printed beside it")
-        .arg(flag(alloc, "trace", "Tell how many steps each line made"))?
-        .arg(file(alloc, "FILE", "A bench file"))
-}
+const LIST: Form = Form(
+    "list",
+    "Print a script with what each line printed beside it",
+    &[
+        Word(Flag, "trace", "Tell how many steps each line made"),
+        BENCH,
+    ],
+);
 
 /// `mcal diff`.
-fn diff<'a>(alloc: Global) -> Result<Command<'a>, AllocError> {
-    Command::new(alloc, "diff")
-        .about("Print where two reports differ, by the lines of their script")
-        .arg(flag(alloc, "json", "Print a line of JSON"))?
-        .arg(file(alloc, "ONE", "A report"))?
-        .arg(file(alloc, "OTHER", "Another report"))
-}
+const DIFF: Form = Form(
+    "diff",
+    "Print where two reports differ, by the lines of their script",
+    &[
+        Word(Flag, "json", "Print a line of JSON"),
+        Word(File, "ONE", "A report"),
+        Word(File, "OTHER", "Another report"),
+    ],
+);
 
 /// `mcal run`.
-fn run<'a>(alloc: Global) -> Result<Command<'a>, AllocError> {
-    let expect = Arg::new(alloc, "expect")
-        .long("expect")
-        .value_name("REPORT")
-        .action(ArgAction::Set)
-        .help("Print where the report differs from this one, with status 8");
-    Command::new(alloc, "run")
-        .about("Run a bench file and print its report")
-        .arg(flag(alloc, "trace", "A line for each step"))?
-        .arg(expect)?
-        .arg(flag(alloc, "junit", "Print what differs as a suite of JUnit"))?
-        .arg(flag(alloc, "json", "Print what differs as a line of JSON"))?
-        .arg(file(alloc, "FILE", "A bench file"))
+const RUN: Form = Form(
+    "run",
+    "Run a bench file and print its report",
+    &[
+        Word(Flag, "trace", "A line for each step"),
+        Word(
+            Report,
+            "expect",
+            "Print where the report differs from this one, with status 8",
+        ),
+        Word(Flag, "junit", "Print what differs as a suite of JUnit"),
+        Word(Flag, "json", "Print what differs as a line of JSON"),
+        BENCH,
+    ],
+);
+
+/// `mcal stats`.
+const STATS: Form = Form(
+    "stats",
+    "Count steps, windows, waits and what was held in a run",
+    &[BENCH],
+);
+
+/// `mcal schema`.
+const SCHEMA: Form = Form("schema", "Print the JSON schema of a configuration", &[]);
+
+/// `mcal map`.
+const MAP: Form = Form(
+    "map",
+    "Say whose driver words and interrupt lines are",
+    &[BENCH],
+);
+
+/// All forms, in the order of the help.
+static FORMS: [Form; 7] = [LINT, LIST, DIFF, RUN, STATS, SCHEMA, MAP];
+
+/// The argument for a word.
+fn argument<'a>(alloc: Global, word: Word) -> Arg<'a> {
+    let Word(kind, name, help) = word;
+    let argument = Arg::new(alloc, name).help(help);
+    match kind {
+        Flag => argument.long(name).action(ArgAction::SetTrue),
+        Report => argument
+            .long(name)
+            .value_name("REPORT")
+            .action(ArgAction::Set),
+        File => argument.required(true).action(ArgAction::Set),
+        Files => argument
+            .required(true)
+            .num_args(1..)
+            .action(ArgAction::Append),
+    }
 }
 
-/// `mcal stats`, `mcal map`: a form of one file.
-fn of_file<'a>(alloc: Global, name: &'a str, about: &'a str) -> Result<Command<'a>, AllocError> {
-    Command::new(alloc, name)
-        .about(about)
-        .arg(file(alloc, "FILE", "A bench file"))
+/// The command of a form.
+fn command_of<'a>(alloc: Global, form: Form) -> Result<Command<'a>, AllocError> {
+    let Form(name, about, words) = form;
+    let mut command = Command::new(alloc, name).about(about);
+    for word in words {
+        command = command.arg(argument(alloc, *word))?;
+    }
+    Ok(command)
 }
 
 /// The forms of the program.
 pub fn command<'a>(alloc: Global) -> Result<Command<'a>, AllocError> {
-    let stats = of_file(
-        alloc,
-        "stats",
-        "Count steps, windows, waits and what was held in a run",
-    )?;
-    let map = of_file(
-        alloc,
-        "map",
-        "Say whose driver words and interrupt lines are",
-    )?;
-    let schema = Command::new(alloc, "schema").about("Print the JSON schema of a configuration");
-    Command::new(alloc, "mcal")
+    let mut command = Command::new(alloc, "mcal")
         .about("What a person does with bench files and their reports")
         .version("1.0")
         .subcommand_required(true)
-        .arg_required_else_help(true)
-        .subcommand(lint(alloc)?)?
-        .subcommand(list(alloc)?)?
-        .subcommand(diff(alloc)?)?
-        .subcommand(run(alloc)?)?
-        .subcommand(stats)?
-        .subcommand(schema)?
-        .subcommand(map)
+        .arg_required_else_help(true);
+    for form in &FORMS {
+        command = command.subcommand(command_of(alloc, *form)?)?;
+    }
+    Ok(command)
 }

@@ -19,6 +19,19 @@ fn finding_value(alloc: Global, lines: &Lines<'_>, finding: &Finding) -> Result<
     })
 }
 
+/// Adds findings as values.
+fn add_findings(
+    alloc: Global,
+    all: &mut Vec<Value>,
+    lines: &Lines<'_>,
+    findings: &[Finding],
+) -> Result<(), AllocError> {
+    for finding in findings {
+        all.push(finding_value(alloc, lines, finding)?)?;
+    }
+    Ok(())
+}
+
 /// What is found in a file, as a line of JSON.
 pub(crate) fn findings_json(
     alloc: Global,
@@ -28,12 +41,8 @@ pub(crate) fn findings_json(
     warnings: &[Finding],
 ) -> Result<String, AllocError> {
     let mut all = Vec::new(alloc);
-    for finding in errors {
-        all.push(finding_value(alloc, lines, finding)?)?;
-    }
-    for finding in warnings {
-        all.push(finding_value(alloc, lines, finding)?)?;
-    }
+    add_findings(alloc, &mut all, lines, errors)?;
+    add_findings(alloc, &mut all, lines, warnings)?;
     let all = Value::Array(all);
     line_of(alloc, json!(in alloc; {"file": name, "findings": all})?)
 }

@@ -14,22 +14,32 @@ fn put_escaped(text: &mut String, plain: &str) -> Result<(), AllocError> {
     Ok(())
 }
 
-/// The result of a file as a suite of one test; it failed where a text says how.
-pub(crate) fn suite(alloc: Global, name: &str, failure: &str) -> Result<String, AllocError> {
+/// Writes how the test failed, where a text says it.
+fn put_failure(text: &mut String, failure: &str) -> Result<(), AllocError> {
+    if failure.is_empty() {
+        return Ok(());
+    }
+    text.push_str("<failure message=\"another report was expected\">\n")?;
+    put_escaped(text, failure)?;
+    text.push_str("</failure>")
+}
+
+/// Writes the result of a file as a suite of one test.
+fn put_suite(text: &mut String, name: &str, failure: &str) -> Result<(), AllocError> {
     let failures = if failure.is_empty() { 0 } else { 1 };
-    let mut text = String::from_str(alloc, "<?xml version=\"1.0\" encoding=\"UTF-8\"?>\n")?;
     write!(
         text,
-        "<testsuite name=\"mcal\" tests=\"1\" failures=\"{failures}\">\n"
+        "<?xml version=\"1.0\" encoding=\"UTF-8\"?>\n<testsuite name=\"mcal\" tests=\"1\" failures=\"{failures}\">\n<testcase name=\""
     )?;
-    text.push_str("<testcase name=\"")?;
-    put_escaped(&mut text, name)?;
+    put_escaped(text, name)?;
     text.push_str("\">")?;
-    if !failure.is_empty() {
-        text.push_str("<failure message=\"another report was expected\">\n")?;
-        put_escaped(&mut text, failure)?;
-        text.push_str("</failure>")?;
-    }
-    text.push_str("</testcase>\n</testsuite>\n")?;
+    put_failure(text, failure)?;
+    text.push_str("</testcase>\n</testsuite>\n")
+}
+
+/// The result of a file as a suite of one test; it failed where a text says how.
+pub(crate) fn suite(alloc: Global, name: &str, failure: &str) -> Result<String, AllocError> {
+    let mut text = String::new(alloc);
+    put_suite(&mut text, name, failure)?;
     Ok(text)
 }

@@ -21,5 +21,5 @@ pub use laws::agrees_with_check;
 pub use linting::lint_told;
 pub use listing::list;
 pub use mapping::map;
-pub use running::{Ran, run_bench};
+pub use running::run_bench;
 pub use told::{Style, Told};

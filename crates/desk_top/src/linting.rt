@@ -8,7 +8,45 @@ use desk_lint::lint_file;
 use desk_places::Lines;
 use std::alloc::{AllocError, Global};
 
-/// What is found in a file, for a person: errors and warnings in the order of the file's lines.
+/// Writes a finding.
+fn put(
+    alloc: Global,
+    text: &mut String,
+    name: &str,
+    lines: &Lines<'_>,
+    finding: &Finding,
+) -> Result<(), AllocError> {
+    let shown = shown(alloc, name, lines, finding)?;
+    text.push_str(shown.as_str())
+}
+
+/// Writes what is found in a file: errors and warnings in the order of the file's lines.
+fn put_page(
+    alloc: Global,
+    text: &mut String,
+    name: &str,
+    lines: &Lines<'_>,
+    errors: &[Finding],
+    warnings: &[Finding],
+) -> Result<(), AllocError> {
+    let mut place = 0usize;
+    for error in errors {
+        for warning in warnings.iter().skip(place) {
+            if error.span.start < warning.span.start {
+                break;
+            }
+            put(alloc, text, name, lines, warning)?;
+            place = place.saturating_add(1);
+        }
+        put(alloc, text, name, lines, error)?;
+    }
+    for warning in warnings.iter().skip(place) {
+        put(alloc, text, name, lines, warning)?;
+    }
+    Ok(())
+}
+
+/// What is found in a file, for a person.
 fn page(
     alloc: Global,
     name: &str,
@@ -17,20 +55,7 @@ fn page(
     warnings: &[Finding],
 ) -> Result<String, AllocError> {
     let mut text = String::new(alloc);
-    let mut place = 0usize;
-    for error in errors {
-        for warning in warnings.iter().skip(place) {
-            if error.span.start < warning.span.start {
-                break;
-            }
-            text.push_str(shown(alloc, name, lines, warning)?.as_str())?;
-            place = place.saturating_add(1);
-        }
-        text.push_str(shown(alloc, name, lines, error)?.as_str())?;
-    }
-    for warning in warnings.iter().skip(place) {
-        text.push_str(shown(alloc, name, lines, warning)?.as_str())?;
-    }
+    put_page(alloc, &mut text, name, lines, errors, warnings)?;
     Ok(text)
 }
 
@@ -57,8 +82,11 @@ pub fn lint_told(
     let status = status_of(found.errors.is_empty(), is_warned);
     let lines = Lines::of(alloc, bytes)?;
     let text = match style {
-        Style::Plain | Style::Junit => page(alloc, name, &lines, &found.errors, &found.warnings)?,
-        Style::Json => findings_json(alloc, name, &lines, &found.errors, &found.warnings)?,
+        Style::Plain | Style::Junit => page(alloc, name, &lines, &found.errors, &found.warnings),
+        Style::Json => findings_json(alloc, name, &lines, &found.errors, &found.warnings),
     };
-    Ok(Told { status, text })
+    Ok(Told {
+        status,
+        text: text?,
+    })
 }

@@ -10,8 +10,12 @@ const SEPARATOR: &[u8] = b"---";
 
 /// The number of the first line of the script.
 fn first_line(lines: &Lines<'_>) -> usize {
-    let separator = (1..lines.count()).find(|line| lines.line(*line) == SEPARATOR);
-    separator.unwrap_or(0).saturating_add(1)
+    for number in 1..lines.count() {
+        if lines.line(number) == SEPARATOR {
+            return number.saturating_add(1);
+        }
+    }
+    1
 }
 
 /// The lines of a file from one on, without an empty one at its end.
@@ -30,26 +34,28 @@ fn script_lines<'a>(
     Ok(script)
 }
 
-/// A file's script with what each line printed beside it, steps folded. Where the bench refuses the file, that is told.
-pub fn list(alloc: Global, bytes: &[u8], is_traced: bool) -> Result<Told, AllocError> {
-    let ran = run_bench(alloc, bytes, is_traced)?;
-    if ran.status != 0 {
-        return Ok(Told {
-            status: ran.status,
-            text: ran.text,
-        });
-    }
+/// A file's script with what each line printed in a report beside it.
+fn page(alloc: Global, bytes: &[u8], report: &str) -> Result<String, AllocError> {
     let lines = Lines::of(alloc, bytes)?;
     let first = first_line(&lines);
     let script = script_lines(alloc, &lines, first)?;
-    let report = report_lines(alloc, ran.text.as_str())?;
-    let text = listed(
+    let report = report_lines(alloc, report)?;
+    listed(
         alloc,
         Listing {
             script: &script,
             first,
             report: &report,
         },
-    )?;
+    )
+}
+
+/// A file's script with what each line printed beside it, steps folded. Where the bench refuses the file, that is told.
+pub fn list(alloc: Global, bytes: &[u8], is_traced: bool) -> Result<Told, AllocError> {
+    let ran = run_bench(alloc, bytes, is_traced)?;
+    if ran.status != 0 {
+        return Ok(ran);
+    }
+    let text = page(alloc, bytes, ran.text.as_str())?;
     Ok(Told { status: 0, text })
 }

@@ -1,3 +1,4 @@
+use crate::told::Told;
 use bench_top::bench;
 use mcal_base::{ListSource, StdSink};
 use serial_devices::{PlainDevice, SerialDevice};
@@ -6,22 +7,20 @@ use std::alloc::{AllocError, Global};
 /// How many bytes the bench is handed at a time.
 const PIECE: usize = 4_096;
 
-/// What the bench did with a file.
-#[derive(Drop)]
-pub struct Ran {
-    /// Its status.
-    pub status: u8,
-    /// What it printed.
-    pub text: String,
-}
-
-/// Has the bench run a file, as the program `mcal_bench` does, with the same two devices.
-pub fn run_bench(alloc: Global, bytes: &[u8], is_traced: bool) -> Result<Ran, AllocError> {
+/// The words of a run.
+fn words(alloc: Global, is_traced: bool) -> Result<Vec<String>, AllocError> {
     let mut words = Vec::new(alloc);
     words.push(String::from_str(alloc, "run")?)?;
     if is_traced {
         words.push(String::from_str(alloc, "--trace")?)?;
     }
+    Ok(words)
+}
+
+/// Has the bench run a file, as the program `mcal_bench` does, with the same two devices: what that prints, and its
+/// status.
+pub fn run_bench(alloc: Global, bytes: &[u8], is_traced: bool) -> Result<Told, AllocError> {
+    let words = words(alloc, is_traced)?;
     let mut rack: Vec<Box<dyn SerialDevice>> = Vec::new(alloc);
     rack.push(Box::new(alloc, PlainDevice::new(false))?)?;
     rack.push(Box::new(alloc, PlainDevice::new(true))?)?;
@@ -31,7 +30,7 @@ pub fn run_bench(alloc: Global, bytes: &[u8], is_traced: bool) -> Result<Ran, Al
     let outcome = bench(alloc, &words, &mut input, &mut out, &mut rack);
     let status = outcome.status;
     drop(out);
-    Ok(Ran {
+    Ok(Told {
         status,
         text: String::from_utf8_lossy(alloc, &printed)?,
     })

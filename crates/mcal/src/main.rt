@@ -63,13 +63,7 @@ fn run(rt: &HostRuntime, matches: &ArgMatches<'_>) -> Result<u8> {
             let style = style_of(matches);
             expected(rt.alloc(), path, &bytes, traced, report.as_str(), style)?
         }
-        None => {
-            let ran = run_bench(rt.alloc(), &bytes, traced)?;
-            Told {
-                status: ran.status,
-                text: ran.text,
-            }
-        }
+        None => run_bench(rt.alloc(), &bytes, traced)?,
     };
     print(rt, told)
 }
