@@ -213,6 +213,16 @@ pub(crate) fn committed_after(
     times
 }
 
+/// A commit register is written, where a move does that now.
+fn commit(committed: &mut [Option<u64>; 8], made: &Move, now: u64)
+    requires { CanApply made.now }
+    ensures { committed.new ≡ spec.committed_after committed.old made.now now }
+{
+    if let Move::Write(Reg::PulseCommit(channel), _) = *made {
+        committed[channel as usize] = Some(now);
+    }
+}
+
 impl Accesses {
     /// Nothing was read or written yet.
     pub(crate) fn none() -> Accesses
@@ -229,21 +239,19 @@ impl Accesses {
         }
     }
 
-    /// After a move now, which is of these kinds of write that the call owes.
-    pub(crate) fn after(&self, task: Task, made: &Move, around: &Around) -> Accesses
+    /// A move is made now, which is of these kinds of write that the call owes.
+    pub(crate) fn take(&mut self, task: Task, made: &Move, around: &Around)
         requires { CanApply made.now }
-        ensures { result ≡ spec.accesses_after self.now task made.now around.now }
+        ensures { self.new ≡ spec.accesses_after self.old task made.now around.now }
     {
         let counter = counter_of(task);
-        Accesses {
-            low_read: has_read_low(self.low_read, counter, made),
-            high_read: has_read_high(self.high_read, counter, made),
-            wrote: has_written(self.wrote, made),
-            made: self.made | around.settles,
-            lows: lows_after(self.lows, made),
-            beside: beside_after(self.beside, task, made),
-            committed: committed_after(self.committed, made, around.time),
-        }
+        self.low_read = has_read_low(self.low_read, counter, made);
+        self.high_read = has_read_high(self.high_read, counter, made);
+        self.wrote = has_written(self.wrote, made);
+        self.made |= around.settles;
+        self.lows = lows_after(self.lows, made);
+        self.beside = beside_after(self.beside, task, made);
+        commit(&mut self.committed, made, around.time);
     }
 
     /// Whether the move stands in the window in which it belongs: a high half is read with the mask closed, after its low half

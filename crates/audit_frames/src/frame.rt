@@ -190,7 +190,7 @@ impl Frame {
         self.report = report_after(report, made);
         keep_answer(&mut self.answer, event, told.answer());
         self.lines = self.lines.after(task, event, polls, around.unready);
-        self.accesses = self.accesses.after(task, made, around);
+        self.accesses.take(task, made, around);
         self.pace = self.pace.after(made, event);
         owe_after(&mut self.owed, made, event, told.notices())
     }

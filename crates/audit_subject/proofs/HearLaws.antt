@@ -1,5 +1,5 @@
 -- What a module says of a step is what the frame of the step is judged by.
-use Rattle.std.proofs.Common.{◌≡◌, ℕ, ◌<◌, not, List, Option, Some, sym, ◌∙◌, ap, subst}
+use Rattle.std.proofs.Common.{◌≡◌, ℕ, ◌<◌, not, Option, Some, sym, ◌∙◌, ap, subst}
 use Rattle.std.specs.Prelude.{length, option_map}
 use Rattle.mcal_base.specs.Bits.{has_bit}
 use Rattle.mcal_base.specs.Reach.{CanApply}
@@ -33,12 +33,6 @@ times_brought g k o w made now received stands can at c lt =
     sym (time_of (committed_at k made now) now c lt
     ∙ (ap (λ t. time_or now t) (committed_kept w k.accesses.committed o.committed made now c can stands.accesses.channels (sym at) stands.accesses.committed)
     ∙ ap (λ n. time_or n (frame.committed_after w o.committed made c)) (sym at)))
-
--- and so are those that are handed on
-pub times_given : {State Call : Type 0} (g : Setting State Call) (k : Kept) (o : Open Call) (w : World) (made : Move) (now received : ℕ) (kept : List (Option ℕ)) (times : List ℕ) → StandsFor g k o → CanApply made → w.now ≡ now
-    → kept ≡ committed_at k made now → times ≡ times_at kept now → AreTimes times (brought_by w o.committed made received).committed
-times_given g k o w made now received kept times stands can at is brings =
-    subst (λ ts. AreTimes ts (brought_by w o.committed made received).committed) (sym (brings ∙ ap (λ cs. times_at cs now) is)) (times_brought g k o w made now received stands can at)
 
 -- what a machine and a module say of a step
 pub record Facts {State Call : Type 0} (mac : Machine State Call) (stands : State → Type 0) (m : Moment State Call) (o : Open Call) (s : Stepped) (asked : ℕ) (heard : Heard) (done : Done) : Type 0 where

@@ -1,5 +1,5 @@
 -- What a module says of a step of a frame.
-use Rattle.std.specs.Prelude.{◌≡◌, ℕ, Option, Some, None, IsSome, option_map}
+use Rattle.std.specs.Prelude.{◌≡◌, ℕ, Bool, true, false, Option, Some, None, IsSome, option_map}
 use Rattle.run_model.specs.Frame.{Open, begun_by, outcome_at, state_after}
 use Rattle.run_model.specs.Machine.{Outcome}
 use Rattle.run_model.specs.Moment.{Moment, Setting}
@@ -22,3 +22,8 @@ pub record Says {State Call : Type 0} (g : Setting State Call) (stands : State �
 abbrev pub Hears : {State Call : Type 0} → Setting State Call → (stands : State → Type 0) → Moment State Call → Open Call → Stepped → (asked : ℕ) → Option Heard → Type 0
 Hears g stands m o s asked (Some heard) = Says g stands m o s asked heard
 Hears g stands m o s asked None = IsSome s.event × (made_of g m o s ≡ None) × stands m.state
+
+-- what was written down, where the machine allows the step's event
+abbrev pub heard_in : (allowed : Bool) → Heard → Option Heard
+heard_in true h = Some h
+heard_in false h = None

@@ -15,5 +15,5 @@ pub use hearing::{Heard, hear};
 pub use lines::{calm, unready};
 pub use origin::Origin;
 pub use subject::Subject;
-pub use telling::{tell, times_at};
+pub use telling::times_at;
 pub use terms::{call_terms, line_terms};

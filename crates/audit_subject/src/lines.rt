@@ -1,4 +1,4 @@
-ghost use Rattle.std.specs.Prelude.{◌≡◌, ◌&&◌, not};
+ghost use Rattle.std.specs.Prelude.{◌≡◌, ◌<◌, ◌≤◌, ◌&&◌, ℕ, false, not, true};
 ghost use Rattle.mcal_base.specs.Bits.{has_bit};
 ghost use Rattle.run_model.specs.World.{World};
 ghost use Rattle.audit_base.specs.Outside.{IsWorld};
@@ -6,6 +6,14 @@ ghost use Rattle.audit_subject.specs.Lines.{lines_where};
 
 use audit_base::{Outside, Part};
 use audit_frames::has_bit;
+
+/// Whether no line from this one on, of 64, is one of a mask.
+fn ends_before(asked: u64, line: u32) -> bool
+    requires { line < 64 }
+    ensures { result ≡ true → (l : ℕ) → line ≤ l → has_bit asked l ≡ false }
+{
+    asked >> line == 0
+}
 
 /// Whether a line is one of a mask and may not be served.
 fn is_unready<P: Part>(part: &P, outside: &Outside, asked: u64, line: u32) -> bool
@@ -25,6 +33,9 @@ pub fn unready<P: Part>(part: &P, outside: &Outside, asked: u64) -> u64
     }
     let mut found = 0;
     for line in 0..64 {
+        if ends_before(asked, line) {
+            return found;
+        }
         if is_unready(part, outside, asked, line) {
             found |= 1 << line;
         }
@@ -50,6 +61,9 @@ pub fn calm<P: Part>(part: &P, outside: &Outside, asked: u64) -> u64
     }
     let mut found = 0;
     for line in 0..64 {
+        if ends_before(asked, line) {
+            return found;
+        }
         if is_calm(part, outside, asked, line) {
             found |= 1 << line;
         }

@@ -1,5 +1,5 @@
 -- What a run of all modules is over, and of which module a frame is.
-use Rattle.std.specs.Prelude.{◌≤◌, Bool, false, length}
+use Rattle.std.specs.Prelude.{ℕ, ◌≤◌, ◌==◌, Bool, false, ◌||◌, length}
 use Rattle.adc_machine.specs.Bounds.{adc_setting}
 use Rattle.adc_machine.specs.declared.call.Call as converter_calls
 use Rattle.dio_machine.specs.declared.call.Call as port_calls
@@ -61,6 +61,10 @@ module_by t (Entered l) = (host_setting t).owner_of l
 abbrev pub keeps_pins_busy : Origin AnyCall → Bool
 keeps_pins_busy (Called (Left (Left (Right (Left c))))) = is_alone (Called c)
 keeps_pins_busy _ = false
+
+-- the line of a serial unit
+abbrev pub is_serial_line : ℕ → Bool
+is_serial_line l = l == 26 || l == 27
 
 -- What is kept of a configuration is within the chip's limits: there is room for the results of each group, and there are no
 -- more serial channels than the chip has.

@@ -26,7 +26,7 @@ impl Whole for AllModules {
     ghost use Rattle.audit_whole.specs.laws.Keeping.{kept_by_move, kept_by_order};
     ghost use Rattle.audit_whole.specs.laws.Opening.{opens, rests};
     ghost use Rattle.audit_whole.specs.laws.Places.{few_channels};
-    ghost use Rattle.audit_whole.specs.laws.Lines.{due_below, used_below};
+    ghost use Rattle.audit_whole.specs.laws.Lines.{due_asked, due_below, used_below};
     ghost use Rattle.audit_whole.specs.laws.Services.{serves};
     ghost use Rattle.audit_whole.specs.laws.Waits.{any_waits};
 
@@ -85,6 +85,8 @@ impl Whole for AllModules {
     ghost due_lines = { λ m w s l stands due. due_below (Self.table m).0 w s l due };
 
     ghost used_lines = { λ m l used. used_below (Self.table m).0 l used };
+
+    ghost asked_lines = { λ m w s l stands due. due_asked (Self.table m).0 w s l due };
 
     ghost waits = { λ t origin unit may. any_waits t.0 origin unit may };
 

@@ -1,4 +1,4 @@
-ghost use Rattle.std.specs.Prelude.{◌≡◌, ◌<◌, ℕ, Bool, IfOk, List, Some, false, map, string_bytes, true};
+ghost use Rattle.std.specs.Prelude.{◌≡◌, ◌<◌, ◌||◌, ℕ, Bool, IfOk, List, Some, false, map, string_bytes, true};
 ghost use Rattle.std.specs.Bool.{OnTrue};
 ghost use Rattle.bench_report.specs.Shown.{rows_text};
 ghost use Rattle.bench_report.specs.Showing.{Showing};
@@ -17,6 +17,7 @@ ghost use Rattle.audit_base.specs.Outside.{IsWorld};
 ghost use Rattle.audit_frames.specs.Decides.{Decides};
 ghost use Rattle.audit_subject.specs.Origins.{origin_of};
 ghost use Rattle.audit_whole.specs.Touching as touching;
+ghost use Rattle.audit_whole.specs.Whole.{is_serial_line};
 ghost use Rattle.audit_whole.specs.declared.aspects.Aspect.{Aspect};
 ghost use Rattle.audit_whole.specs.declared.aspects.Aspect.TheVariants.{Arrays, Outputs, Pins, Ram, Results, Stamps};
 
@@ -102,6 +103,9 @@ pub trait Whole: Subject + Drop {
     ghost due_lines: { (m : Self) (w : World) (s : Self.State) (l : ℕ) → Self.stands m s → (Self.member (Self.table m)).machine.due w s l ≡ true → l < 32 };
 
     ghost used_lines: { (m : Self) (l : ℕ) → (Self.member (Self.table m)).lines l ≡ true → l < 32 };
+
+    /// A line that is due is one that a configured object uses, or a serial unit's.
+    ghost asked_lines: { (m : Self) (w : World) (s : Self.State) (l : ℕ) → Self.stands m s → (Self.member (Self.table m)).machine.due w s l ≡ true → ((Self.member (Self.table m)).lines l || is_serial_line l) ≡ true };
 
     /// A frame waits for a serial unit that is there.
     ghost waits: { (t : Self.Table) (origin : frame.Origin Self.Call) (unit : ℕ) → (Self.setting t).may origin (Read (SerialWait unit)) ≡ true → unit < 2 };

@@ -1,4 +1,4 @@
-ghost use Rattle.std.specs.Prelude.{◌≡◌, ◌≤◌, ℕ, List, Err, Ok, IfOk, length};
+ghost use Rattle.std.specs.Prelude.{◌≡◌, ◌≤◌, ℕ, List, Err, Ok, IfOk, length, vec_len};
 ghost use Rattle.mcal_base.specs.declared.config.whole.Config as records;
 ghost use Rattle.config_facts.specs.Valid.{IsValid};
 ghost use Rattle.bench_script.specs.Lines.{file};
@@ -48,7 +48,7 @@ pub(crate) fn configuration(alloc: Global, text: &[u8]) -> Result<Config, FileEn
     }
 }
 
-/// The directives of a text.
+/// The directives of a text, with no room for more.
 pub(crate) fn directives(alloc: Global, text: &[u8]) -> Result<Vec<Directive>, FileEnd>
     requires { length text.now ≤ 1048576 }
     ensures read { IfOk result (λ directives. spec_script.script text.now ≡ Ok directives.items) }
@@ -56,7 +56,10 @@ pub(crate) fn directives(alloc: Global, text: &[u8]) -> Result<Vec<Directive>, F
     ensures unaudited { (refusal : Refusal) → result ≡ Err (FileEnd.Refused refusal) → (config : records.Config) (report : List ℕ) → spec.audited_script config (spec_script.script text.now) report ≡ Prints (spec.ending_of refusal) }
 {
     match read_script(alloc, text) {
-        Ok(directives) => Ok(directives),
+        Ok(mut directives) => {
+            directives.shrink_to_fit();
+            Ok(directives)
+        }
         Err(ScriptFault::NoMemory) => Err(FileEnd::NoMemory),
         Err(fault) => Err(FileEnd::Refused(Refusal::Script(fault))),
     }
@@ -76,4 +79,15 @@ pub fn read_file(alloc: Global, bytes: &[u8]) -> Result<BenchFile, FileEnd>
     let config = configuration(alloc, first)?;
     let script = directives(alloc, second)?;
     Ok(BenchFile { config, script })
+}
+
+/// Reads a bench file to its end, and lets its bytes go: a run needs their room.
+pub fn read_whole(alloc: Global, bytes: Vec<u8>) -> Result<BenchFile, FileEnd>
+    requires { vec_len bytes ≤ 1048576 }
+    ensures whole { IfOk result (λ read. (task : Task) → spec.judged_file task (file bytes.items) ≡ spec.judged_whole task read.config read.script.items) }
+    ensures valid { IfOk result (λ read. IsValid read.config) }
+    ensures script { IfOk result (λ read. IsRead read.script.items) }
+    ensures refused { (refusal : Refusal) → result ≡ Err (FileEnd.Refused refusal) → (task : Task) → spec.judged_file task (file bytes.items) ≡ Prints (spec.ending_of refusal) }
+{
+    read_file(alloc, &bytes)
 }

@@ -14,7 +14,7 @@ ghost use Rattle.bench_top.specs.Words.{form_of};
 ghost use Rattle.bench_top.specs.declared.words.Form.TheVariants.{Audit};
 
 use crate::audited::{NoVerdict, audited, verdict_status, verdict_text};
-use crate::file::{BenchFile, FileEnd, read_file};
+use crate::file::{BenchFile, FileEnd, read_whole};
 use crate::generated::generated_text;
 use crate::input::{LIMIT, ReadEnd, read_most};
 use crate::output::write_all;
@@ -212,14 +212,14 @@ fn conclude<K: Sink>(
     alloc: Global,
     out: &mut K,
     task: Task,
-    bytes: &[u8],
+    bytes: Vec<u8>,
     rack: &mut Vec<Box<dyn SerialDevice>>,
 ) -> Outcome
-    requires { length bytes.now ≤ 1048576 }
-    ensures concludes { Concludes (vec_len rack.old) (spec.judged_file task (file bytes.now)) result (stream_of K.taken K.faults out.old out.new) }
+    requires { vec_len bytes ≤ 1048576 }
+    ensures concludes { Concludes (vec_len rack.old) (spec.judged_file task (file bytes.items)) result (stream_of K.taken K.faults out.old out.new) }
     ensures told { AreToldBy (vec_len rack.old) result.journal.entries (map (λ d. line d) rack.old.items) (map (λ d. line d) rack.new.items) }
 {
-    match read_file(alloc, bytes) {
+    match read_whole(alloc, bytes) {
         Ok(read) => act(alloc, out, task, read, rack),
         Err(FileEnd::Refused(refusal)) => refuse(alloc, out, refusal),
         Err(FileEnd::NoMemory) => no_memory(alloc),
@@ -339,7 +339,7 @@ pub fn bench<S: Source, K: Sink>(
         Form::Audit => return audit_input(alloc, input, out, rack.len()),
     };
     match read_most(alloc, input, LIMIT) {
-        Ok(bytes) => conclude(alloc, out, task, &bytes, rack),
+        Ok(bytes) => conclude(alloc, out, task, bytes, rack),
         Err(ReadEnd::Fault) => print(alloc, out, 2, READ_FAULT),
         Err(ReadEnd::TooLong) => print(alloc, out, 5, TOO_MANY_BYTES),
         Err(ReadEnd::NoMemory) => no_memory(alloc),

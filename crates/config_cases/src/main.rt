@@ -1,6 +1,9 @@
 //! Reads configurations from standard input and prints what each gives. A line that begins with `--- ` is a title, and
-//! the lines up to the next title are its text. After the title comes the refusal, or the record, a line a module.
+//! the lines up to the next title are its text. After the title comes the refusal, or the record, a line a module. The text
+//! of the title `generated` is a bench file, which is compared with what the generator makes.
 #![tactic(auto)]
+
+mod generated;
 
 use mcal_base::Config;
 use mcal_config::{Printed, read_config};
@@ -8,6 +11,9 @@ use std::io::{self, BufRead};
 
 /// What the line of a title begins with.
 const TITLE: &[u8] = b"--- ";
+
+/// The title of a bench file that the generator is to make, too.
+const GENERATED: &str = "generated";
 
 /// Prints a record, a line a module.
 fn print_record(rt: &HostRuntime, config: &Config) -> io::Result<()> {
@@ -24,6 +30,9 @@ fn print_record(rt: &HostRuntime, config: &Config) -> io::Result<()> {
 
 /// Prints what a text gives.
 fn print_case(rt: &HostRuntime, title: &str, text: &[u8]) -> io::Result<()> {
+    if title == GENERATED {
+        return generated::compare(rt, text);
+    }
     match read_config(rt.alloc(), text) {
         Err(fault) => println!(rt; "{title}: {}", Printed(fault)),
         Ok(config) => {

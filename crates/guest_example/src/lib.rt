@@ -2,8 +2,6 @@
 //! an error of a call that strays.
 #![tactic(auto)]
 
-#[cfg(test)]
-mod tests;
 mod visited;
 mod visitor;
 

@@ -92,6 +92,10 @@ pub looked_is : {Frame : Type 0} (move_of : Frame → Move) (us : List (Under Fr
 looked_is move_of [] made some h = absurd (omega (arith, some))
 looked_is move_of (u ∷ us) made some h = ap (λ x. Some x) (sym h)
 
+pub looked_none : {Frame : Type 0} (move_of : Frame → Move) (us : List (Under Frame)) (made : Move) → length us ≡ 0 → IsLooked move_of us made
+looked_none move_of [] made e = tt
+looked_none move_of (u ∷ us) made e = cc
+
 pub still_some : {Frame : Type 0} (move_of : Frame → Move) (us : List (Under Frame)) (chip : Chip) (made : Move) → upcoming_of move_of us ≡ Some made → stall_of chip made ≡ 0 → IsStill move_of us chip
 still_some move_of us chip made e none = still_at_once move_of us chip (wait_some move_of us chip made e ∙ none)
 

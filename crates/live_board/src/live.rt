@@ -9,7 +9,7 @@ ghost use Rattle.run_model.specs.Legal.{hardware_held};
 ghost use Rattle.run_model.specs.Moment.{Transition, Begins, Enters, Steps, Happens, Resets, after_all, start_moment};
 ghost use Rattle.script_runner.specs.Standing.{filled_by, left_within, words_by};
 ghost use Rattle.step_runner.specs.Driver.{EndsBefore};
-ghost use Rattle.step_runner.specs.Kept.{cause_of, tags_under, top_is_noted, upcoming_of, IsStill, TakesStep};
+ghost use Rattle.step_runner.specs.Kept.{cause_of, tags_under, top_is_noted, upcoming_of, IsLooked, IsStill, TakesStep};
 ghost use Rattle.step_runner.specs.Stands.{Stands, done};
 ghost use Rattle.live_board.specs.Lives.{GoesOn, IsBeside, StepsOn, dropped_by, dropped_in, held_by, is_gift, is_outside, is_setting, ticks_by, wait_by, wait_of};
 ghost use Rattle.live_board.specs.declared.outside.Refusal.TheVariants.{Spent};
@@ -208,6 +208,7 @@ impl<M: Caller> Live<M> {
     fn due(&self, stepped: &mut Stepped) -> u32
         ensures wait { result ≡ wait_of M.Frame.move_of self.now.kept.frames self.now.chip }
         ensures over { IsStill M.Frame.move_of self.now.kept.frames (ticked self.now.chip result) }
+        ensures looked { IsLooked M.Frame.move_of self.now.kept.frames stepped.new.made }
         ensures rest { stepped.new ≡ record stepped.old { made = stepped.new.made } }
     {
         if self.stack.depth() == 0 {
@@ -238,6 +239,7 @@ impl<M: Caller> Live<M> {
         ensures kept { IfOk result (λ dropped. IfNone dropped (self.new.kept ≡ self.old.kept)) }
         ensures rest { stepped.new ≡ record stepped.old { made = stepped.new.made } }
         ensures still { OnOk result (IsStill M.Frame.move_of self.new.kept.frames self.new.chip) }
+        ensures looked { OnOk result (IsLooked M.Frame.move_of self.new.kept.frames stepped.new.made) }
         ensures goes { let ticks = wait_of M.Frame.move_of self.old.kept.frames self.old.chip in
             OnOk result (GoesOn (M.spec self.old.driver) self.old self.new (wait_by ticks (left_within ticks (expiry_of self.old.chip)))) }
     {
@@ -258,7 +260,6 @@ impl<M: Caller> Live<M> {
     }
 
     /// Makes one step of the top frame, which waits for no word. It is held as empty where there is no frame.
-    #[inline(always)]
     pub fn step(
         &mut self,
         rack: &mut Vec<Box<dyn SerialDevice>>,
@@ -266,6 +267,31 @@ impl<M: Caller> Live<M> {
     ) -> Result<(), Refusal>
         requires still { IsStill M.Frame.move_of self.old.kept.frames self.old.chip }
         requires free { stepped.old.ended ≡ None }
+        ensures driver { self.new.driver ≡ self.old.driver }
+        ensures devices { self.new.devices ≡ self.old.devices }
+        ensures count { vec_len rack.new ≡ vec_len rack.old }
+        ensures few { OnOk result (self.old.kept.steps < 4294967295) }
+        ensures spent { 0 < length self.old.kept.frames → vec_len rack.old ≡ self.old.devices → OnErr result ((result ≡ Err Spent) × (4294967295 ≤ self.old.kept.steps)) }
+        ensures held { OnErr result (self.new ≡ self.old) }
+        ensures step { OnOk result (TakesStep M.Frame.move_of M.Frame.left M.Frame.gave self.old.kept.frames self.old.kept.steps
+            self.old.chip self.new.kept self.new.chip (Ok stepped.new)) }
+        ensures calls { OnOk result (CallsRight self.old.chip stepped.new.made stepped.new.received (map (λ d. line d) rack.old.items) (map (λ d. line d) rack.new.items)) }
+        ensures goes { OnOk result (StepsOn (M.spec self.old.driver) self.old self.new (Steps stepped.new ∷ [])) }
+    {
+        let _ticks = self.due(stepped);
+        self.step_on(rack, stepped)
+    }
+
+    /// As `step`, of the move that `wait` has looked up in the step that will be made.
+    #[inline(always)]
+    pub fn step_on(
+        &mut self,
+        rack: &mut Vec<Box<dyn SerialDevice>>,
+        stepped: &mut Stepped,
+    ) -> Result<(), Refusal>
+        requires still { IsStill M.Frame.move_of self.old.kept.frames self.old.chip }
+        requires free { stepped.old.ended ≡ None }
+        requires looked { IsLooked M.Frame.move_of self.old.kept.frames stepped.old.made }
         ensures driver { self.new.driver ≡ self.old.driver }
         ensures devices { self.new.devices ≡ self.old.devices }
         ensures count { vec_len rack.new ≡ vec_len rack.old }
@@ -286,7 +312,6 @@ impl<M: Caller> Live<M> {
         if rack.len() != self.devices {
             return Err(Refusal::Held(Held::Unknown));
         }
-        self.stack.look(stepped);
         match step_into(&mut self.stack, &mut self.bus, rack, stepped) {
             Ok(()) => Ok(()),
             Err(_) => unreachable!(),

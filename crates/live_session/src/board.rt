@@ -2,6 +2,7 @@ ghost use Rattle.std.specs.Prelude.{◌≡◌, []};
 ghost use Rattle.config_facts.specs.Valid.{IsValid};
 
 use crate::frames::Frames;
+use crate::places::Places;
 use crate::sights::Sights;
 use crate::wires::Wire;
 use live_board::Live;
@@ -11,8 +12,8 @@ use std::alloc::Global;
 /// A driver on the chip, from power on.
 #[derive(Drop)]
 pub(crate) struct Board<B: Sights> {
-    /// The configuration.
-    pub(crate) config: Config,
+    /// What shows ask of the configuration.
+    pub(crate) places: Places,
     /// The driver on the chip.
     pub(crate) live: Live<B::Driver>,
     /// The frames under way.
@@ -25,17 +26,20 @@ pub(crate) struct Board<B: Sights> {
 
 impl<B: Sights> Board<B> {
     /// A board at power on.
-    pub(crate) fn new(alloc: Global, config: Config, devices: usize) -> Result<Board<B>, NoMemory>
-        requires valid { IsValid config }
+    pub(crate) fn new(alloc: Global, config: &Config, devices: usize) -> Result<Board<B>, NoMemory>
+        requires valid { IsValid config.now }
     {
-        let live = B::powered(alloc, &config, devices)?;
-        Ok(Board {
-            config,
-            live,
-            frames: Frames::new(alloc),
-            first_wire: Wire::new(alloc),
-            second_wire: Wire::new(alloc),
-        })
+        let live = B::powered(alloc, config, devices)?;
+        match Places::new(alloc, config) {
+            Ok(places) => Ok(Board {
+                places,
+                live,
+                frames: Frames::new(alloc),
+                first_wire: Wire::new(alloc),
+                second_wire: Wire::new(alloc),
+            }),
+            Err(_) => Err(NoMemory),
+        }
     }
 
     /// No frame is there, and nothing went over the wires, since the chip was reset.

@@ -1,3 +1,5 @@
+use crate::lines::place_of;
+
 /// What a line asks for that is no directive of the script language.
 #[derive(Clone, Copy)]
 pub(crate) enum Command {
@@ -15,10 +17,7 @@ pub(crate) enum Command {
 
 /// A line without blanks at its ends and without a comment.
 fn bare(line: &[u8]) -> &[u8] {
-    let end = line
-        .iter()
-        .position(|byte| *byte == b'#')
-        .unwrap_or(line.len());
+    let end = place_of(b'#', line).unwrap_or(line.len());
     line[..end].trim_ascii()
 }
 

@@ -7,6 +7,7 @@ mod frames;
 mod lines;
 mod obey;
 mod page;
+mod places;
 mod session;
 mod shows;
 mod sights;

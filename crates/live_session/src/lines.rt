@@ -1,4 +1,7 @@
+ghost use Rattle.std.specs.Prelude.{◌<◌, IfSome, length};
+
 use mcal_base::{Failed, Source};
+use memchr::memchr;
 use std::alloc::{AllocError, Global};
 
 /// The most bytes of a line, and of a configuration.
@@ -50,10 +53,17 @@ impl From<AllocError> for ReadFault {
     }
 }
 
+/// The place of the first such byte.
+pub(crate) fn place_of(byte: u8, text: &[u8]) -> Option<usize>
+    ensures { IfSome result (λ place. place < length text.now) }
+{
+    memchr(byte, text)
+}
+
 /// Takes what a piece has of a line, between two places of it, as far as it is kept.
 fn take(piece: &[u8], from: usize, to: usize, line: &mut Vec<u8>) -> Result<Taken, AllocError> {
     let left = piece.get(from..to).unwrap_or(&[]);
-    let end = left.iter().position(|byte| *byte == b'\n');
+    let end = place_of(b'\n', left);
     let part = &left[..end.unwrap_or(left.len())];
     let room = MOST_BYTES.saturating_sub(line.len());
     let kept = &part[..part.len().min(room)];

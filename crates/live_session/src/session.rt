@@ -35,10 +35,12 @@ fn write_pending(bus: &Bus, page: &mut Page) -> Result<(), AllocError> {
 /// Prints what stands now: how many frames are there, the level of the top one, whether the mask is closed, and which lines
 /// are pending.
 fn write_state<B: Sights>(board: &Board<B>, page: &mut Page) -> Result<(), AllocError> {
-    let depth = board.live.depth();
-    write!(page.text, "> {depth}")?;
-    if let Some(level) = board.frames.top_level() {
-        write!(page.text, " at {level}")?;
+    match board.frames.top_level() {
+        None => page.text.push_str("> 0")?,
+        Some(level) => {
+            let depth = board.live.depth();
+            write!(page.text, "> {depth} at {level}")?;
+        }
     }
     let bus = board.live.bus();
     if bus.masked() {
@@ -82,12 +84,11 @@ fn obey_line<B: Sights>(
     match read_script(alloc, text) {
         Err(ScriptFault::NoMemory) => Err(AllocError),
         Err(fault) => page.refuse(fault.kind_text()),
-        Ok(mut script) => match script.pop() {
+        Ok(script) => match script.last() {
             None => Ok(()),
             Some(directive) if !may_go(far, &directive.order) => page.refuse("Word"),
-            Some(mut directive) => {
-                directive.line = page.number;
-                obey(alloc, board, rack, page, &directive, far)?;
+            Some(directive) => {
+                obey(alloc, board, rack, page, directive, far)?;
                 page.close()
             }
         },
@@ -101,7 +102,7 @@ fn board_of<B: Sights>(
     devices: usize,
 ) -> Result<Board<B>, ConfigFault> {
     let config = read_config(alloc, text)?;
-    match Board::new(alloc, config, devices) {
+    match Board::new(alloc, &config, devices) {
         Ok(board) => Ok(board),
         Err(_) => Err(ConfigFault::NoMemory),
     }

@@ -34,8 +34,7 @@ fn write_words<B: Sights>(
 /// Writes the levels of the configured pins.
 fn write_pins<B: Sights>(text: &mut String, board: &Board<B>, line: u32) -> Result<(), AllocError> {
     for pin in 0..64 {
-        let pins = board.config.port.pins.as_slice();
-        if pins.iter().any(|other| other.id == pin) {
+        if board.places.has_pin(pin) {
             let level = if board.live.bus().pin(pin) { 1 } else { 0 };
             write_row(text, line, RowName::Pin(pin), &[Value::One(level)])?;
         }
@@ -60,10 +59,10 @@ fn write_sections<B: Sights>(
     line: u32,
 ) -> Result<(), AllocError> {
     let mut number = 0u32;
-    for section in board.config.mcu.ram_sections.as_slice() {
+    for section in board.places.sections() {
         let mut values = Vec::new(alloc);
         for place in 0..section.size {
-            values.push(Value::One(ram(board, section.base_address.saturating_add(place))))?;
+            values.push(Value::One(ram(board, section.first.saturating_add(place))))?;
         }
         write_row(text, line, RowName::Ram(number), &values)?;
         number = number.saturating_add(1);

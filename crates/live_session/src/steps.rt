@@ -1,4 +1,4 @@
-ghost use Rattle.std.specs.Prelude.{◌≡◌, ◌++◌, [], Some, IfOk, OnOk, drop, length, if◌then◌else◌};
+ghost use Rattle.std.specs.Prelude.{◌≡◌, ◌++◌, [], None, Some, IfOk, OnOk, drop, length, if◌then◌else◌};
 ghost use Rattle.bench_report.specs.Lines.{Restarts};
 ghost use Rattle.bench_report.specs.Report as report;
 ghost use Rattle.live_board.specs.Lives.{wait_of};
@@ -211,6 +211,16 @@ fn tell_wait(page: &mut Page, ticks: u32) -> Result<(), AllocError>
     page.say(Line::Waits(ticks))
 }
 
+/// Takes the answer out of a step's place, where it has one: to write none over none would fill as many bytes.
+fn clear(stepped: &mut Stepped)
+    ensures { stepped.new.ended ≡ None }
+{
+    match &stepped.ended {
+        Some(_) => stepped.ended = None,
+        None => {}
+    }
+}
+
 /// Makes one step of the top frame, after its wait.
 fn one_step<B: Sights>(
     board: &mut Board<B>,
@@ -219,7 +229,7 @@ fn one_step<B: Sights>(
     traced: bool,
     stepped: &mut Stepped,
 ) -> Result<Goes, AllocError> {
-    *stepped = Stepped::blank();
+    clear(stepped);
     let ticks = told_wait(&board.live, traced);
     let dropped = match board.live.wait(stepped) {
         Ok(dropped) => dropped,
@@ -233,7 +243,7 @@ fn one_step<B: Sights>(
         return Ok(Goes::Off);
     }
     let depth = board.live.depth();
-    match board.live.step(rack, stepped) {
+    match board.live.step_on(rack, stepped) {
         Ok(()) => {
             tell_wait(page, ticks)?;
             follow(board, page, traced, depth, stepped)

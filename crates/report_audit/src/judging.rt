@@ -75,7 +75,7 @@ fn block<P: Whole>(
         IfOk result (λ right. spec.BlockRight (P.setting t) P.call_of (P.showing configuration.now) p directive.now (Stands P.agrees P.setting P.table P.stands t auditor.new) report.old report.new right) }
     ensures ready { (given : ℕ) → IsReady P.fits P.within P.ticks (words_by directive.now.order + given) auditor.old → IfOk result (λ right. OnTrue right (IsReady P.fits P.within P.ticks given auditor.new)) }
 {
-    let Ok(()) = report.begin(auditor.alloc, directive.line) else {
+    let Ok(()) = report.begin(directive.line) else {
         return Err(NoMemory);
     };
     let right = obeys(auditor, report, configuration, directive)?;

@@ -1,15 +1,16 @@
 -- Masks of lines are compared as lines are, one by one.
-use Rattle.std.proofs.Common.{◌≡◌, ◌⊎◌, inl, inr, ℕ, suc, ◌+◌, ◌*◌, ◌^◌, ◌<◌, nat_lt, ◌≤◌, Bool, true, false, ◌==◌, refl, sym, ◌∙◌, ap, arith, add-one}
+use Rattle.std.proofs.Common.{◌≡◌, ◌⊎◌, inl, inr, ℕ, suc, ◌+◌, ◌*◌, ◌^◌, ◌<◌, nat_lt, ◌≤◌, Bool, true, false, ◌&&◌, ◌||◌, ◌==◌, refl, sym, ◌∙◌, ap, arith, add-one}
 use Rattle.std.specs.Prelude.{bit_or}
 use Rattle.std.proofs.lemmas.Nat.{one_shl}
 use Rattle.mcal_base.specs.Bits.{has_bit, bit_of, bits_of}
-use Rattle.mcal_base.proofs.BitLaws.{has_bit-bits_of, has_bit-bits_of_above}
+use Rattle.mcal_base.proofs.BitLaws.{has_bit-bits_of, has_bit-bits_of_above, has_bit-or}
 use Rattle.mcal_base.specs.facts.Numbers.{eq_is, eq_from, lt_from}
 use Rattle.mcal_base.specs.facts.Truths.{if_true, off_on}
 use Rattle.audit_frames.specs.Decides.{Decides}
 use Rattle.audit_frames.specs.Masks.{covers, with_bit}
 use Rattle.audit_frames.proofs.MaskLaws.{covers_says, covers_shows, same_bits}
 use Rattle.audit_subject.proofs.LineMasks.{marked}
+use Rattle.audit_whole.specs.Whole.{is_serial_line}
 
 -- what isn't true is false
 pub not_true : (b : Bool) → (b ≡ true → ⊥) → b ≡ false
@@ -41,6 +42,30 @@ bit_where test small false l e = not_true _ (λ on. off_on (sym e ∙ bit_holds 
 
 pub bit_is : (test : ℕ → Bool) → ((l : ℕ) → test l ≡ true → l < 32) → (l : ℕ) → has_bit (bits_of test 32) l ≡ test l
 bit_is test small l = bit_where test small (test l) l refl
+
+-- ---- the lines that are asked: those that are used, and the serial units'
+
+serial_by : (l : ℕ) (p q : Bool) → (l == 26) ≡ p → (l == 27) ≡ q → p || q ≡ true → has_bit 201326592 l ≡ true
+serial_by l true q e f on = ap (λ k. has_bit 201326592 k) (eq_is l 26 e)
+serial_by l false true e f on = ap (λ k. has_bit 201326592 k) (eq_is l 27 f)
+serial_by l false false e f on = off_on on
+
+one_of : (x y z : Bool) → (y ≡ true → z ≡ true) → x || y ≡ true → x || z ≡ true
+one_of true y z f e = refl
+one_of false y z f e = f e
+
+-- a line that is one or the other is asked
+pub line_asked : (lines : ℕ → Bool) (used : ℕ) → ((l : ℕ) → lines l ≡ true → l < 32) → used ≡ bits_of lines 32 → (l : ℕ) → lines l || is_serial_line l ≡ true → has_bit (bit_or used 201326592) l ≡ true
+line_asked lines used small e l on =
+    has_bit-or used 201326592 l
+    ∙ (ap (λ b. b || has_bit 201326592 l) (ap (λ m. has_bit m l) e ∙ bit_is lines small l)
+    ∙ one_of (lines l) (is_serial_line l) (has_bit 201326592 l) (serial_by l (l == 26) (l == 27) refl refl) on)
+
+-- and one that isn't asked, where those are asked of which a test holds, is none of these
+pub test_off : (asked test : Bool) → (test ≡ true → asked ≡ true) → asked && test ≡ false → test ≡ false
+test_off true test f off = off
+test_off false true f off = sym (f refl)
+test_off false false f off = refl
 
 -- ---- a mask of the lines so far
 

@@ -1,8 +1,9 @@
 -- Each part of a moment is judged as chip and machines have it.
-use Rattle.std.proofs.Common.{◌≡◌, ℕ, ◌<◌, ◌==◌, nat_eq, Bool, true, false, ◌&&◌, List, [], ◌∷◌, Option, Some, sym, ◌∙◌, ap, subst}
+use Rattle.std.proofs.Common.{◌≡◌, ℕ, ◌<◌, ◌==◌, nat_eq, Bool, true, false, ◌&&◌, ◌||◌, List, [], ◌∷◌, Option, Some, sym, ◌∙◌, ap, subst}
 use Rattle.std.specs.Bool.{OnTrue}
 use Rattle.std.proofs.lemmas.Bool.{OnTrue_at}
 use Rattle.std.specs.Option.{option_eq}
+use Rattle.std.specs.Prelude.{bit_or}
 use Rattle.chip_model.specs.Chip.{Chip, expiry_of, is_pending}
 use Rattle.mcal_base.specs.Bits.{has_bit, bits_of}
 use Rattle.mcal_base.specs.declared.moves.Unit as units
@@ -24,10 +25,11 @@ use Rattle.mcal_base.specs.facts.Truths.{and_first, and_second, off_on}
 use Rattle.report_reading.specs.Blocks.{Place}
 use Rattle.report_auditor.specs.Auditing.{Auditing, Stands, below}
 use Rattle.report_auditor.specs.Seeing.{Agreeing, is_open_seen, is_rest_seen, saw}
+use Rattle.audit_whole.specs.Whole.{is_serial_line}
 use Rattle.audit_whole.specs.declared.aspects.Aspect.{Aspect}
 use Rattle.audit_whole.specs.declared.aspects.Aspect.TheVariants.{Outputs, Pins, Ram, Stamps, Results, Arrays}
 use Rattle.report_auditor.proofs.LeftLaws.{same_decides}
-use Rattle.report_auditor.proofs.LineLaws.{all_same, each_seen, none_else}
+use Rattle.report_auditor.proofs.LineLaws.{all_same, each_seen, line_asked, none_else}
 
 -- one test that fails
 pub fails : {P : Type 0} (b : Bool) → Decides b P → b ≡ false → P → ⊥
@@ -78,6 +80,12 @@ module _ {Parts Table State Call : Type 0} (agrees : Agreeing Table State) (sett
   -- the lines that are due, as the run has them
   pub due_is : (due : ℕ) → due ≡ bits_of ((member (table a.parts)).machine.due p.moment.world p.moment.state) 32 → due ≡ bits_of ((setting t).machine.due p.moment.world p.moment.state) 32
   due_is due e = as_run (λ mac. bits_of (mac.due p.moment.world p.moment.state) 32) due e
+
+  -- one of them is asked
+  pub due_asked : ((l : ℕ) → (member (table a.parts)).lines l ≡ true → l < 32)
+      → ((l : ℕ) → (member (table a.parts)).machine.due p.moment.world p.moment.state l ≡ true → (member (table a.parts)).lines l || is_serial_line l ≡ true)
+      → (l : ℕ) → (member (table a.parts)).machine.due p.moment.world p.moment.state l ≡ true → has_bit (bit_or a.seen.used 201326592) l ≡ true
+  due_asked small law l on = line_asked (member (table a.parts)).lines a.seen.used small (s.seen.used ∙ sym (ap (λ u. bits_of u 32) lines_are)) l (law l on)
 
   -- ---- what is known
 

@@ -10,6 +10,9 @@ use crate::seen::Seen;
 use crate::served::due_lines;
 use audit_whole::{Aspect, Whole};
 
+/// The lines of serial units, as the bits of a mask: one that nothing configured uses may be due.
+const SERIAL_LINES: u64 = 0xc00_0000;
+
 impl<P: Whole> Auditor<P> {
     /// The lines that are due.
     pub(crate) fn due(&self) -> u64
@@ -19,7 +22,7 @@ impl<P: Whole> Auditor<P> {
     {
         match self.seen.due {
             Some(due) => due,
-            None => due_lines(&self.parts, &self.outside),
+            None => due_lines(&self.parts, &self.outside, self.seen.used | SERIAL_LINES),
         }
     }
 

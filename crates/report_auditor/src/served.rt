@@ -1,7 +1,7 @@
-ghost use Rattle.std.specs.Prelude.{◌≡◌, ◌||◌, ℕ, false, not};
+ghost use Rattle.std.specs.Prelude.{◌≡◌, ◌&&◌, ◌||◌, ℕ, false, not, true};
 ghost use Rattle.chip_model.specs.Chip.{is_pending};
 ghost use Rattle.std.specs.Bool.{OnTrue};
-ghost use Rattle.mcal_base.specs.Bits.{bits_of};
+ghost use Rattle.mcal_base.specs.Bits.{bits_of, has_bit};
 ghost use Rattle.mcal_base.specs.declared.moves.Unit as units;
 ghost use Rattle.run_model.specs.Legal.{AreGoing, IsQuiet, IsServed, QuietAtRest};
 ghost use Rattle.run_model.specs.World.{World};
@@ -14,21 +14,30 @@ ghost use Rattle.report_auditor.specs.Serving.{KeepsTime, LinesAgree, OpenRight}
 
 use crate::auditor::{Auditor, same_left};
 use audit_base::{Outside, Part};
-use audit_frames::with_bit;
+use audit_frames::{has_bit, with_bit};
 use audit_whole::Whole;
 use mcal_base::Unit;
 
 /// How many lines there are.
 const LINES: u32 = 32;
 
-/// The lines that are due, as the bits of a mask, asked one by one.
-pub(crate) fn due_lines<P: Part>(part: &P, outside: &Outside) -> u64
+/// Whether a line is one of a mask and is due.
+fn is_due<P: Part>(part: &P, outside: &Outside, asked: u64, line: u32) -> bool
     ensures { (w : World) (s : P.State) → P.fits part.now outside.now → IsWorld outside.now w → P.stands part.now s →
+        result ≡ (has_bit asked line && (P.member (P.table part.now)).machine.due w s line) }
+{
+    has_bit(asked, line) && part.due(outside, line)
+}
+
+/// The lines that are due, as the bits of a mask, where no others are than those of a mask: these are asked one by one.
+pub(crate) fn due_lines<P: Part>(part: &P, outside: &Outside, asked: u64) -> u64
+    ensures { (w : World) (s : P.State) → P.fits part.now outside.now → IsWorld outside.now w → P.stands part.now s →
+        ((l : ℕ) → (P.member (P.table part.now)).machine.due w s l ≡ true → has_bit asked l ≡ true) →
         result ≡ bits_of ((P.member (P.table part.now)).machine.due w s) 32 }
 {
     let mut found = 0;
     for line in 0..LINES {
-        if part.due(outside, line) {
+        if is_due(part, outside, asked, line) {
             found = with_bit(found, line);
         }
     }
@@ -100,12 +109,12 @@ impl<P: Whole> Auditor<P> {
     }
 
     /// Whether each line that is due is pending, and each that is pending is used.
-    fn lines_agree(&self) -> bool
+    fn lines_agree(&self, pending: u64) -> bool
         requires fits { P.fits self.now.parts self.now.outside }
+        requires pending { (l : ℕ) → has_bit pending l ≡ is_pending self.now.chip l }
         ensures { (t : P.Table) (p : Place P.State P.Call) → Stands P.agrees P.setting P.table P.stands t self.now p →
             Decides result (LinesAgree (P.setting t) p.moment) }
     {
-        let pending = self.bus.pending_lines() as u64;
         if !covers(self.due(), pending) {
             return false;
         }
@@ -113,15 +122,16 @@ impl<P: Whole> Auditor<P> {
     }
 
     /// Whether chip and machines agree in what they do wherever the mask is open, where it is.
-    fn is_open_right(&self) -> bool
+    fn is_open_right(&self, pending: u64) -> bool
         requires fits { P.fits self.now.parts self.now.outside }
+        requires pending { (l : ℕ) → has_bit pending l ≡ is_pending self.now.chip l }
         ensures { (t : P.Table) (p : Place P.State P.Call) → Stands P.agrees P.setting P.table P.stands t self.now p →
             Decides result (OpenRight (P.setting t) p.moment) }
     {
         if self.bus.masked() {
             return true;
         }
-        if !self.lines_agree() {
+        if !self.lines_agree(pending) {
             return false;
         }
         if self.seen.knows_open() {
@@ -132,27 +142,28 @@ impl<P: Whole> Auditor<P> {
     }
 
     /// Whether those lines are pending that are due, and no others.
-    fn has_due_lines(&self) -> bool
+    fn has_due_lines(&self, pending: u64) -> bool
         requires fits { P.fits self.now.parts self.now.outside }
+        requires pending { (l : ℕ) → has_bit pending l ≡ is_pending self.now.chip l }
         ensures { (t : P.Table) (p : Place P.State P.Call) → Stands P.agrees P.setting P.table P.stands t self.now p →
             Decides result ((l : ℕ) → is_pending p.moment.chip l ≡ (P.setting t).machine.due p.moment.world p.moment.state l) }
     {
-        let pending = self.bus.pending_lines() as u64;
         let due = self.due();
         pending == due
     }
 
     /// Whether they agree in what they do with no frame under way.
-    fn is_quiet(&self) -> bool
+    fn is_quiet(&self, pending: u64) -> bool
         requires fits { P.fits self.now.parts self.now.outside }
         requires within { P.within self.now.parts }
+        requires pending { (l : ℕ) → has_bit pending l ≡ is_pending self.now.chip l }
         ensures { (t : P.Table) (p : Place P.State P.Call) → Stands P.agrees P.setting P.table P.stands t self.now p →
             Decides result (IsQuiet (P.setting t) p.moment) }
     {
         if !units_rest(&self.parts, &self.outside) {
             return false;
         }
-        if !self.has_due_lines() {
+        if !self.has_due_lines(pending) {
             return false;
         }
         if self.seen.knows_rest() {
@@ -162,15 +173,30 @@ impl<P: Whole> Auditor<P> {
     }
 
     /// Whether they do so, where no frame is under way.
-    fn is_quiet_at_rest(&self) -> bool
+    fn is_quiet_at_rest(&self, pending: u64) -> bool
         requires fits { P.fits self.now.parts self.now.outside }
         requires within { P.within self.now.parts }
+        requires pending { (l : ℕ) → has_bit pending l ≡ is_pending self.now.chip l }
         ensures { (t : P.Table) (p : Place P.State P.Call) → Stands P.agrees P.setting P.table P.stands t self.now p →
             Decides result (QuietAtRest (P.setting t) p.moment p.moment.opens) }
     {
         match self.frames.top() {
             Some(_) => true,
-            None => self.is_quiet(),
+            None => self.is_quiet(pending),
+        }
+    }
+
+    /// Whether neither lines nor outputs are asked: the mask is closed, with a frame under way.
+    fn is_shut(&self) -> bool
+        ensures { (t : P.Table) (p : Place P.State P.Call) → Stands P.agrees P.setting P.table P.stands t self.now p →
+            OnTrue result (OpenRight (P.setting t) p.moment × QuietAtRest (P.setting t) p.moment p.moment.opens) }
+    {
+        if !self.bus.masked() {
+            return false;
+        }
+        match self.frames.top() {
+            Some(_) => true,
+            None => false,
         }
     }
 
@@ -196,10 +222,14 @@ impl<P: Whole> Auditor<P> {
         if !self.are_going() {
             return false;
         }
-        if !self.is_open_right() {
+        if self.is_shut() {
+            return true;
+        }
+        let pending = self.bus.pending_lines() as u64;
+        if !self.is_open_right(pending) {
             return false;
         }
-        self.is_quiet_at_rest()
+        self.is_quiet_at_rest(pending)
     }
 
     /// Whether the moment is one of a legal run: chip and machine agree as far as they have to. What of it is known isn't

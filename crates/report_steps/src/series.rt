@@ -14,7 +14,7 @@ ghost use Rattle.report_steps.specs.Taking.{PrintsOn, Takes};
 use crate::lines::{next, one_more, takes};
 use crate::made::Made;
 use crate::single::step;
-use audit_subject::names_own;
+use audit_subject::{Heard, names_own};
 use bench_report::Line;
 use mcal_base::{Move, NoMemory, Reason, Reg};
 use report_auditor::{Auditor, Whole};
@@ -145,6 +145,7 @@ fn comes<P: Whole>(
     auditor: &mut Auditor<P>,
     report: &mut Report<'_>,
     read: &Step,
+    heard: &mut Heard,
 ) -> Result<Came, NoMemory>
     requires ready { IsReady P.fits P.within P.ticks 0 auditor.old }
     ensures comes { (t : P.Table) (p : Place P.State P.Call) → Stands P.agrees P.setting P.table P.stands t auditor.old p → IsServed (P.setting t) p.moment →
@@ -153,7 +154,7 @@ fn comes<P: Whole>(
     ensures never { IfOk result (λ came. spec.is_reset came ≡ false) }
     ensures on { IfOk result (λ _. Advances report.old report.new) }
 {
-    match step(auditor, report, read)? {
+    match step(auditor, report, read, heard)? {
         Some(made) => Ok(Came::Step(made)),
         None => Ok(Came::Wrong),
     }
@@ -183,6 +184,7 @@ fn waits<P: Whole>(
     report: &mut Report<'_>,
     line: u32,
     ticks: u32,
+    heard: &mut Heard,
 ) -> Result<Came, NoMemory>
     requires ready { IsReady P.fits P.within P.ticks 0 auditor.old }
     ensures waits { (t : P.Table) (p : Place P.State P.Call) → Stands P.agrees P.setting P.table P.stands t auditor.old p → IsServed (P.setting t) p.moment →
@@ -204,7 +206,7 @@ fn waits<P: Whole>(
     if !came {
         return Ok(Came::Wrong);
     }
-    comes(auditor, report, &step)
+    comes(auditor, report, &step, heard)
 }
 
 /// The watchdog's time ends in a wait, and its reset drops so many frames, as its line told.
@@ -237,6 +239,7 @@ fn step_or_reset<P: Whole>(
     auditor: &mut Auditor<P>,
     report: &mut Report<'_>,
     line: u32,
+    heard: &mut Heard,
 ) -> Result<Came, NoMemory>
     requires ready { IsReady P.fits P.within P.ticks 0 auditor.old }
     ensures came { (t : P.Table) (p : Place P.State P.Call) → Stands P.agrees P.setting P.table P.stands t auditor.old p → IsServed (P.setting t) p.moment →
@@ -248,10 +251,10 @@ fn step_or_reset<P: Whole>(
         return Ok(Came::Wrong);
     };
     if let Some(step) = told_step(&told) {
-        return comes(auditor, report, &step);
+        return comes(auditor, report, &step, heard);
     }
     if let Some(ticks) = told_wait(&told) {
-        return waits(auditor, report, line, ticks);
+        return waits(auditor, report, line, ticks, heard);
     }
     let Some(dropped) = told_reset(&told) else {
         return Ok(Came::Wrong);
@@ -307,10 +310,11 @@ pub fn steps<P: Whole>(
     ensures ready { (given : ℕ) → IsReady P.fits P.within P.ticks given auditor.old → IfOk result (λ right. OnTrue right (IsReady P.fits P.within P.ticks given auditor.new)) }
     ensures on { IfOk result (λ _. Advances report.old report.new) }
 {
+    let mut heard = Heard::new();
     let mut count = 0_u64;
     let mut silent = true;
     'steps: loop {
-        let made = match step_or_reset(auditor, report, line)? {
+        let made = match step_or_reset(auditor, report, line, &mut heard)? {
             Came::Wrong => return Ok(false),
             Came::Reset => return Ok(true),
             Came::Step(made) => made,

@@ -11,6 +11,7 @@ ghost use Rattle.run_model.specs.Legal.{IsServed};
 ghost use Rattle.audit_frames.specs.Decides.{Decides};
 ghost use Rattle.audit_frames.specs.FrameRules.{answer_after};
 ghost use Rattle.audit_frames.specs.Told.{answer_of};
+ghost use Rattle.audit_subject.specs.Hearings.{heard_in};
 ghost use Rattle.report_reading.specs.Blocks.{Place};
 ghost use Rattle.report_text.specs.Unread.{own_text};
 ghost use Rattle.trace_reader.specs.Trace.{HasLineNumbers};
@@ -104,28 +105,29 @@ fn may_come<P: Whole>(auditor: &Auditor<P>, read: &Read) -> bool
     is_at(read.depth, depth, wait)
 }
 
-/// The machines are told the event of a step, where they allow it; none where they don't.
+/// The machines are told the event of a step, and what they say is written down. Answers whether they allow it.
 fn hears<P: Whole>(
     auditor: &mut Auditor<P>,
     read: &Read,
     event: Option<Event>,
-) -> Result<Option<Heard>, NoMemory>
+    heard: &mut Heard,
+) -> Result<bool, NoMemory>
     requires ready { IsReady P.fits P.within P.ticks 0 auditor.old }
     requires time { HasTime auditor.old.outside }
     requires there { CanApply read.now.made }
     ensures hears { (t : P.Table) (p : Place P.State P.Call) (o : Open P.Call) (os : List (Open P.Call)) → Stands P.agrees P.setting P.table P.stands t auditor.old p → p.moment.opens ≡ o ∷ os →
-        IfOk result (λ heard. spec.HearsStep P.agrees P.setting P.table P.stands t auditor.new p o (spec.step_told read.now event None) heard) }
+        IfOk result (λ allowed. spec.HearsStep P.agrees P.setting P.table P.stands t auditor.new p o (spec.step_told read.now event None) (heard_in allowed heard.new)) }
     ensures sound { IfOk result (λ _. (given : ℕ) → IsReady P.fits P.within P.ticks given auditor.old → IsSound P.fits P.within given auditor.new) }
-    ensures now { IfOk result (λ heard. IfSome heard (λ h. h.around.time ≡ auditor.new.outside.time)) }
+    ensures now { IfOk result (λ allowed. IfSome (heard_in allowed heard.new) (λ h. h.around.time ≡ auditor.new.outside.time)) }
 {
     let Some(frame) = auditor.frames.top() else {
-        return Ok(None);
+        return Ok(false);
     };
     let Some(origin) = auditor.origins.as_slice().first() else {
-        return Ok(None);
+        return Ok(false);
     };
     if !starts_right(&auditor.parts, &auditor.outside, frame, event) {
-        return Ok(None);
+        return Ok(false);
     }
     let step = Step {
         made: read.made,
@@ -134,10 +136,10 @@ fn hears<P: Whole>(
         ends: false,
     };
     let (parts, outside) = (&mut auditor.parts, &mut auditor.outside);
-    let Ok(heard) = hear(parts, outside, origin, frame, &step, read.received) else {
+    let Ok(allowed) = hear(parts, outside, origin, frame, &step, read.received, heard) else {
         return Err(NoMemory);
     };
-    Ok(heard)
+    Ok(allowed)
 }
 
 /// Whether the line of a move comes, where it has one; then it is taken.
@@ -311,11 +313,12 @@ fn goes_on<P: Whole>(
 }
 
 /// A step of the newest frame that waits for nothing, whose line was read; the lines behind it are taken. Answers none
-/// where it isn't right.
+/// where it isn't right. What the machines say of it is written to a place, which the caller keeps from step to step.
 pub fn step<P: Whole>(
     auditor: &mut Auditor<P>,
     report: &mut Report<'_>,
     read: &Read,
+    heard: &mut Heard,
 ) -> Result<Option<Made>, NoMemory>
     requires ready { IsReady P.fits P.within P.ticks 0 auditor.old }
     ensures makes { (t : P.Table) (p : Place P.State P.Call) → Stands P.agrees P.setting P.table P.stands t auditor.old p → IsServed (P.setting t) p.moment →
@@ -335,8 +338,9 @@ pub fn step<P: Whole>(
     let Some(event) = event_at(read) else {
         return Ok(None);
     };
-    match hears(auditor, read, event)? {
-        Some(heard) => goes_on(auditor, report, read, event, &heard),
-        None => Ok(None),
+    let allowed = hears(auditor, read, event, heard)?;
+    if !allowed {
+        return Ok(None);
     }
+    goes_on(auditor, report, read, event, heard)
 }

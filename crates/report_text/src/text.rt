@@ -1,5 +1,5 @@
-ghost use Rattle.std.specs.Prelude.{◌≡◌, ◌+◌, ◌<◌, ◌++◌, ◌==◌, IfOk, MatchOption, IfSome, OnOk, [], ◌∷◌, length, take, drop, false, true, count_by, codes, decimal, string_bytes};
-ghost use Rattle.bench_report.specs.Lines.{line_of, numbered};
+ghost use Rattle.std.specs.Prelude.{◌≡◌, ◌+◌, ◌<◌, ◌++◌, ◌==◌, IfOk, MatchOption, IfSome, OnOk, List, ℕ, [], ◌∷◌, length, take, drop, false, true, count_by, codes, decimal, string_bytes};
+ghost use Rattle.bench_report.specs.Lines.{line_of, line_text, numbered};
 ghost use Rattle.bench_report.specs.Numbers.{IsNumber};
 ghost use Rattle.report_reading.specs.Blocks.{own_lines};
 ghost use Rattle.trace_reader.specs.Reading.{parts_of};
@@ -10,6 +10,7 @@ use bench_report::{Line, Tally};
 use memchr::memchr;
 use std::alloc::{AllocError, Global};
 use std::marker::Model;
+use std::mem::swap;
 use trace_reader::{MOST_MOVING, Told, read_line};
 
 /// A report as far as it isn't read yet, with the number of the script line whose block is read.
@@ -21,7 +22,7 @@ pub struct Report<'a> {
     number: u32,
     // The number with a space, as the lines of the block begin.
     mark: String,
-    // The line that was printed last.
+    // What was printed last.
     printed: String,
 }
 
@@ -49,6 +50,31 @@ fn line_end(text: &[u8]) -> Option<usize>
     ensures within { IfSome result (λ end. end < length text.now) }
 {
     memchr(b'\n', text)
+}
+
+/// The letter with which a line begins behind its number, where it tells of a frame's end; none of others. Each step of a
+/// frame that has acted asks for that line.
+fn first_letter(line: Line<'_>) -> Option<u8>
+    ensures { IfSome result (λ letter. (rest : List ℕ) × (line_text (line_of line.entry) ≡ letter ∷ rest)) }
+{
+    match line {
+        Line::Returns(..) => Some(b'r'),
+        Line::Leaves(_) => Some(b'l'),
+        _ => None,
+    }
+}
+
+/// Whether a text surely doesn't begin with a line, as its first letter tells. So the line needn't be printed.
+fn is_other(line: Line<'_>, text: &[u8]) -> bool
+    ensures { result ≡ true → spec.comes (line_text (line_of line.entry) ++ codes "\n") text.now ≡ false }
+{
+    let Some(letter) = first_letter(line) else {
+        return false;
+    };
+    match text {
+        [next, ..] => *next != letter,
+        [] => false,
+    }
 }
 
 /// How a line of the block of a script line begins.
@@ -81,12 +107,13 @@ impl<'a> Report<'a> {
         self.read + 1
     }
 
-    /// The block of a script line begins.
-    pub fn begin(&mut self, alloc: Global, number: u32) -> Result<(), AllocError>
+    /// The block of a script line begins. How its lines begin is printed where a line was printed last, so it takes no new memory.
+    pub fn begin(&mut self, number: u32) -> Result<(), AllocError>
         ensures { OnOk result (self.new ≡ spec.begun number self.old) }
     {
-        let mark = mark_of(alloc, number)?;
-        self.mark = mark;
+        self.printed.clear();
+        write!(self.printed, "{number} ")?;
+        swap(&mut self.mark, &mut self.printed);
         self.number = number;
         Ok(())
     }
@@ -134,16 +161,32 @@ impl<'a> Report<'a> {
         }
     }
 
+    /// What is left behind the next line, where it is this one, with the number of the block; none where it is another.
+    fn behind_line(&mut self, line: Line<'_>) -> Result<Option<&'a [u8]>, AllocError>
+        ensures left { IfOk result (λ left. MatchOption left (spec.comes (numbered self.old.number (line_of line.entry)) self.old.left ≡ false)
+            (λ rest. (spec.comes (numbered self.old.number (line_of line.entry)) self.old.left ≡ true) × (rest.now ≡ drop (length (numbered self.old.number (line_of line.entry))) self.old.left)
+            × (length rest.now + length (numbered self.old.number (line_of line.entry)) ≡ length self.old.left))) }
+        ensures same { self.new ≡ self.old }
+    {
+        let Some(text) = behind(self.mark.as_bytes(), self.left) else {
+            return Ok(None);
+        };
+        if is_other(line, text) {
+            return Ok(None);
+        }
+        self.printed.clear();
+        write!(self.printed, "{line}\n")?;
+        Ok(behind(self.printed.as_bytes(), text))
+    }
+
     /// Whether the next line is this one, with the number of the block; then it is taken.
     pub fn takes(&mut self, line: Line<'_>) -> Result<bool, AllocError>
         ensures right { IfOk result (λ right. right ≡ spec.comes (numbered self.old.number (line_of line.entry)) self.old.left) }
         ensures taken { IfOk result (λ right. self.new ≡ spec.taken right (numbered self.old.number (line_of line.entry)) 1 self.old) }
         ensures number { IfOk result (λ _. IsNumber self.old.number) }
     {
-        let number = self.number;
-        self.printed.clear();
-        write!(self.printed, "{number} {line}\n")?;
-        match behind(self.printed.as_bytes(), self.left) {
+        let _number = self.number;
+        match self.behind_line(line)? {
             Some(left) => {
                 self.left = left;
                 self.read += 1;

@@ -1,5 +1,9 @@
-//! Tests of a run's limits, which no bench file of timers reaches.
+//! Tests of what no bench file reaches: a run's limit of steps, modules that are one, and a guest.
 #![tactic(auto)]
 
 #[cfg(test)]
+mod guest_beside_cells;
+#[cfg(test)]
 mod limit_of_steps;
+#[cfg(test)]
+mod modules_as_one;

@@ -1,4 +1,4 @@
--- A line that a configured object uses, and one that is due, is one of the 32 of a chip.
+-- A line that a configured object uses, and one that is due, is one of the 32 of a chip; one that is due is used, or a serial unit's.
 use Rattle.std.proofs.Common.{◌≡◌, ℕ, ◌-◌, ◌<◌, ◌==◌, nat_lt, Bool, true, false, not, ◌&&◌, ◌||◌, cond, List, Option, Some, None, is_some, slice_index_or, refl, arith}
 use Rattle.std.specs.Prelude.{if◌then◌else◌}
 use Rattle.adc_machine.specs.Bounds.{adc_setting, group_of_input}
@@ -38,7 +38,7 @@ use Rattle.spi_machine.specs.declared.table.SpiTable.{SpiTable}
 use Rattle.wdg_machine.specs.Bounds.{wdg_setting}
 use Rattle.audit_machines.specs.System.{SystemState, Tables}
 use Rattle.audit_subject.specs.Product.{joined}
-use Rattle.audit_whole.specs.Whole.{host_setting}
+use Rattle.audit_whole.specs.Whole.{host_setting, is_serial_line}
 
 -- ---- one of two
 
@@ -129,6 +129,24 @@ done_there s now (Some u) h = refl
 serial_due : (d : SpiTable) (w : World) (s : SpiState) (l : ℕ) → serials.due w s l ≡ true → l < 32
 serial_due d w s l h = serial_by d l (l == 26) (l == 27) refl refl (done_there s w.now (unit_of l) (and_second (not (is_off s.mode)) (has_done w.now (run_of s (unit_of l))) (and_first (serials.ready w s l) (is_interrupt s.mode) h)))
 
+-- ---- a line that is due is used, but for those of the last of two, which is asked for what the first doesn't use
+
+or_second : (x y : Bool) → y ≡ true → x || y ≡ true
+or_second true y e = refl
+or_second false y e = e
+
+next_asked : (used first second others serial : Bool) → (second ≡ true → (others || serial) ≡ true) → cond used first second ≡ true → ((used || others) || serial) ≡ true
+next_asked true first second others serial f e = refl
+next_asked false first second others serial f e = f e
+
+serial_one : (p q : Bool) → is_some {T = ℕ} (if p then Some 0 else if q then Some 1 else None) ≡ true → (p || q) ≡ true
+serial_one true q h = refl
+serial_one false true h = refl
+serial_one false false h = off_on h
+
+serial_asked : (w : World) (s : SpiState) (l : ℕ) → serials.due w s l ≡ true → is_serial_line l ≡ true
+serial_asked w s l h = serial_one (l == 26) (l == 27) (done_there s w.now (unit_of l) (and_second (not (is_off s.mode)) (has_done w.now (run_of s (unit_of l))) (and_first (serials.ready w s l) (is_interrupt s.mode) h)))
+
 -- ---- all modules
 
 module _ (t : Tables SpiTable) (l : ℕ) where
@@ -162,4 +180,18 @@ module _ (t : Tables SpiTable) (w : World) (s : SystemState SpiState) (l : ℕ) 
       chosen_true (left.used l) (left.machine.due w s.0 l) (right.machine.due w s.1 l)
       (λ x. timer_due t.0.1.1 w s.0.1.1 l x)
       (λ x. chosen_true (is_some (pulse_table.channel_of_line t.1.0.0 l) || is_some (capture_table.channel_of_line t.1.0.1 l)) _ _ outputs_due units_due x)
+      e
+
+  units_asked : cond ((adc_setting t.1.1.0).used l) (converters.ready t.1.1.0 w s.1.1.0 l) (serials.due w s.1.1.1 l) ≡ true → (((adc_setting t.1.1.0).used l || uses_by t.1.1.1 (unit_of l)) || is_serial_line l) ≡ true
+  units_asked e = next_asked ((adc_setting t.1.1.0).used l) (converters.ready t.1.1.0 w s.1.1.0 l) (serials.due w s.1.1.1 l) (uses_by t.1.1.1 (unit_of l)) (is_serial_line l) (λ x. or_second (uses_by t.1.1.1 (unit_of l)) (is_serial_line l) (serial_asked w s.1.1.1 l x)) e
+
+  pub due_asked : (host_setting t).machine.due w s l ≡ true → ((host_setting t).used l || is_serial_line l) ≡ true
+  due_asked e =
+      let left = joined (joined (mcu_setting t.0.0.0) (wdg_setting t.0.0.1)) (joined (port_setting t.0.1.0) (gpt_setting t.0.1.1)) in
+      let right = joined (joined (pwm_setting t.1.0.0) (icu_setting t.1.0.1)) (joined (adc_setting t.1.1.0) (spi_setting t.1.1.1)) in
+      next_asked (left.used l) (left.machine.due w s.0 l) (right.machine.due w s.1 l) (right.used l) (is_serial_line l)
+      (λ x. next_asked (is_some (pulse_table.channel_of_line t.1.0.0 l) || is_some (capture_table.channel_of_line t.1.0.1 l))
+      (cond (is_some (pulse_table.channel_of_line t.1.0.0 l)) (pulses.ready t.1.0.0 w s.1.0.0 l) (captures.ready t.1.0.1 w s.1.0.1 l))
+      (cond ((adc_setting t.1.1.0).used l) (converters.ready t.1.1.0 w s.1.1.0 l) (serials.due w s.1.1.1 l))
+      ((adc_setting t.1.1.0).used l || uses_by t.1.1.1 (unit_of l)) (is_serial_line l) units_asked x)
       e

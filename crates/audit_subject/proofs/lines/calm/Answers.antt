@@ -1,8 +1,8 @@
 -- Each line is marked of which no unit waits.
-use Rattle.std.proofs.Common.{◌≡◌, ℕ, Bool, ◌&&◌, not, sym, ◌∙◌, ap, ◌<◌, arith}
+use Rattle.std.proofs.Common.{◌≡◌, ℕ, ◌≤◌, Bool, false, ◌&&◌, not, sym, ◌∙◌, ap, ◌<◌, arith}
 use Rattle.mcal_base.specs.Bits.{has_bit, bits_of}
 use Rattle.mcal_base.proofs.BitLaws.{bits_of-left, bits_of-zero}
-use Rattle.audit_subject.proofs.LineMasks.{marked, none_asked}
+use Rattle.audit_subject.proofs.LineMasks.{ended, marked, none_asked}
 use Rattle.audit_subject.proofs.lines.calm.Goals as goal
 use Rattle.audit_subject.proofs.lines.calm.Goals.{then-is_calm, else-is_calm}
 
@@ -27,3 +27,11 @@ pub returns : goal.returns
 returns g c = λ w s fits is stands.
     let all : c.loop-line.line ≡ 64 = omega arith in
     c.loop-line.invariant w s fits is stands ∙ ap (λ n. bits_of (λ k. has_bit c.args.asked k && not ((g.P.Part.member (g.P.Part.table c.args.part.now)).machine.line_waits w s k)) n) all
+
+pub returns-then-ends_before : goal.returns-then-ends_before
+returns-then-ends_before g c = λ w s fits is stands.
+    let n = c.loop-line.line in
+    let test : ℕ → Bool = λ k. has_bit c.args.asked k && not ((g.P.Part.member (g.P.Part.table c.args.part.now)).machine.line_waits w s k) in
+    let below : n < 64 = omega arith in
+    let off : (l : ℕ) → n ≤ l → test l ≡ false = λ l from. ap (λ b. b && not ((g.P.Part.member (g.P.Part.table c.args.part.now)).machine.line_waits w s l)) (c.ends_before.ensures c.if-ends_before.true l from) in
+    c.loop-line.invariant w s fits is stands ∙ sym (ended test n below off)

@@ -28,8 +28,8 @@ returns-in-Audit g c =
 pub returns-in-Ok : goal.returns-in-Ok
 returns-in-Ok g c =
     let is = c.in-Ok.is in
-    file_returns _ _ c.deref.result.now (sym c.form_of.ensures ∙ c.in-Some.is ∙ ap (λ f. Some f) c.in-File.is) (omega (arith, c.in-Ok.ensures.limit, c.deref.ensures.len))
-    (rw c.deref.ensures.value c.in-Ok.ensures.all.0) c.in-Ok.ensures.all.1 (c.read_most.ensures.still (λ e. cc)) c.conclude.ensures.concludes c.conclude.ensures.told
+    file_returns _ _ c.in-Ok.bytes.items (sym c.form_of.ensures ∙ c.in-Some.is ∙ ap (λ f. Some f) c.in-File.is) (omega (arith, c.in-Ok.ensures.limit))
+    c.in-Ok.ensures.all.0 c.in-Ok.ensures.all.1 (c.read_most.ensures.still (λ e. cc)) c.conclude.ensures.concludes c.conclude.ensures.told
 
 pub returns-in-Err-TooLong : goal.returns-in-Err-TooLong
 returns-in-Err-TooLong g c =

@@ -2,6 +2,7 @@
 use Rattle.std.proofs.Common.{ℕ, ◌≡◌, None, arith, refl, sym, ◌∙◌, ap, subst}
 use Rattle.std.specs.Option.{IfSome}
 use Rattle.std.specs.Prelude.{option_copied}
+use Rattle.audit_subject.specs.Hearings.{heard_in}
 use Rattle.audit_subject.specs.Origins.{origin_of}
 use Rattle.report_auditor.proofs.SoundLaws.{times_past}
 use Rattle.report_steps.specs.StepParts.{step_told}
@@ -52,7 +53,7 @@ returns-clause-hears g c t p o os stands opens =
     let is = origin_is g.P.Whole.agrees g.P.Subject.setting g.P.Part.table g.P.Part.stands g.P.Part.member g.met.P.Subject.member_is t _ p s o os opens c.args.read.now c.args.event (origin_of c.in-Some-first.origin.now) begun in
     let stood_so = stood g.P.Whole.agrees g.P.Subject.setting g.P.Part.table g.P.Part.stands g.P.Part.member g.met.P.Subject.member_is t _ p s o os opens c.args.read.now c.args.event c.in-Some.frame.now top in
     hears g.P.Whole.agrees g.P.Subject.setting g.P.Part.table g.P.Part.stands g.P.Part.member g.met.P.Subject.member_is t _ p s o os opens c.args.read.now c.args.event c.in-Some.frame.now top
-    c.starts_right.result (c.starts_right.ensures p.moment.world p.moment.state s.world s.state) c.if-not-starts_right.false c.hear.new.subject c.hear.new.outside c.in-Ok.heard c.hear.ensures.table (c.hear.ensures.world p.moment.world s.world)
+    c.starts_right.result (c.starts_right.ensures p.moment.world p.moment.state s.world s.state) c.if-not-starts_right.false c.hear.new.subject c.hear.new.outside (heard_in c.in-Ok.allowed c.hear.new.heard) c.hear.ensures.table (c.hear.ensures.world p.moment.world s.world)
     (c.in-Ok.ensures.hears p.moment o (step_told c.args.read.now c.args.event None) s.world s.state is stood_so refl refl)
 
 pub returns-clause-sound : goal.returns-clause-sound
@@ -63,4 +64,4 @@ returns-clause-sound g c given before =
 pub returns-clause-now : goal.returns-clause-now
 returns-clause-now g c =
     let ready = rw (← c.auditor.view_is) at c.requires.ready in
-    subst (λ (n : ℕ). IfSome c.in-Ok.heard (λ h. h.around.time ≡ n)) (same_time _ c.hear.new.outside ready.sound.around ready.sound.world c.hear.ensures.world) c.in-Ok.ensures.now
+    subst (λ (n : ℕ). IfSome (heard_in c.in-Ok.allowed c.hear.new.heard) (λ h. h.around.time ≡ n)) (same_time _ c.hear.new.outside ready.sound.around ready.sound.world c.hear.ensures.world) c.in-Ok.ensures.now

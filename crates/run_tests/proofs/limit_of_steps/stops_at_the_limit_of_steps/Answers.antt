@@ -1,8 +1,8 @@
 use Rattle.std.proofs.Common.{arith, subst, sym}
 use Rattle.gpt_driver.specs.Fits.{fits_of}
 use Rattle.gpt_machine.specs.Table.{FitsGpt}
-use Rattle.mcal_system.proofs.Limits.{within_limits}
-use Rattle.mcal_system.proofs.Sound.{sound_timers}
+use Rattle.mcal_drivers.proofs.Limits.{within_limits}
+use Rattle.mcal_drivers.proofs.Sound.{sound_timers}
 use Rattle.run_tests.proofs.limit_of_steps.stops_at_the_limit_of_steps.Goals as goal
 
 pub run_within-requires-clause-fits : goal.run_within-requires-clause-fits

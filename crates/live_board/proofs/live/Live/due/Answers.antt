@@ -1,7 +1,7 @@
 use Rattle.std.proofs.Common.{◌≡◌, None, Some, sym, ◌∙◌, ap, subst, arith}
 use Rattle.chip_model.specs.Chip.{stall_of, ticked}
-use Rattle.step_runner.specs.Kept.{upcoming_of}
-use Rattle.live_board.proofs.Keeping.{looked_is, none_upcoming, still_some, wait_none, wait_some}
+use Rattle.step_runner.specs.Kept.{IsLooked, upcoming_of}
+use Rattle.live_board.proofs.Keeping.{looked_is, looked_none, none_upcoming, still_some, wait_none, wait_some}
 use Rattle.live_board.proofs.live.Live.due.Goals as goal
 
 pub returns-then-depth-eq0-clause-wait : goal.returns-then-depth-eq0-clause-wait
@@ -23,3 +23,9 @@ pub returns-clause-over : goal.returns-clause-over
 returns-clause-over g c =
     let there : upcoming_of g.M.Frame.Routine.move_of c.args.self.now.kept.frames ≡ Some c.look.new.stepped.made = subst (λ v. upcoming_of g.M.Frame.Routine.move_of v.kept.frames ≡ Some c.look.new.stepped.made) c.self.view_is (looked_is g.M.Frame.Routine.move_of c.self.inside.stack.frames c.look.new.stepped.made (omega arith) c.look.ensures.looked) in
     still_some g.M.Frame.Routine.move_of c.args.self.now.kept.frames (ticked c.args.self.now.chip c.stall.result) c.look.new.stepped.made there (subst (λ v. stall_of (ticked v.chip c.stall.result) c.look.new.stepped.made ≡ 0) c.self.view_is c.stall.ensures.over)
+
+pub returns-then-depth-eq0-clause-looked : goal.returns-then-depth-eq0-clause-looked
+returns-then-depth-eq0-clause-looked g c = subst (λ v. IsLooked g.M.Frame.Routine.move_of v.kept.frames c.args.stepped.now.made) c.self.view_is (looked_none g.M.Frame.Routine.move_of c.self.inside.stack.frames c.args.stepped.now.made (omega arith))
+
+pub returns-clause-looked : goal.returns-clause-looked
+returns-clause-looked g c = subst (λ v. IsLooked g.M.Frame.Routine.move_of v.kept.frames c.look.new.stepped.made) c.self.view_is c.look.ensures.looked

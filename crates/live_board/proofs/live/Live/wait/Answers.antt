@@ -2,13 +2,16 @@ use Rattle.std.proofs.Common.{◌≡◌, ap, sym, ◌∙◌, subst, arith}
 use Rattle.chip_model.specs.Chip.{expiry_of, ticked}
 use Rattle.script_runner.specs.Standing.{left_within}
 use Rattle.script_runner.proofs.Waits.{left-early, left-few, left-is-some}
-use Rattle.step_runner.specs.Kept.{IsStill}
+use Rattle.step_runner.specs.Kept.{IsLooked, IsStill}
 use Rattle.live_board.specs.Lives.{GoesOn, wait_by, wait_of}
 use Rattle.live_board.proofs.Keeping.{goes_nowhere, still_at_once, wait_alone, wait_through}
 use Rattle.live_board.proofs.live.Live.wait.Goals as goal
 
 pub returns-then-ticks-eq0-clause-still : goal.returns-then-ticks-eq0-clause-still
 returns-then-ticks-eq0-clause-still g c = still_at_once g.M.Frame.Routine.move_of c.args.self.now.kept.frames c.args.self.now.chip (omega (arith, c.due-ticks.ensures.wait))
+
+pub returns-then-ticks-eq0-clause-looked : goal.returns-then-ticks-eq0-clause-looked
+returns-then-ticks-eq0-clause-looked g c = c.due-ticks.ensures.looked
 
 pub returns-then-ticks-eq0-clause-goes : goal.returns-then-ticks-eq0-clause-goes
 returns-then-ticks-eq0-clause-goes g c =
@@ -30,6 +33,9 @@ tick_on-requires-clause-time g c = omega (arith, ap (λ v. v.left) c.self.view_i
 pub returns-in-Some-clause-still : goal.returns-in-Some-clause-still
 returns-in-Some-clause-still g c = subst (λ us. IsStill g.M.Frame.Routine.move_of us c.run_down.new.self.chip) (sym c.run_down.ensures.frames) tt
 
+pub returns-in-Some-clause-looked : goal.returns-in-Some-clause-looked
+returns-in-Some-clause-looked g c = subst (λ us. IsLooked g.M.Frame.Routine.move_of us c.due-ticks.new.stepped.made) (sym c.run_down.ensures.frames) tt
+
 pub returns-in-Some-clause-goes : goal.returns-in-Some-clause-goes
 returns-in-Some-clause-goes g c =
     subst (λ n. GoesOn (g.M.Module.spec c.args.self.now.driver) c.args.self.now c.run_down.new.self (wait_by n (left_within n (expiry_of c.args.self.now.chip)))) c.due-ticks.ensures.wait
@@ -40,6 +46,9 @@ pub returns-in-None-clause-still : goal.returns-in-None-clause-still
 returns-in-None-clause-still g c =
     subst (λ x. IsStill g.M.Frame.Routine.move_of c.tick_on.new.self.kept.frames x) (sym c.tick_on.ensures.chip)
     (subst (λ k. IsStill g.M.Frame.Routine.move_of k.frames (ticked c.args.self.now.chip c.due-ticks.result)) (sym c.tick_on.ensures.kept) c.due-ticks.ensures.over)
+
+pub returns-in-None-clause-looked : goal.returns-in-None-clause-looked
+returns-in-None-clause-looked g c = subst (λ k. IsLooked g.M.Frame.Routine.move_of k.frames c.due-ticks.new.stepped.made) (sym c.tick_on.ensures.kept) c.due-ticks.ensures.looked
 
 pub returns-in-None-clause-goes : goal.returns-in-None-clause-goes
 returns-in-None-clause-goes g c =

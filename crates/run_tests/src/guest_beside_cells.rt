@@ -1,7 +1,7 @@
 ghost use Rattle.std.specs.Prelude.{◌+◌, ◌<◌, ◌≤◌};
 
-use crate::{House, VisitorCall, house};
 use chip_model::Bus;
+use guest_example::{House, VisitorCall, house};
 use mcal_base::{Answer, Config};
 use serial_devices::SerialDevice;
 use step_runner::{Either, Stack, begin, step};

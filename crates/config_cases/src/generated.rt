@@ -1,12 +1,10 @@
-//! Reads a bench file from standard input, and tells whether its board is the one that scripts are generated for, and
-//! its script the one of this seed.
-#![tactic(auto)]
+//! Bench files that the generator is to make, too.
 
 use bench_generator::{board, script};
 use bench_script::{read_script, split_file};
 use mcal_base::{Config, Directive};
 use mcal_config::{Printed, read_config};
-use std::io::{self, Read};
+use std::io;
 
 /// The seed, whose analog values pass the largest one, so that they begin anew.
 const SEED: u32 = 4_090;
@@ -43,21 +41,20 @@ fn compare_scripts(rt: &HostRuntime, read: &[Directive]) -> io::Result<()> {
     }
 }
 
-fn main(rt: HostRuntime) -> io::Result<()> {
-    let mut text = Vec::new(rt.alloc());
-    rt.stdin().read_to_end(&mut text)?;
+/// Tells whether the board of a bench file is the one that scripts are generated for, and its script the one of the seed.
+pub fn compare(rt: &HostRuntime, text: &[u8]) -> io::Result<()> {
     if text.len() > MOST_BYTES {
         return println!(rt; "too long");
     }
-    let Some((configuration, lines)) = split_file(text.as_slice()) else {
+    let Some((configuration, lines)) = split_file(text) else {
         return println!(rt; "no separator");
     };
     match read_config(rt.alloc(), configuration) {
-        Ok(read) => compare_boards(&rt, &read)?,
+        Ok(read) => compare_boards(rt, &read)?,
         Err(fault) => println!(rt; "configuration fault {}", Printed(fault))?,
     }
     match read_script(rt.alloc(), lines) {
-        Ok(read) => compare_scripts(&rt, read.as_slice()),
+        Ok(read) => compare_scripts(rt, read.as_slice()),
         Err(fault) => println!(rt; "script fault {fault}"),
     }
 }

@@ -1,6 +1,5 @@
 ghost use Rattle.std.specs.Prelude.{◌≡◌, ◌+◌, ◌<◌, ◌≤◌, ℕ, length};
 
-use crate::{CellCall, Three, three};
 use chip_model::Bus;
 use irq_control::Held;
 use mcal_base::{
@@ -10,6 +9,7 @@ use mcal_base::{
 use run_model::{Class, Kind};
 use serial_devices::SerialDevice;
 use step_runner::{Either, Module, Stack, Union, begin, enter, reset, step};
+use union_example::{CellCall, Three, three};
 
 const NOTICE: Notice = Notice {
     kind: NoticeKind::GptNotification,
@@ -27,7 +27,7 @@ impl Routine for Bell {
     ghost use Rattle.mcal_base.specs.declared.answer.Head.TheVariants.{Nothing};
     ghost use Rattle.mcal_base.specs.declared.moves.Event.TheVariants.{Act};
     ghost use Rattle.mcal_base.specs.declared.moves.Move.TheVariants.{Mask, Unmask, Note};
-    ghost use Rattle.union_example.specs.declared.tests.TheConstants.{NOTICE};
+    ghost use Rattle.run_tests.specs.declared.modules_as_one.TheConstants.{NOTICE};
 
     ghost move_of = { λ f. cond (f.place == 0) Mask (cond (f.place == 1) Unmask (Note NOTICE)) };
 
@@ -78,7 +78,7 @@ impl Module for Bells {
     ghost use Rattle.mcal_base.specs.declared.module_name.ModuleName.TheVariants.{Gpt};
     ghost use Rattle.mcal_base.specs.declared.service.Service.TheVariants.{GptInit};
     ghost use Rattle.run_model.specs.declared.class.Kind.TheVariants.{Exclusive};
-    ghost use Rattle.union_example.specs.declared.tests.Bell.{Bell};
+    ghost use Rattle.run_tests.specs.declared.modules_as_one.Bell.{Bell};
 
     ghost spec = { λ m. record {
       fits = ⊥;
