@@ -69,8 +69,8 @@ pub use Rattle.service_outline.specs.{Services.{holds_at, is_closed, IsBasis, Is
 pub use Rattle.service_outline.specs.{Services.{Looking, MakesStarts, mark_of, MayCome, MayStop, place_at}}
 pub use Rattle.service_outline.specs.{Services.{PointAssertion, ReservedBy, Right, RightOr, Services, services_driver}}
 pub use Rattle.service_outline.specs.{Services.{TurnsTo, with_holds, Within}, Short.{ended_by, ending_gave, short_left}}
-pub use Rattle.service_outline.specs.{Short.{short_move}, Sweep.{takes_at}, Sweeping.{IsSweeping, sweep, sweep_spot}}
-pub use Rattle.service_outline.specs.{Sweeping.{Sweeping}, WindowHistory.{is_windowed, Plain}}
+pub use Rattle.service_outline.specs.{Short.{short_move}, Sweep.{takes_at}, SweepServices.{IsSweeping, sweep, sweep_spot}}
+pub use Rattle.service_outline.specs.{SweepServices.{Sweeping}, WindowHistory.{is_windowed, Plain}}
 pub use Rattle.service_outline.specs.{declared.body.Looked.{Looked}, declared.body.Or.TheVariants.{First, Second}}
 pub use Rattle.service_outline.specs.{declared.done.BodyTaken.{BodyTaken}, declared.done.Done.{Done}}
 pub use Rattle.service_outline.specs.{declared.done.Epilogue.{Epilogue}, declared.done.Epilogue.TheVariants.{Error}}
@@ -80,7 +80,7 @@ pub use Rattle.service_outline.specs.laws.{Acts.{never_clean}, Both.{both_ending
 pub use Rattle.service_outline.specs.laws.{Lawful.{services_lawful}, Owing.{not_filled, windows_right}}
 pub use Rattle.service_outline.specs.laws.{Reports.{error_told}, Seen.{free_windows}, ShortServices.{calm_by}}
 pub use Rattle.service_outline.specs.laws.{ShortServices.{plain_turns}, SimpleMoves.{words_happened}}
-pub use Rattle.service_outline.specs.laws.{StepKinds.{asks_no}, Sweeping.{sweep_right}, Words.{stored_other}}
+pub use Rattle.service_outline.specs.laws.{StepKinds.{asks_no}, SweepRight.{sweep_right}, Words.{stored_other}}
 pub use Rattle.service_outline.specs.laws.{Words.{stored_same}}
 pub use Rattle.shapes_on_chip.specs.OnChip.{HasWords}
 pub use Rattle.adc_stream.specs.{Copying.{after_by, copy_move, copying, count_of, has_read, move_by, place_sum}}
@@ -203,6 +203,7 @@ pub use Rattle.adc_groups.specs.laws.{words.WordsOfModule.{AllSmall, bank_below,
 pub use Rattle.adc_groups.specs.laws.{words.WordsOfModule.{few_inputs, first_words, IsOwnStore, kept_words, low_words}}
 pub use Rattle.adc_groups.specs.laws.{words.WordsOfModule.{on_there, order_words, place_words, running_words, unit_is}}
 pub use Rattle.adc_groups.specs.laws.{words.WordsOfModule.{unit_small, unit_within, within, words_below}}
+pub use Rattle.adc_groups.specs.laws.words.Cases.{cases, some_or_none, whether, whether_as}
 pub use Rattle.adc_turns.specs.laws.services.ClaimEndRight.{quit_right}
 pub use Rattle.adc_turns.specs.laws.services.ClaimEndSteps.{keep_looks, leave_seeks}
 pub use Rattle.adc_turns.specs.laws.services.StartLastStep.{asks_for, convert_looks, starting_right}

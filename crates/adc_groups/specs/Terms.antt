@@ -163,3 +163,4 @@ pub use Rattle.adc_groups.specs.laws.services.Decisions.{unit_named, yields, yie
 pub use Rattle.adc_groups.specs.laws.services.InitSteps.{clear_at, cleared_word, group_clear, unit_word}
 pub use Rattle.adc_groups.specs.laws.services.WriteBatchSteps.{deed_move, making, shape_after, shape_move}
 pub use Rattle.adc_groups.specs.laws.words.WindowWords.{words_of}
+pub use Rattle.adc_groups.specs.laws.words.Cases.{cases, whether, whether_as}

@@ -13,7 +13,7 @@ use adc_machine::{AdcTable, Call, GroupCall};
 use det_errors::{Facts, first_error};
 use mcal_base::{Answer, AnswerName, ErrorName};
 use service_outline::{
-    Done, Epilogue, Looked, Or, Place as SweepPlace, Reply, Sweep, named, nothing, zero_null,
+    Done, Epilogue, Looked, Or, Reply, Sweep, SweepStage, named, nothing, zero_null,
 };
 
 /// A place in any body of the driver.
@@ -129,7 +129,7 @@ impl Asked {
         match self.call {
             Call::Init => Looked::Goes(Or::First(Sweep {
                 objects: Setup { table },
-                place: SweepPlace::Opens,
+                place: SweepStage::Opens,
             })),
             Call::DeInit => {
                 let place = request::survey(&table, Window::Close, 0);

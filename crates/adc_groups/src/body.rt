@@ -9,7 +9,7 @@ use crate::window::Window;
 use crate::words::{Phase, Word, rounds_of, word_number};
 use adc_machine::AdcTable;
 use adc_stream::Bank;
-use mcal_base::{Answer, Move, Reg, Routine, Short};
+use mcal_base::{Answer, Event, Move, Reg, Routine, Short};
 use service_outline::{Body, BodyTaken, Epilogue, ends, goes, nothing};
 use word_shapes::{Front, Put, Take, TakePart};
 
@@ -94,16 +94,7 @@ impl Body for AdcBody {
             Place::Makes(making) => {
                 let event = making.took(value);
                 if making.is_over() {
-                    match making.after {
-                        Continuation::Ends(done) => BodyTaken {
-                            event,
-                            done: Some(done),
-                        },
-                        Continuation::Goes(outside) => {
-                            self.place = Place::Opens(outside);
-                            BodyTaken { event, done: None }
-                        }
-                    }
+                    self.made(event)
                 } else {
                     BodyTaken { event, done: None }
                 }
@@ -113,26 +104,143 @@ impl Body for AdcBody {
                     seen.push(value);
                 }
                 if window.word(seen.len()).is_none() {
-                    let decided = service::decided(&self.table, *window, seen.as_slice());
-                    self.follows(decided)
+                    self.looked()
                 } else {
                     goes()
                 }
             }
-            Place::Out(outside) => {
-                self.place = outside.after(&self.table, value);
-                goes()
-            }
-            Place::Opens(outside) => {
-                self.place = opened(&self.table, *outside);
-                goes()
-            }
-            Place::Pins(group, phase) => {
-                self.place = pinned(&self.table, *group, *phase, value);
-                goes()
-            }
+            Place::Out(outside) => match outside {
+                Outside::Copies(copying, copied) => {
+                    match copying.after(value) {
+                        Some(next) => *copying = next,
+                        None => self.place = Place::Out(copied.follows()),
+                    }
+                    goes()
+                }
+                _ => self.crosses(value),
+            },
             Place::Reads(newest) => newest.took(value),
             Place::Quits(_) => ends(None, nothing(), Epilogue::Nothing),
+            Place::Opens(_) => self.crosses(value),
+            Place::Seeks(..) | Place::Chooses(..) => self.searches(value),
+            Place::Flag(_) | Place::Surveys(..) | Place::Pins(..) | Place::Aborts(_) => {
+                self.decides(value)
+            }
+        }
+    }
+}
+
+/// The steps that decide what comes next. They aren't inlined, so that the other steps, of which there are most, make no
+/// room for what they hold.
+impl AdcBody {
+    /// All moves of a window were made.
+    #[inline(never)]
+    fn made(&mut self, event: Option<Event>) -> BodyTaken
+        requires making { spec.IsMaking self.old.place }
+        ensures state { self.new ≡ record self.old { place = (spec.made self.old.place event).0 } }
+        ensures taken { result ≡ (spec.made self.old.place event).1 }
+    {
+        let Place::Makes(making) = &self.place else {
+            unreachable!()
+        };
+        match making.after {
+            Continuation::Ends(done) => BodyTaken {
+                event,
+                done: Some(done),
+            },
+            Continuation::Goes(outside) => {
+                self.place = Place::Opens(outside);
+                BodyTaken { event, done: None }
+            }
+        }
+    }
+
+    /// All words that decide were looked at.
+    #[inline(never)]
+    fn looked(&mut self) -> BodyTaken
+        requires looking { spec.IsLooking self.old.place }
+        ensures state { self.new ≡ record self.old { place = (spec.looked self.old.table self.old.place).0 } }
+        ensures taken { result ≡ (spec.looked self.old.table self.old.place).1 }
+    {
+        let Place::Looks(window, seen) = &self.place else {
+            unreachable!()
+        };
+        let decided = service::decided(&self.table, *window, seen.as_slice());
+        self.follows(decided)
+    }
+
+    /// A step with the mask open, or that opens it.
+    #[inline(never)]
+    fn crosses(&mut self, value: u32) -> BodyTaken
+        requires outside { spec.IsOutside self.old.place }
+        ensures state { self.new ≡ (spec.body_takes self.old value).0 }
+        ensures taken { result ≡ (spec.body_takes self.old value).1 }
+    {
+        match &self.place {
+            Place::Opens(Outside::Reads(group, bank)) => {
+                self.place = Place::Reads(read::reading(&self.table, *group, *bank));
+            }
+            Place::Opens(outside) => self.place = Place::Out(*outside),
+            Place::Out(outside) => self.place = outside.after(&self.table, value),
+            _ => unreachable!(),
+        }
+        goes()
+    }
+
+    /// A step of a search for a request or a bank.
+    #[inline(never)]
+    fn searches(&mut self, value: u32) -> BodyTaken
+        requires searching { spec.IsSearching self.old.place }
+        ensures state { self.new ≡ (spec.body_takes self.old value).0 }
+        ensures taken { result ≡ (spec.body_takes self.old value).1 }
+    {
+        match &mut self.place {
+            Place::Seeks(_, front) => {
+                let taken = front.took(value);
+                match &taken.ended {
+                    Some(found) => self.found(given(found)),
+                    None => goes(),
+                }
+            }
+            Place::Chooses(_, _, put) => {
+                let taken = put.took(value);
+                match &taken.ended {
+                    Some(found) => self.found(given(found)),
+                    None => goes(),
+                }
+            }
+            _ => unreachable!(),
+        }
+    }
+
+    /// What was searched for was found.
+    #[inline(never)]
+    fn found(&mut self, number: u32) -> BodyTaken
+        requires searching { spec.IsSearching self.old.place }
+        ensures state { self.new ≡ record self.old { place = (spec.found self.old.table self.old.place number).0 } }
+        ensures taken { result ≡ (spec.found self.old.table self.old.place number).1 }
+    {
+        match &self.place {
+            Place::Seeks(window, _) => {
+                let decided = turn::sought(&self.table, *window, number);
+                self.follows(decided)
+            }
+            Place::Chooses(unit, group, _) => {
+                let decided = serve::chosen(*unit, *group, Bank::of(number));
+                self.follows(decided)
+            }
+            _ => unreachable!(),
+        }
+    }
+
+    /// A step that decides by one value.
+    #[inline(never)]
+    fn decides(&mut self, value: u32) -> BodyTaken
+        requires deciding { spec.IsDeciding self.old.place }
+        ensures state { self.new ≡ (spec.body_takes self.old value).0 }
+        ensures taken { result ≡ (spec.body_takes self.old value).1 }
+    {
+        match &self.place {
             Place::Flag(window) => {
                 let decided = service::flagged(*window, value);
                 self.follows(decided)
@@ -141,25 +249,16 @@ impl Body for AdcBody {
                 let decided = request::surveyed(&self.table, *window, *group, value);
                 self.follows(decided)
             }
-            Place::Seeks(window, front) => match front.took(value).ended {
-                Some(found) => {
-                    let decided = turn::sought(&self.table, *window, given(&found));
-                    self.follows(decided)
-                }
-                None => goes(),
-            },
-            Place::Chooses(unit, group, put) => match put.took(value).ended {
-                Some(found) => {
-                    let decided = serve::chosen(*unit, *group, Bank::of(given(&found)));
-                    self.follows(decided)
-                }
-                None => goes(),
-            },
+            Place::Pins(group, phase) => {
+                self.place = pinned(&self.table, *group, *phase, value);
+                goes()
+            }
             Place::Aborts(round) => {
                 let (event, place) = turn::aborted(&self.table, *round, value);
                 self.place = place;
                 BodyTaken { event, done: None }
             }
+            _ => unreachable!(),
         }
     }
 }
@@ -187,16 +286,6 @@ impl AdcBody {
                 goes()
             }
         }
-    }
-}
-
-/// Where a frame goes on once the mask is open.
-fn opened(table: &AdcTable, outside: Outside) -> Place
-    ensures { result ≡ spec.opened table.now outside }
-{
-    match outside {
-        Outside::Reads(group, bank) => Place::Reads(read::reading(table, group, bank)),
-        other => Place::Out(other),
     }
 }
 

@@ -94,7 +94,7 @@ impl Outside {
 
 impl Copied {
     /// What comes after the values were copied.
-    fn follows(self) -> Outside
+    pub fn follows(self) -> Outside
         ensures { result ≡ spec.after_copies self }
     {
         match self {

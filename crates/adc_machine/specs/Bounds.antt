@@ -1,6 +1,6 @@
 -- The class of each call, the levels of lines, the most steps and moves of frames, and what a run of the module is over.
 use Rattle.std.specs.Prelude.{ℕ, ◌+◌, ◌*◌, ◌-◌, Bool, false, ◌&&◌, cond, List, [], ◌∷◌, length, max, Option, Some, None, is_some}
-use Rattle.chip_model.specs.Chip.{word_of}
+use Rattle.run_model.specs.Chip.{word_of}
 use Rattle.mcal_base.specs.declared.module_name.ModuleName.{ModuleName}
 use Rattle.mcal_base.specs.declared.module_name.ModuleName.TheVariants.{Adc}
 use Rattle.run_model.specs.declared.class.Class.{Class}

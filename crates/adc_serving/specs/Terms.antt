@@ -95,7 +95,7 @@ pub use Rattle.adc_groups.specs.laws.{bookkeeping.RefinementRight.{bare_right, f
 pub use Rattle.adc_groups.specs.laws.{bookkeeping.TriggerOff.{marks_off, triggers_off}}
 pub use Rattle.adc_groups.specs.laws.{bookkeeping.TurnsOfUnit.{none_past, off_unit as off_group, round_turn}}
 pub use Rattle.adc_groups.specs.laws.{bookkeeping.TurnsOfUnit.{turn_round, unit_of_round}}
-pub use Rattle.adc_groups.specs.laws.{hardware.HardwareCommutes.{unit_other, unit_set}}
+pub use Rattle.adc_groups.specs.laws.{hardware.HardwareCommutes.{unit_block, unit_other, unit_set}}
 pub use Rattle.adc_groups.specs.laws.{hardware.PendingWritesStable.{acknowledged_list, acknowledged_over}}
 pub use Rattle.adc_groups.specs.laws.{hardware.StableUnderHardware.{kept_within, listed_agree, value_within}}
 pub use Rattle.adc_groups.specs.laws.{services.BodySteps.{body_ends, body_work, copies_on, place_ends, step}}
@@ -123,3 +123,4 @@ pub use Rattle.adc_groups.specs.laws.{words.WordsOfModule.{bank_below, claim_wor
 pub use Rattle.adc_groups.specs.laws.{words.WordsOfModule.{order_words, place_words, running_words, some_inputs}}
 pub use Rattle.adc_groups.specs.laws.{words.WordsOfModule.{some_samples, trio_words, unit_is, unit_small, unit_within}}
 pub use Rattle.adc_groups.specs.laws.{words.WordsOfModule.{within}}
+pub use Rattle.adc_groups.specs.laws.words.Cases.{cases, whether, whether_as}

@@ -78,7 +78,9 @@ pub use Rattle.adc_groups.specs.laws.{bookkeeping.RefinementRight.{finished_here
 pub use Rattle.adc_groups.specs.laws.{bookkeeping.TurnsOfUnit.{kept_request, kept_round, named_converter, named_number}}
 pub use Rattle.adc_groups.specs.laws.{bookkeeping.TurnsOfUnit.{named_of, none_past, off_unit, round_other, round_turn}}
 pub use Rattle.adc_groups.specs.laws.{bookkeeping.TurnsOfUnit.{turn_round, waits_turn}}
-pub use Rattle.adc_groups.specs.laws.{hardware.HardwareCommutes.{unit_other, unit_set}}
+pub use Rattle.adc_groups.specs.laws.{hardware.HardwareCommutes.{unit_block, unit_other, unit_set}}
+pub use Rattle.adc_groups.specs.laws.{hardware.PendingWritesStable.{aborted_list}}
+pub use Rattle.adc_groups.specs.laws.{services.SingleWordCalls.{waiting_sound}}
 pub use Rattle.adc_groups.specs.laws.{hardware.StableUnderHardware.{Goes_on, listed_agree, now_here, Onward}}
 pub use Rattle.adc_groups.specs.laws.{hardware.StableUnderHardware.{onward_agrees, UnitGoes}}
 pub use Rattle.adc_groups.specs.laws.{services.BeginDecisions.{any_off}, services.BodySteps.{after_making, body_ends}}
@@ -99,6 +101,8 @@ pub use Rattle.adc_groups.specs.laws.{words.OrderBetweenWrites.{differs_none, lo
 pub use Rattle.adc_groups.specs.laws.{words.OrderBetweenWrites.{other_last, stands_last, unit_last, whole_first}}
 pub use Rattle.adc_groups.specs.laws.{words.OrderWords.{order_waiting}, words.StructureParts.{again_part, AllOf}}
 pub use Rattle.adc_groups.specs.laws.{words.StructureParts.{deeds_listed, deeds_low, deeds_other, deeds_unit, lows_set}}
-pub use Rattle.adc_groups.specs.laws.{words.StructureParts.{own_named, set_at, stands_list, units_set, word_there}}
+pub use Rattle.adc_groups.specs.laws.{words.StructureParts.{own_named, set_at, stands_list, stands_words}}
+pub use Rattle.adc_groups.specs.laws.{words.StructureParts.{units_set, word_there}}
 pub use Rattle.adc_groups.specs.laws.{words.WordsOfModule.{claim_words, few_inputs, get_dropped, low_words, on_there}}
 pub use Rattle.adc_groups.specs.laws.{words.WordsOfModule.{order_words, running_words, unit_is, within}}
+pub use Rattle.adc_groups.specs.laws.words.Cases.{cases, whether, whether_as}

@@ -16,7 +16,7 @@ use Rattle.icu_machine.specs.declared.table.IcuTable.{IcuTable}
 use Rattle.audit_captures.specs.Measures.{waiting, ended, seen_of, Nothing_seen, told_with}
 use Rattle.audit_captures.specs.Stands.{seen_as, value_as, seen_by, seen_after, told_after, capture_of, Follows, FollowsIf, SameMeasures, NoMeasures, LeavesMeasures, left_served, ChannelStands, ServedWithin}
 use Rattle.audit_captures.specs.declared.capture.Capture as kept
-use Rattle.audit_captures.specs.declared.measure.Seen.{Seen}
+use Rattle.audit_captures.specs.declared.measure.OpenMeasure.{OpenMeasure}
 use Rattle.audit_captures.specs.declared.measure.Value.{Value}
 use Rattle.audit_captures.proofs.MeasureLaws.{measures_more, newest_append, one_added, seen_more, told_more}
 
@@ -62,7 +62,7 @@ complete-step None k es e = refl
 complete-step (Some p) k es e = sym (ap (λ vs. nat_lt (length (values_by (Some p) k es)) (length vs)) (values_more p k es e) ∙ (one_added (values_by (Some p) k es) (added p k es e) ∙ ap (λ o. is_some o) (added_is p k es e)))
 
 -- what is kept follows the edge
-pub follow-more : (k : Channel) (count : ℕ) (now next : Seen) (value newer : Option Value) (es : List edges.Edge) (e : edges.Edge) → Follows k count now value es
+pub follow-more : (k : Channel) (count : ℕ) (now next : OpenMeasure) (value newer : Option Value) (es : List edges.Edge) (e : edges.Edge) → Follows k count now value es
     → seen_as next ≡ seen_after k.measured k e (seen_as now) → option_map value_as newer ≡ option_or (told_after k.measured k e (seen_as now)) (option_map value_as value)
     → Follows k (count + 1) next newer (es ++ e ∷ [])
 follow-more k count now next value newer es e h f g = record {

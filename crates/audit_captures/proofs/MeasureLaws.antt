@@ -9,7 +9,7 @@ use Rattle.mcal_base.specs.facts.Truths.{and_second}
 use Rattle.icu_machine.specs.Edges.{Edge, is_same, time_between, last_of, value_of, up_to, beginning_at, measures, newest}
 use Rattle.mcal_base.specs.declared.config.icu.IcuSignalMeasurementProperty.{IcuSignalMeasurementProperty as Property}
 use Rattle.mcal_base.specs.declared.config.icu.IcuSignalMeasurementProperty.TheVariants.{HighTime, LowTime, PeriodTime, DutyCycle}
-use Rattle.audit_captures.specs.Measures.{Begun, fresh, goes_on, ends, all_go_on, waiting, longer, whole, ended, seen_of, seen_behind, followed, seen_with, Nothing_seen, Start_seen, time_told, duty_told, told_by, told_with}
+use Rattle.audit_captures.specs.Measures.{Begun, fresh, goes_on, ends, all_go_on, waiting, longer, whole, ended, seen_of, seen_behind, followed, seen_with, Nothing_seen, Start_seen, time_told, duty_told, values_told, told_with}
 
 -- ---- the measures
 
@@ -218,7 +218,7 @@ duty_values e bs h = ap (λ cs. newest (filter_map (value_of DutyCycle) (map (λ
     by (Some b) = duty_one e b
 
 -- the newest value that an edge completes
-told_ends : (p : Property) (first last : Bool) (es : List Edge) (e : Edge) → (p ≡ DutyCycle → first ≡ last) → newest (filter_map (value_of p) (map (λ b. whole (longer e b)) (waiting first last es))) ≡ told_by p e.time (seen_of (newest (waiting first last es)))
+told_ends : (p : Property) (first last : Bool) (es : List Edge) (e : Edge) → (p ≡ DutyCycle → first ≡ last) → newest (filter_map (value_of p) (map (λ b. whole (longer e b)) (waiting first last es))) ≡ values_told p e.time (seen_of (newest (waiting first last es)))
 told_ends HighTime first last es e h = newest_times e (waiting first last es) _ (high_values e (waiting first last es))
 told_ends LowTime first last es e h = newest_times e (waiting first last es) _ (low_values e (waiting first last es))
 told_ends PeriodTime first last es e h = newest_times e (waiting first last es) _ (period_values e (waiting first last es))
@@ -229,7 +229,7 @@ told_if p true ms o h = h
 told_if p false ms o h = refl
 
 pub told_more : (p : Property) (first last : Bool) (es : List Edge) (e : Edge) → (p ≡ DutyCycle → first ≡ last) → newest (filter_map (value_of p) (ended last (waiting first last es) e)) ≡ told_with p last e (seen_of (newest (waiting first last es)))
-told_more p first last es e h = told_if p (ends last e) (map (λ b. whole (longer e b)) (waiting first last es)) (told_by p e.time (seen_of (newest (waiting first last es)))) (told_ends p first last es e h)
+told_more p first last es e h = told_if p (ends last e) (map (λ b. whole (longer e b)) (waiting first last es)) (values_told p e.time (seen_of (newest (waiting first last es)))) (told_ends p first last es e h)
 
 -- ---- the newest of all, and whether one was added
 

@@ -42,26 +42,26 @@ abbrev pub ended : (last : Bool) → List Begun → Edge → List (List Edge)
 ended last bs e = if ends last e then map (λ b. whole (longer e b)) bs else []
 
 -- what was seen of the newest one: nothing, its first edge, or that with one behind it
-pub data Seen : Type 0 where
-  Nothing_seen : Seen
-  Start_seen : (start : ℕ) → Seen
-  Next_seen : (start next : ℕ) → Seen
+pub data OpenMeasure : Type 0 where
+  Nothing_seen : OpenMeasure
+  Start_seen : (start : ℕ) → OpenMeasure
+  Next_seen : (start next : ℕ) → OpenMeasure
 
-abbrev pub seen_behind : (start : ℕ) → List Edge → Seen
+abbrev pub seen_behind : (start : ℕ) → List Edge → OpenMeasure
 seen_behind start [] = Start_seen start
 seen_behind start (e ∷ es) = Next_seen start e.time
 
-abbrev pub seen_of : Option Begun → Seen
+abbrev pub seen_of : Option Begun → OpenMeasure
 seen_of None = Nothing_seen
 seen_of (Some b) = seen_behind b.first.time b.behind
 
 -- what an edge makes of it
-abbrev pub followed : ℕ → Seen → Seen
+abbrev pub followed : ℕ → OpenMeasure → OpenMeasure
 followed time Nothing_seen = Nothing_seen
 followed time (Start_seen a) = Next_seen a time
 followed time (Next_seen a b) = Next_seen a b
 
-abbrev pub seen_with : (first last : Bool) → Edge → Seen → Seen
+abbrev pub seen_with : (first last : Bool) → Edge → OpenMeasure → OpenMeasure
 seen_with first last e s =
     if is_same e.rising first then Start_seen e.time
     else if goes_on last e then followed e.time s else Nothing_seen
@@ -70,20 +70,20 @@ seen_with first last e s =
 abbrev pub span : (start now : ℕ) → ℕ
 span a b = (b + 2 ^ 32 - a) % 2 ^ 32
 
-abbrev pub time_told : ℕ → Seen → Option (List ℕ)
+abbrev pub time_told : ℕ → OpenMeasure → Option (List ℕ)
 time_told now Nothing_seen = None
 time_told now (Start_seen a) = Some (span a now ∷ [])
 time_told now (Next_seen a b) = Some (span a now ∷ [])
 
-abbrev pub duty_told : ℕ → Seen → Option (List ℕ)
+abbrev pub duty_told : ℕ → OpenMeasure → Option (List ℕ)
 duty_told now (Next_seen a b) = Some (span a b ∷ span a now ∷ [])
 duty_told now _ = None
 
-abbrev pub told_by : Property → ℕ → Seen → Option (List ℕ)
-told_by HighTime now s = time_told now s
-told_by LowTime now s = time_told now s
-told_by PeriodTime now s = time_told now s
-told_by DutyCycle now s = duty_told now s
+abbrev pub values_told : Property → ℕ → OpenMeasure → Option (List ℕ)
+values_told HighTime now s = time_told now s
+values_told LowTime now s = time_told now s
+values_told PeriodTime now s = time_told now s
+values_told DutyCycle now s = duty_told now s
 
-abbrev pub told_with : Property → (last : Bool) → Edge → Seen → Option (List ℕ)
-told_with p last e s = if ends last e then told_by p e.time s else None
+abbrev pub told_with : Property → (last : Bool) → Edge → OpenMeasure → Option (List ℕ)
+told_with p last e s = if ends last e then values_told p e.time s else None

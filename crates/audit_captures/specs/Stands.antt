@@ -18,8 +18,8 @@ use Rattle.audit_captures.specs.Measures as seen
 use Rattle.audit_captures.specs.Measures.{waiting, seen_of, seen_with, told_with, Nothing_seen, Start_seen, Next_seen}
 use Rattle.audit_captures.specs.declared.capture.Capture as kept
 use Rattle.audit_captures.specs.declared.capture.Start.{Start}
-use Rattle.audit_captures.specs.declared.measure.Seen.{Seen}
-use Rattle.audit_captures.specs.declared.measure.Seen.TheVariants.{Nothing, Start as Begun, Next}
+use Rattle.audit_captures.specs.declared.measure.OpenMeasure.{OpenMeasure}
+use Rattle.audit_captures.specs.declared.measure.OpenMeasure.TheVariants.{Nothing, Start as Begun, Next}
 use Rattle.audit_captures.specs.declared.measure.Value.{Value}
 use Rattle.audit_captures.specs.declared.measure.Value.TheVariants.{Time, Duty}
 use Rattle.audit_captures.specs.declared.queue.Edge.{Edge}
@@ -48,7 +48,7 @@ split_of p = (edge_of p.0, edges_of p.1)
 
 -- ---- measures
 
-abbrev pub seen_as : Seen → seen.Seen
+abbrev pub seen_as : OpenMeasure → seen.OpenMeasure
 seen_as Nothing = Nothing_seen
 seen_as (Begun a) = Start_seen a
 seen_as (Next a b) = Next_seen a b
@@ -58,16 +58,16 @@ value_as (Time n) = n ∷ []
 value_as (Duty a n) = a ∷ n ∷ []
 
 -- what is seen of the newest measure that waits over served edges
-abbrev pub seen_by : Option IcuSignalMeasurementProperty → Channel → List edges.Edge → seen.Seen
+abbrev pub seen_by : Option IcuSignalMeasurementProperty → Channel → List edges.Edge → seen.OpenMeasure
 seen_by None k es = Nothing_seen
 seen_by (Some p) k es = seen_of (newest (waiting (begins_rising p k) (ends_rising p k) es))
 
 -- the same with one more edge, and the value that it completes
-abbrev pub seen_after : Option IcuSignalMeasurementProperty → Channel → edges.Edge → seen.Seen → seen.Seen
+abbrev pub seen_after : Option IcuSignalMeasurementProperty → Channel → edges.Edge → seen.OpenMeasure → seen.OpenMeasure
 seen_after None k e now = now
 seen_after (Some p) k e now = seen_with (begins_rising p k) (ends_rising p k) e now
 
-abbrev pub told_after : Option IcuSignalMeasurementProperty → Channel → edges.Edge → seen.Seen → Option (List ℕ)
+abbrev pub told_after : Option IcuSignalMeasurementProperty → Channel → edges.Edge → seen.OpenMeasure → Option (List ℕ)
 told_after None k e now = None
 told_after (Some p) k e now = told_with p (ends_rising p k) e now
 
@@ -93,7 +93,7 @@ capture_of y es stored = record {
 }
 
 -- what is kept of the served edges of a configured channel: how many they are, what is seen, and the newest value
-pub record Follows (k : Channel) (served : ℕ) (now : Seen) (last : Option Value) (es : List edges.Edge) : Type 0 where
+pub record Follows (k : Channel) (served : ℕ) (now : OpenMeasure) (last : Option Value) (es : List edges.Edge) : Type 0 where
   pub count : served ≡ length es
   pub seen : seen_as now ≡ seen_by k.measured k es
   pub value : option_map value_as last ≡ newest (values k es)

@@ -7,7 +7,7 @@ ghost use Rattle.icu_machine.specs.Table as table;
 ghost use Rattle.audit_captures.specs.Stands.{capture_of, edge_of, start_of, seen_as, value_as, seen_after, told_after, restarts, left_served, keeps_edge, more_served, more_stored, FollowsIf, SameMeasures, NoMeasures, LeavesMeasures};
 ghost use Rattle.icu_machine.specs.Table.{is_timestamp};
 
-use crate::measure::{Seen, Value, begins_rising, ends_rising};
+use crate::measure::{OpenMeasure, Value, begins_rising, ends_rising};
 use crate::queue::{Edge, Queue};
 use icu_machine::{Channel, ChannelCall};
 use mcal_base::{IcuMeasurementMode, IcuStartEdge, IcuTimestampMeasurementProperty, NoticeKind};
@@ -43,7 +43,7 @@ pub struct Capture {
     /// How many edges were stamped or measured since the start.
     pub served: u32,
     /// What was seen of the newest measure.
-    pub seen: Seen,
+    pub seen: OpenMeasure,
     /// The newest value since the start.
     pub value: Option<Value>,
     /// Whether a value was asked for since the newest one.
@@ -61,7 +61,7 @@ pub(crate) const BLANK: Capture = Capture {
     count: 0,
     start: None,
     served: 0,
-    seen: Seen::Nothing,
+    seen: OpenMeasure::Nothing,
     value: None,
     handed_out: false,
 };
@@ -188,7 +188,7 @@ impl Capture {
     {
         Capture {
             served: 0,
-            seen: Seen::Nothing,
+            seen: OpenMeasure::Nothing,
             value: None,
             handed_out: false,
             ..self
@@ -265,7 +265,7 @@ impl Capture {
     }
 
     /// What is seen of the newest measure with one more edge.
-    fn seen_after(self, channel: Channel, edge: Edge) -> Seen
+    fn seen_after(self, channel: Channel, edge: Edge) -> OpenMeasure
         ensures { seen_as result ≡ seen_after channel.measured channel (edge_of edge) (seen_as self.seen) }
     {
         match channel.measured {

@@ -13,6 +13,6 @@ mod subject;
 
 pub use capture::{Capture, Start};
 pub use captures::Captures;
-pub use measure::{Seen, Value};
+pub use measure::{OpenMeasure, Value};
 pub use part::CapturesState;
 pub use queue::{Edge, Queue};

@@ -10,7 +10,7 @@ use mcal_base::{IcuSignalMeasurementProperty, IcuStartEdge};
 
 /// What was seen of the newest measure that waits for its end. Times are in peripheral ticks, modulo 2^32.
 #[derive(Clone, Copy)]
-pub enum Seen {
+pub enum OpenMeasure {
     /// None waits.
     Nothing,
     /// Its first edge, at a time.
@@ -67,21 +67,21 @@ pub(crate) fn ends_rising(property: IcuSignalMeasurementProperty, channel: Chann
     }
 }
 
-impl Seen {
+impl OpenMeasure {
     /// What is seen with one more edge: a measure begins at one of the first direction, and one of the last ends it.
-    pub(crate) fn with(self, first: bool, last: bool, edge: Edge) -> Seen
+    pub(crate) fn with(self, first: bool, last: bool, edge: Edge) -> OpenMeasure
         ensures { seen_as result ≡ spec.seen_with first last (edge_of edge) (seen_as self) }
     {
         if edge.rising == first {
-            return Seen::Start(edge.time);
+            return OpenMeasure::Start(edge.time);
         }
         if edge.after_gap || edge.rising == last {
-            return Seen::Nothing;
+            return OpenMeasure::Nothing;
         }
         match self {
-            Seen::Nothing => Seen::Nothing,
-            Seen::Start(start) => Seen::Next(start, edge.time),
-            Seen::Next(..) => self,
+            OpenMeasure::Nothing => OpenMeasure::Nothing,
+            OpenMeasure::Start(start) => OpenMeasure::Next(start, edge.time),
+            OpenMeasure::Next(..) => self,
         }
     }
 
@@ -99,12 +99,14 @@ impl Seen {
         }
         let is_duty = matches!(property, IcuSignalMeasurementProperty::DutyCycle);
         match self {
-            Seen::Nothing => None,
-            Seen::Start(_) if is_duty => None,
-            Seen::Next(start, next) if is_duty => {
+            OpenMeasure::Nothing => None,
+            OpenMeasure::Start(_) if is_duty => None,
+            OpenMeasure::Next(start, next) if is_duty => {
                 Some(Value::Duty(span(start, next), span(start, edge.time)))
             }
-            Seen::Start(start) | Seen::Next(start, _) => Some(Value::Time(span(start, edge.time))),
+            OpenMeasure::Start(start) | OpenMeasure::Next(start, _) => Some(Value::Time(span(
+                start, edge.time,
+            ))),
         }
     }
 }

@@ -20,7 +20,7 @@ use Rattle.run_model.specs.Moment.{Setting}
 use Rattle.run_model.specs.World.{World, with_at}
 use Rattle.audit_frames.specs.AccessRules.{is_low_of, is_high_of, reads_low, reads_high, lows_with, lows_after, is_beside, is_beside_act, beside_after, committed_after, follows_low, is_high, are_together}
 use Rattle.audit_frames.specs.Decides.{Decides}
-use Rattle.audit_frames.specs.Masks.{covers}
+use Rattle.audit_frames.specs.Masks.{includes}
 use Rattle.audit_frames.specs.StandsFor.{halves_of, IsTask, kind_at, is_low_at}
 use Rattle.audit_frames.specs.Told.{is_of_kind}
 use Rattle.audit_frames.specs.declared.accesses.Accesses.{Accesses}
@@ -29,7 +29,7 @@ use Rattle.audit_frames.specs.declared.terms.Counter.TheVariants.{Timer, Capture
 use Rattle.audit_frames.specs.declared.terms.Task.{Task}
 use Rattle.audit_frames.specs.declared.terms.Task.TheVariants.{Call, Line}
 use Rattle.audit_frames.proofs.Deciding.{and_join, any_contains, both, equal, implies, itself, no, or_turned, valued, worded, yes}
-use Rattle.audit_frames.proofs.MaskLaws.{covers_says, covers_shows, with_bit_bits}
+use Rattle.audit_frames.proofs.MaskLaws.{includes_says, includes_shows, with_bit_bits}
 
 -- ---- the halves of a counter
 
@@ -219,10 +219,10 @@ kinds_each (kind ∷ kinds) writes h (suc i) lt = kinds_each kinds writes (and_s
 pub all_made : (kinds : List (Move → Bool)) (writes : List Move) (duties made : ℕ)
     → ((i : ℕ) → has_bit duties i ≡ nat_lt i (length kinds))
     → ((i : ℕ) → i < length kinds → has_bit made i ≡ list_any (kind_at kinds i) writes)
-    → Decides (covers duties made) (AllMade kinds writes)
+    → Decides (includes duties made) (AllMade kinds writes)
 all_made kinds writes duties made owed has = record {
-  says = λ e. kinds_all kinds writes (λ i lt. sym (has i lt) ∙ covers_says duties made e i (owed i ∙ lt_from i (length kinds) lt));
-  shows = λ h. covers_shows duties made (λ i on. let lt : i < length kinds = lt_is i (length kinds) (sym (owed i) ∙ on) in has i lt ∙ kinds_each kinds writes h i lt);
+  says = λ e. kinds_all kinds writes (λ i lt. sym (has i lt) ∙ includes_says duties made e i (owed i ∙ lt_from i (length kinds) lt));
+  shows = λ h. includes_shows duties made (λ i on. let lt : i < length kinds = lt_is i (length kinds) (sym (owed i) ∙ on) in has i lt ∙ kinds_each kinds writes h i lt);
 }
 
 written : (kind : Move → Bool) (writes : List Move) (move : Move) → (list_any kind writes || is_of_kind kind move) ≡ list_any kind (writes_after writes move)

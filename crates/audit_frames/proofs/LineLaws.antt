@@ -14,13 +14,13 @@ use Rattle.run_model.specs.Moment.{Setting}
 use Rattle.run_model.specs.World.{World}
 use Rattle.audit_frames.specs.Decides.{Decides}
 use Rattle.audit_frames.specs.LineRules.{polled_after, served_after, has_served_after, is_next}
-use Rattle.audit_frames.specs.Masks.{has_any, covers}
+use Rattle.audit_frames.specs.Masks.{has_any, includes}
 use Rattle.audit_frames.specs.StandsFor.{IsTask, has_none}
 use Rattle.audit_frames.specs.Told.{ArePolled}
 use Rattle.audit_frames.specs.declared.terms.Task.{Task}
 use Rattle.audit_frames.specs.declared.terms.Task.TheVariants.{Call, Line}
 use Rattle.audit_frames.proofs.Deciding.{and_join, no, clear, valued}
-use Rattle.audit_frames.proofs.MaskLaws.{all_says, all_shows, bit_small, covers_says, covers_shows, has_any_is, with_bit_bits, with_bits_bits}
+use Rattle.audit_frames.proofs.MaskLaws.{all_says, all_shows, bit_small, includes_says, includes_shows, has_any_is, with_bit_bits, with_bits_bits}
 
 -- ---- the next line that a call serves
 
@@ -153,12 +153,12 @@ pub calls_left : {State Call : Type 0} (mac : Machine State Call) (w : World) (s
     → ((l : ℕ) → has_bit asks l ≡ has_line polled l)
     → ((l : ℕ) → has_bit serves l ≡ has_line served l)
     → ((l : ℕ) → has_line polled l ≡ true → has_bit calm l ≡ not (mac.line_waits w s l))
-    → Decides (covers (bit_and asks serves) calm) (list_all (λ l. not (is_left_waiting mac w s served l)) polled ≡ true)
+    → Decides (includes (bit_and asks serves) calm) (list_all (λ l. not (is_left_waiting mac w s served l)) polled ≡ true)
 calls_left mac w s polled served asks serves calm p v q = record {
   says = λ e. all_shows (λ l. not (is_left_waiting mac w s served l)) polled (λ k on.
       left_says (has_line served k) (mac.line_waits w s k) (has_bit calm k) (q k on) (λ there.
-      covers_says (bit_and asks serves) calm e k (has_bit-and asks serves k ∙ and_join (has_bit asks k) (has_bit serves k) (p k ∙ on) (v k ∙ there))));
-  shows = λ h. covers_shows (bit_and asks serves) calm (λ k on.
+      includes_says (bit_and asks serves) calm e k (has_bit-and asks serves k ∙ and_join (has_bit asks k) (has_bit serves k) (p k ∙ on) (v k ∙ there))));
+  shows = λ h. includes_shows (bit_and asks serves) calm (λ k on.
       let both_on : has_bit asks k && has_bit serves k ≡ true = sym (has_bit-and asks serves k) ∙ on in
       let there : has_line polled k ≡ true = sym (p k) ∙ and_first (has_bit asks k) (has_bit serves k) both_on in
       left_shows (has_line served k) (mac.line_waits w s k) (has_bit calm k) (q k there) (all_says (λ l. not (is_left_waiting mac w s served l)) polled h k there) (sym (v k) ∙ and_second (has_bit asks k) (has_bit serves k) both_on));

@@ -10,7 +10,7 @@ use Rattle.mcal_base.specs.facts.Numbers.{eq_from, eq_is, eq_other, eq_self, lt_
 use Rattle.mcal_base.specs.facts.Truths.{and_first, and_second, off_on, on_off}
 use Rattle.run_model.specs.Legal.{has_line}
 use Rattle.audit_frames.specs.Decides.{Decides}
-use Rattle.audit_frames.specs.Masks.{with_bit, with_bits, has_any, covers}
+use Rattle.audit_frames.specs.Masks.{with_bit, with_bits, has_any, includes}
 use Rattle.audit_frames.proofs.Deciding.{and_join, or_left, or_right, or_turned}
 
 low_or_high : (n : ℕ) → (n < 64) ⊎ (64 ≤ n)
@@ -86,13 +86,13 @@ and_kept : (a b : Bool) → (a ≡ true → b ≡ true) → a && b ≡ a
 and_kept true b h = h refl
 and_kept false b h = refl
 
-pub covers_says : (need have : ℕ) → covers need have ≡ true → (k : ℕ) → has_bit need k ≡ true → has_bit have k ≡ true
-covers_says need have e k on =
+pub includes_says : (need have : ℕ) → includes need have ≡ true → (k : ℕ) → has_bit need k ≡ true → has_bit have k ≡ true
+includes_says need have e k on =
     let same : bit_and need have ≡ need = eq_is (bit_and need have) need e in
     and_second (has_bit need k) (has_bit have k) (sym (has_bit-and need have k) ∙ (ap (λ m. has_bit m k) same ∙ on))
 
-pub covers_shows : (need have : ℕ) → ((k : ℕ) → has_bit need k ≡ true → has_bit have k ≡ true) → covers need have ≡ true
-covers_shows need have h =
+pub includes_shows : (need have : ℕ) → ((k : ℕ) → has_bit need k ≡ true → has_bit have k ≡ true) → includes need have ≡ true
+includes_shows need have h =
     eq_from (bit_and need have) need (same_bits (bit_and need have) need (λ k. has_bit-and need have k ∙ and_kept (has_bit need k) (has_bit have k) (h k)))
 
 -- ---- lists of lines
@@ -111,8 +111,8 @@ all_shows p [] h = refl
 all_shows p (n ∷ ns) h = and_join (p n) (list_all p ns) (h n (or_left (n == n) (has_line ns n) (eq_self n))) (all_shows p ns (λ k on. h k (or_right (n == k) (has_line ns k) on)))
 
 -- a mask of lines is covered exactly where a test holds of each, which the other mask tells of these lines
-pub covering : (need have : ℕ) (p : ℕ → Bool) (ns : List ℕ) → ((k : ℕ) → has_bit need k ≡ has_line ns k) → ((k : ℕ) → has_line ns k ≡ true → has_bit have k ≡ p k) → Decides (covers need have) (list_all p ns ≡ true)
+pub covering : (need have : ℕ) (p : ℕ → Bool) (ns : List ℕ) → ((k : ℕ) → has_bit need k ≡ has_line ns k) → ((k : ℕ) → has_line ns k ≡ true → has_bit have k ≡ p k) → Decides (includes need have) (list_all p ns ≡ true)
 covering need have p ns lines tells = record {
-  says = λ e. all_shows p ns (λ k on. sym (tells k on) ∙ covers_says need have e k (lines k ∙ on));
-  shows = λ h. covers_shows need have (λ k on. let there : has_line ns k ≡ true = sym (lines k) ∙ on in tells k there ∙ all_says p ns h k there);
+  says = λ e. all_shows p ns (λ k on. sym (tells k on) ∙ includes_says need have e k (lines k ∙ on));
+  shows = λ h. includes_shows need have (λ k on. let there : has_line ns k ≡ true = sym (lines k) ∙ on in tells k there ∙ all_says p ns h k there);
 }

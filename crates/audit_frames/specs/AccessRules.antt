@@ -8,7 +8,7 @@ use Rattle.mcal_base.specs.declared.register.Reg.TheVariants.{TimerLow, TimerHig
 use Rattle.mcal_base.specs.declared.service.Service.{Service}
 use Rattle.run_model.specs.Frame.{is_write}
 use Rattle.run_model.specs.Legal as legal
-use Rattle.audit_frames.specs.Masks.{with_bit, covers}
+use Rattle.audit_frames.specs.Masks.{with_bit, includes}
 use Rattle.audit_frames.specs.declared.accesses.Accesses.{Accesses}
 use Rattle.audit_frames.specs.declared.terms.Around.{Around}
 use Rattle.audit_frames.specs.declared.terms.Counter.{Counter}
@@ -132,5 +132,5 @@ are_together a task inside acts (Report e) = true
 
 -- each kind of write was made that a call owes
 abbrev pub are_made : Accesses → Task → Bool
-are_made a (Call c) = covers c.duties a.made
+are_made a (Call c) = includes c.duties a.made
 are_made a (Line l) = true

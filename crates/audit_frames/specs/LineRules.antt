@@ -3,7 +3,7 @@ use Rattle.std.specs.Prelude.{ℕ, Bool, true, false, ◌&&◌, ◌||◌, not, �
 use Rattle.mcal_base.specs.Bits.{has_bit}
 use Rattle.mcal_base.specs.declared.moves.Event.{Event}
 use Rattle.mcal_base.specs.declared.moves.Event.TheVariants.{Act, Serve, Abort, Start}
-use Rattle.audit_frames.specs.Masks.{with_bit, with_bits, has_any, covers}
+use Rattle.audit_frames.specs.Masks.{with_bit, with_bits, has_any, includes}
 use Rattle.audit_frames.specs.declared.lines.Lines.{Lines}
 use Rattle.audit_frames.specs.declared.terms.Task.{Task}
 use Rattle.audit_frames.specs.declared.terms.Task.TheVariants.{Call, Line}
@@ -56,10 +56,10 @@ may_serve x (Line own) polls line owes = line == own && not x.has_served
 
 -- each line that a call polled, and a handler's own, was served, or wasn't ready at a step of the frame
 abbrev pub are_met : Lines → Task → Bool
-are_met x (Call c) = covers x.polled (bit_or x.served x.missed)
+are_met x (Call c) = includes x.polled (bit_or x.served x.missed)
 are_met x (Line own) = has_bit (bit_or x.served x.missed) own
 
 -- no unit of a line waits that a call polled and served, or that was a handler's own and was served
 abbrev pub are_left : Lines → Task → (calm : ℕ) → Bool
-are_left x (Call c) calm = covers (bit_and x.polled x.served) calm
+are_left x (Call c) calm = includes (bit_and x.polled x.served) calm
 are_left x (Line own) calm = not (has_bit x.served own) || has_bit calm own

@@ -17,5 +17,5 @@ abbrev pub has_any : (mask : ℕ) → List ℕ → Bool
 has_any mask ns = list_any (has_bit mask) ns
 
 -- each bit of the first mask is one of the second
-abbrev pub covers : (need have : ℕ) → Bool
-covers need have = bit_and need have == need
+abbrev pub includes : (need have : ℕ) → Bool
+includes need have = bit_and need have == need

@@ -1,6 +1,6 @@
 -- A legal step in two parts: what the frame's own doings decide, and what chip, machine and module do.
 use Rattle.std.specs.Prelude.{◌≡◌, ◌≤◌, true, false, ◌||◌, [], Option, Some, None, IsSome}
-use Rattle.chip_model.specs.Chip.{value_of, stall_of}
+use Rattle.run_model.specs.Chip.{value_of, stall_of}
 use Rattle.mcal_base.specs.Reach.{CanApply}
 use Rattle.mcal_base.specs.declared.moves.Event.{Event}
 use Rattle.mcal_base.specs.declared.moves.Event.TheVariants.{Act, Serve, Abort, Start}

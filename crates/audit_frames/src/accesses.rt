@@ -4,7 +4,7 @@ ghost use Rattle.mcal_base.specs.Reach.{CanApply};
 ghost use Rattle.mcal_base.specs.declared.moves.Move.TheVariants.{Read};
 ghost use Rattle.audit_frames.specs.AccessRules as spec;
 
-use crate::bits::{covers, has_bit, with_bit};
+use crate::bits::{has_bit, includes, with_bit};
 use crate::terms::{Around, Counter, Task};
 use mcal_base::{Move, Reg, Service};
 
@@ -277,7 +277,7 @@ impl Accesses {
         ensures { result ≡ spec.are_made self.now task }
     {
         match task {
-            Task::Call(caller) => covers(caller.duties, self.made),
+            Task::Call(caller) => includes(caller.duties, self.made),
             Task::Line(_) => true,
         }
     }

@@ -42,8 +42,8 @@ pub(crate) fn has_any(mask: u64, numbers: &[u32]) -> bool
 }
 
 /// Whether each bit of the first mask is one of the second.
-pub(crate) fn covers(need: u64, have: u64) -> bool
-    ensures { result ≡ spec.covers need have }
+pub(crate) fn includes(need: u64, have: u64) -> bool
+    ensures { result ≡ spec.includes need have }
 {
     need & have == need
 }

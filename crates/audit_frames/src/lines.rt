@@ -1,7 +1,7 @@
 ghost use Rattle.std.specs.Prelude.{◌≡◌};
 ghost use Rattle.audit_frames.specs.LineRules as spec;
 
-use crate::bits::{covers, has_any, has_bit, with_bit, with_bits};
+use crate::bits::{has_any, has_bit, includes, with_bit, with_bits};
 use crate::terms::{Around, Task};
 use mcal_base::Event;
 
@@ -106,7 +106,7 @@ impl Lines {
     {
         let met = self.served | self.missed;
         match task {
-            Task::Call(_) => covers(self.polled, met),
+            Task::Call(_) => includes(self.polled, met),
             Task::Line(own) => has_bit(met, own),
         }
     }
@@ -116,7 +116,7 @@ impl Lines {
         ensures { result ≡ spec.are_left self.now task around.now.calm }
     {
         match task {
-            Task::Call(_) => covers(self.polled & self.served, around.calm),
+            Task::Call(_) => includes(self.polled & self.served, around.calm),
             Task::Line(own) => !has_bit(self.served, own) || has_bit(around.calm, own),
         }
     }

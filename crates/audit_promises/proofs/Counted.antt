@@ -11,7 +11,7 @@ use Rattle.mcal_base.specs.declared.directive.Directive.{Directive}
 use Rattle.mcal_base.specs.declared.directive.Request.{Request}
 use Rattle.run_model.specs.Moment.{Setting}
 use Rattle.report_reading.specs.Audits.{Audits, AuditsReport, Ends, Unended, Unserved, Next, Refused}
-use Rattle.report_reading.specs.Blocks.{Place, begins_with, behind, own_lines}
+use Rattle.report_reading.specs.Blocks.{AuditState, begins_with, behind, own_lines}
 use Rattle.report_reading.specs.declared.verdict.Verdict.{Verdict}
 use Rattle.report_reading.specs.declared.verdict.Verdict.TheVariants.{Passed}
 use Rattle.report_reading.proofs.RowLaws.{feedless}
@@ -67,7 +67,7 @@ ended_lines : (line two n : ℕ) → two ≡ 1 + 1 → Passed line ≡ Passed n 
 ended_lines line two n e h = let same : line ≡ n = cc in omega (arith, e, same)
 
 module _ {State Call : Type 0} (g : Setting State Call) (call_of : Request → Call) (showing : Showing State) where
-  passed_lines : (script : List Directive) (p : Place State Call) (line : ℕ) (left : List (List ℕ)) (n : ℕ) {verdict : Verdict} → verdict ≡ Passed n → Audits g call_of showing p script line left verdict → line + length left ≡ n + 2
+  passed_lines : (script : List Directive) (p : AuditState State Call) (line : ℕ) (left : List (List ℕ)) (n : ℕ) {verdict : Verdict} → verdict ≡ Passed n → Audits g call_of showing p script line left verdict → line + length left ≡ n + 2
   passed_lines [] p line left n e (Ends served end) =
       let two : length left ≡ 1 + 1 = ap length end ∙ (length-slice_split (λ b. b == 10) (end_text p.tally) ∙ ap (λ (k : ℕ). k + 1) (end_lines p.tally)) in
       ended_lines line (length left) n two e

@@ -6,21 +6,20 @@ use Rattle.mcal_base.specs.facts.Numbers.{lt_since}
 use Rattle.bench_report.specs.Limit.{is_too_long}
 use Rattle.bench_report.specs.Numbers.{Each, EntryFits}
 use Rattle.bench_report.specs.Report.{report_lines}
-use Rattle.board_promises.proofs.Kept.{followed_keeps}
 use Rattle.mcal_base.specs.declared.config.whole.Config.{Config}
 use Rattle.mcal_base.specs.declared.directive.Directive.{Directive}
-use Rattle.mcal_system.specs.Setting.{system_setting, call_of}
+use Rattle.mcal_drivers.specs.Setting.{system_setting, call_of}
 use Rattle.run_model.specs.Entry.{Entry}
 use Rattle.script_runner.specs.Scripts.{LinesRise, chip_for}
 use Rattle.shown_rows.specs.Shows.{show_rows}
-use Rattle.report_modules.specs.Judged.{IsSystemReport, IsVerdict, journal_of}
-use Rattle.report_modules.proofs.VerdictLaws.{passed, passed_audited}
 use Rattle.report_reading.specs.Fits.{DirectiveFits}
 use Rattle.report_reading.specs.declared.verdict.Verdict.{Verdict}
 use Rattle.report_reading.specs.declared.verdict.Verdict.TheVariants.{Passed}
 use Rattle.report_reading.proofs.Verdicts.{runs_pass}
 use Rattle.bench_top.proofs.Auditing.{read_can, report_is}
 use Rattle.bench_top.proofs.Configurations.{record_is}
+use Rattle.bench_top.proofs.Kept.{followed_keeps}
+use Rattle.bench_top.proofs.VerdictLaws.{passed, passed_audited}
 use Rattle.bench_top.specs.Audited.{InputParts, parts_from}
 use Rattle.bench_top.specs.Calls.{Call, Stream, Writes}
 use Rattle.bench_top.specs.Contract.{KeepsContract}
@@ -30,7 +29,7 @@ use Rattle.bench_top.specs.Outcomes.{Ends, IsEnded}
 use Rattle.bench_top.specs.Runs.{IsWholeRun, report_of, shows_of}
 use Rattle.bench_top.specs.Statuses.{Done, HasScript, IsChecked, IsDecided, IsRunDone}
 use Rattle.bench_top.specs.Verdicts as verdicts
-use Rattle.bench_top.specs.Verdicts.{IsAuditDecided, IsRead}
+use Rattle.bench_top.specs.Verdicts.{IsAuditDecided, IsRead, IsSystemReport, IsVerdict, journal_of}
 use Rattle.bench_top.specs.declared.words.Form.{Form}
 use Rattle.bench_top.specs.declared.words.Form.TheVariants.{Audit, File}
 use Rattle.bench_top.specs.declared.words.Printing.TheVariants.{Traced}

@@ -1,16 +1,15 @@
 -- What a call of the bench has printed of a run, what an audit of it says, and what a report is that an audit passes.
 use Rattle.std.specs.Prelude.{◌≡◌, ℕ, ◌≤◌, List, length, Some}
-use Rattle.board_promises.specs.Promised.{KeepsPromises}
 use Rattle.config_facts.specs.Valid.{IsValid}
 use Rattle.mcal_base.specs.declared.config.whole.Config.{Config}
 use Rattle.mcal_base.specs.declared.directive.Directive.{Directive}
-use Rattle.report_modules.specs.Judged.{IsSystemReport}
 use Rattle.report_reading.specs.declared.verdict.Verdict.TheVariants.{Passed}
 use Rattle.run_model.specs.Entry.{Entry}
 use Rattle.bench_top.specs.Audited.{InputParts, verdict_text}
 use Rattle.bench_top.specs.Calls.{Call, Writes}
 use Rattle.bench_top.specs.Groups.{IsUndisturbed}
-use Rattle.bench_top.specs.Verdicts.{IsRead}
+use Rattle.bench_top.specs.Promised.{KeepsPromises}
+use Rattle.bench_top.specs.Verdicts.{IsRead, IsSystemReport}
 use Rattle.bench_top.specs.declared.words.Form.{Form}
 use Rattle.bench_top.specs.declared.words.Form.TheVariants.{Audit, File}
 use Rattle.bench_top.specs.declared.words.Printing.TheVariants.{Traced}

@@ -12,11 +12,11 @@ use Rattle.mcal_base.specs.declared.config.whole.Config.{Config}
 use Rattle.mcal_base.specs.declared.layout.Array.{Array}
 use Rattle.mcal_base.specs.declared.layout.Array.TheVariants.{Destination, Round, Source, Stamps}
 use Rattle.mcal_base.proofs.Places.{Placed, placed}
-use Rattle.mcal_drivers.specs.Setting.{seen_at}
-use Rattle.mcal_drivers.specs.Shows.{level_at, user_at as shown_at}
-use Rattle.mcal_drivers.proofs.Levels.{same_level}
-use Rattle.mcal_drivers.proofs.Limits.{within_limits}
-use Rattle.mcal_drivers.proofs.SoundConverters.{buffer_places}
+use Rattle.shown_rows.specs.Setting.{seen_at}
+use Rattle.shown_rows.specs.Shows.{level_at, user_at as shown_at}
+use Rattle.shown_rows.proofs.Levels.{same_level}
+use Rattle.shown_rows.proofs.Limits.{within_limits}
+use Rattle.shown_rows.proofs.SoundConverters.{buffer_places}
 use Rattle.port_machine.specs.Machine as pins
 use Rattle.run_model.specs.World.{World}
 use Rattle.spi_machine.specs.State.{SpiState}

@@ -82,7 +82,7 @@ impl Whole for AllModules {
 
     ghost stays = { λ m n same limits. subst (λ t. InLimits t.0) (sym same) limits };
 
-    ghost due_lines = { λ m w s l stands due. due_below (Self.table m).0 w s l due };
+    ghost due_bounded = { λ m w s l stands due. due_below (Self.table m).0 w s l due };
 
     ghost used_lines = { λ m l used. used_below (Self.table m).0 l used };
 

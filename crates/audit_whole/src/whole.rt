@@ -100,7 +100,7 @@ pub trait Whole: Subject + Drop {
     ghost stays: { (m n : Self) → Self.table n ≡ Self.table m → within m → within n };
 
     /// A line that is due, and one that a configured object uses, is one of the 32 of a chip.
-    ghost due_lines: { (m : Self) (w : World) (s : Self.State) (l : ℕ) → Self.stands m s → (Self.member (Self.table m)).machine.due w s l ≡ true → l < 32 };
+    ghost due_bounded: { (m : Self) (w : World) (s : Self.State) (l : ℕ) → Self.stands m s → (Self.member (Self.table m)).machine.due w s l ≡ true → l < 32 };
 
     ghost used_lines: { (m : Self) (l : ℕ) → (Self.member (Self.table m)).lines l ≡ true → l < 32 };
 

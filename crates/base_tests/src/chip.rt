@@ -1,13 +1,16 @@
 ghost use Rattle.std.specs.Prelude.{length, ◌≡◌, ◌^◌, ◌<◌};
 ghost use Rattle.chip_model.specs.Chip.{CanHappen};
 
-use crate::line::{Line, numbers, reason, step};
+use crate::line::{Line, number, numbers, reason, step};
 use crate::timed::capture_input;
 use chip_model::Bus;
 use mcal_base::{Config, Directive, IcuConfig, Order, PwmChannel, PwmConfig, Short, WORDS};
-use serial_devices::{PlainDevice, SerialDevice};
+use serial_devices::{ListDevice, PlainDevice, SerialDevice};
 use std::alloc::{AllocError, Global};
 use trace_reader::Step;
+
+/// The most exchanges that a device keeps.
+const EXCHANGES: usize = 1_000;
 
 /// What hangs on the serial units.
 type Rack = Vec<Box<dyn SerialDevice>>;
@@ -108,6 +111,17 @@ fn follows(bus: &mut Bus, word: &str, numbers: [u32; 4]) -> bool {
     true
 }
 
+/// A device that answers each word's complement, and refuses the exchanges of these numbers, from 1.
+fn refusing(alloc: Global, refused: &str) -> Result<ListDevice, AllocError> {
+    let mut numbers = Vec::new(alloc);
+    for word in refused.split_ascii_whitespace() {
+        if let Some(number) = number(word) {
+            numbers.push(u64::from(number))?;
+        }
+    }
+    ListDevice::new(alloc, false, EXCHANGES, numbers).map_err(|_| AllocError)
+}
+
 /// The number of the first line that the chip doesn't follow, from 1, and 0 where it follows all.
 pub fn first_wrong(
     alloc: Global,
@@ -125,6 +139,10 @@ pub fn first_wrong(
     for (place, line) in lines.iter().enumerate() {
         let holds = match line {
             Line::Step(step) => made(&mut bus, &mut rack, step),
+            Line::Word("device", refused) => {
+                rack.push(Box::new(alloc, refusing(alloc, refused)?)?)?;
+                true
+            }
             Line::Word("replay", text) => replays(alloc, &mut bus, text)?,
             Line::Word(word, behind) => follows(&mut bus, word, numbers(behind)),
         };

@@ -10,8 +10,9 @@
 //! - `others`: clock, pins, RAM words, and what is selected on serial units: `tick`, `rate`, `flip PIN`,
 //!   `pin PIN OUTSIDE PULSE LEVEL` (2 for no pulse output), `ram WORD VALUE`, `selected UNIT DEVICE`, `reset REASON`
 //! - `chip`: the whole chip: `level PIN LEVEL`, `trigger`, `pin PIN LEVEL`, `pending LINE FLAG`, `ram`, `word`,
-//!   `replay` before an access, `reset REASON`; `rack` is the same with two devices, of which the first inverts a word and
-//!   the second gives the one before
+//!   `replay` before an access, `reset REASON`, `device NUMBER ..` (one more, which inverts words and refuses the exchanges of
+//!   these numbers); `rack` is the same with two devices, of which the first inverts a word and the second gives the one
+//!   before
 //! - `orders`: orders and banks that drivers keep in words
 //! - `enables`: the interrupt controller
 //! - `errors`: a service, the conditions that hold, the last one first, and the first error

@@ -30,7 +30,13 @@ fn stretch(words: &[u32], span: Span) -> &[u32]
 fn is_step(item: &Kept) -> bool
     ensures { (lists : JournalLists) → result ≡ spec.is_stepped (entry_at lists.words.now (item_of lists.rests.now item.now)).said }
 {
-    matches!(item.what, KeptWhat::Stepped(..) | KeptWhat::SteppedWith(..))
+    matches!(
+        item.what,
+        KeptWhat::Stepped(..)
+            | KeptWhat::Acted(..)
+            | KeptWhat::Ended(..)
+            | KeptWhat::SteppedWith(..)
+    )
 }
 
 /// Whether the next item is a step of a directive at this line.
@@ -43,12 +49,15 @@ fn steps_next(line: u32, items: &[Kept]) -> bool
     }
 }
 
-/// Whether an item is a step that prints nothing where steps aren't traced. One that has a rest isn't looked at.
+/// Whether an item is a step that prints nothing where steps aren't traced. One that ends its frame or has a rest isn't
+/// looked at.
 fn is_silent(item: &Kept) -> bool
     ensures { (directive : Directive) (c : pages.ReportWriter) (next : Bool) (lists : JournalLists) → OnTrue result (pages.entry_put false directive c next (entry_at lists.words.now (item_of lists.rests.now item.now)) ≡ c) }
 {
     match item.what {
-        KeptWhat::Stepped(made, _) => !matches!(made, Move::Note(_) | Move::Report(_)),
+        KeptWhat::Stepped(made, _) | KeptWhat::Acted(made, _) => {
+            !matches!(made, Move::Note(_) | Move::Report(_))
+        }
         _ => false,
     }
 }

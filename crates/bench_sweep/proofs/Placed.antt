@@ -4,7 +4,7 @@ use Rattle.std.proofs.lemmas.List.Elements.{All-append, All-cons, All-nil, All-p
 use Rattle.std.specs.List.{All}
 use Rattle.mcal_base.specs.declared.directive.Directive.{Directive}
 use Rattle.mcal_base.specs.declared.directive.Order.{Order}
-use Rattle.bench_sweep.specs.declared.places.Place.{Place}
+use Rattle.bench_sweep.specs.declared.places.BlockPlace.{BlockPlace}
 use Rattle.bench_sweep.specs.Places.{IsBy, at, begins_frame, behind_steps, places, places_by, places_from, when_begun}
 use Rattle.bench_sweep.specs.declared.places.Spot.TheVariants.{Before, Begun, Step, Behind}
 
@@ -13,7 +13,7 @@ places_by_some directive order zero l = absurd (omega (arith, l))
 places_by_some directive order (suc made) l = refl
 
 -- the places of a directive that makes steps, behind others
-pub placed_all : (old begun all : List Place) (directive : ℕ) (order : Order) (steps made : ℕ) → 0 < steps → made ≡ steps → begun ≡ old ++ when_begun directive order → all ≡ begun ++ behind_steps directive made → all ≡ old ++ places_by directive order steps
+pub placed_all : (old begun all : List BlockPlace) (directive : ℕ) (order : Order) (steps made : ℕ) → 0 < steps → made ≡ steps → begun ≡ old ++ when_begun directive order → all ≡ begun ++ behind_steps directive made → all ≡ old ++ places_by directive order steps
 placed_all old begun all directive order steps made l e b a = rw (a, b, e, places_by_some directive order steps l) (append_assoc old (when_begun directive order) (behind_steps directive steps))
 
 pub behind_steps_by : (count directive : ℕ) → directive < count → (made : ℕ) → All (IsBy count) (behind_steps directive made)

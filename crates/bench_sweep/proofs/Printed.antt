@@ -8,7 +8,7 @@ use Rattle.std.proofs.lemmas.Option.{get_or_from_slice_get, same_Some}
 use Rattle.bench_sweep.specs.declared.outcomes.Told.{Told}
 use Rattle.bench_sweep.specs.Lines.{or_length}
 use Rattle.bench_sweep.specs.Outcomes.{told_in}
-use Rattle.bench_sweep.specs.Reports.{told_behind, told_by, told_more, with_told}
+use Rattle.bench_sweep.specs.Reports.{told_behind, told_at_line, told_more, with_told}
 
 -- how many lines stand before the first from a line on
 abbrev pub before_line : ℕ → List Told → ℕ
@@ -88,11 +88,11 @@ added_ok line text ts n x y (Ok u) e h m p = added_there line text ts n x y e h.
 added_ok line text ts n x y (Err f) e h m p = tt
 
 -- what a report tells that has one line more
-pub told_last : (lines : List ℕ) (told : List (ℕ × List ℕ)) (texts : List (List ℕ)) (text : List ℕ) → told_behind lines told (texts ++ text ∷ []) ≡ told_more (told_by lines text) (told_behind lines told texts)
+pub told_last : (lines : List ℕ) (told : List (ℕ × List ℕ)) (texts : List (List ℕ)) (text : List ℕ) → told_behind lines told (texts ++ text ∷ []) ≡ told_more (told_at_line lines text) (told_behind lines told texts)
 told_last lines told [] text = refl
-told_last lines told (t ∷ texts) text = told_last lines (told_more (told_by lines t) told) texts text
+told_last lines told (t ∷ texts) text = told_last lines (told_more (told_at_line lines t) told) texts text
 
-pub told_once_more : {A : Type 0} (lines : List ℕ) (text_of : A → List ℕ) (seen : List A) (x : A) (now next : List (ℕ × List ℕ)) → now ≡ told_behind lines [] (map text_of seen) → next ≡ told_more (told_by lines (text_of x)) now → next ≡ told_behind lines [] (map text_of (seen ++ x ∷ []))
+pub told_once_more : {A : Type 0} (lines : List ℕ) (text_of : A → List ℕ) (seen : List A) (x : A) (now next : List (ℕ × List ℕ)) → now ≡ told_behind lines [] (map text_of seen) → next ≡ told_more (told_at_line lines (text_of x)) now → next ≡ told_behind lines [] (map text_of (seen ++ x ∷ []))
 told_once_more lines text_of seen x now next e f = rw (f, e, map-append text_of seen (x ∷ [])) (sym (told_last lines [] (map text_of seen) (text_of x)))
 
 pub not_there : (r : Bool) (P : Type 0) → (P → r ≡ true) → r ≡ false → P → ⊥

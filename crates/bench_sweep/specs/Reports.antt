@@ -31,8 +31,8 @@ is_space b = b == 32
 
 -- The line of the file that a line of a report speaks of, and what it says: behind the number of the directive. The last line
 -- of a report is of no directive.
-abbrev pub told_by : List ℕ → List ℕ → Option (ℕ × List ℕ)
-told_by lines text =
+abbrev pub told_at_line : List ℕ → List ℕ → Option (ℕ × List ℕ)
+told_at_line lines text =
     if nat_lt (position_or_len is_space text) (length text)
     then beside (line_of lines (number_on 0 (before_first is_space text))) (after_first is_space text)
     else None
@@ -53,7 +53,7 @@ told_more (Some t) told = if bytes_eq t.1 (codes "ok") then told else with_told 
 -- what some lines of a report tell, behind what was told
 abbrev pub told_behind : List ℕ → List (ℕ × List ℕ) → List (List ℕ) → List (ℕ × List ℕ)
 told_behind lines told [] = told
-told_behind lines told (text ∷ texts) = told_behind lines (told_more (told_by lines text) told) texts
+told_behind lines told (text ∷ texts) = told_behind lines (told_more (told_at_line lines text) told) texts
 
 -- what a report tells: the lines of the file that printed something, each with what it printed
 abbrev pub telling_of : List ℕ → List ℕ → List (ℕ × List ℕ)

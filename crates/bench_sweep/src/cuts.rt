@@ -3,7 +3,7 @@ ghost use Rattle.bench_sweep.specs.Cuts as spec;
 ghost use Rattle.bench_sweep.specs.Placed.{block_on, block_up};
 
 use crate::copies::{copied, copy_behind};
-use crate::places::{Place, Spot};
+use crate::places::{BlockPlace, Spot};
 use mcal_base::{Directive, Order};
 use std::alloc::{AllocError, Global};
 
@@ -109,7 +109,7 @@ pub fn cut_block(
     alloc: Global,
     block: &[Directive],
     steps: &[u32],
-    place: Place,
+    place: BlockPlace,
 ) -> Result<Cut, AllocError>
     requires same { length steps.now ≡ length block.now }
     requires there { place.directive < length block.now }

@@ -27,5 +27,5 @@ pub use marking::{
 };
 pub use outcomes::{Outcome, Told, number_among, outcome_of};
 pub use parting::{Parts, parts_of};
-pub use places::{Place, Spot, begins_frame, places_in};
+pub use places::{BlockPlace, Spot, begins_frame, places_in};
 pub use spoken::{directive_text, spot_text};

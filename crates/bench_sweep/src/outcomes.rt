@@ -164,8 +164,8 @@ fn line_at(lines: &[u32], number: usize) -> Option<u32>
 
 /// The line of the file and the text, of a line of the report of a flat script that came from these lines. The last line
 /// of a report is of no directive.
-fn told_by<'a>(line: &'a str, lines: &[u32]) -> Option<(u32, &'a str)>
-    ensures { MatchOption result (reports.told_by lines.now line.now ≡ None) (λ t. reports.told_by lines.now line.now ≡ Some (t.0, t.1.now)) }
+fn told_at_line<'a>(line: &'a str, lines: &[u32]) -> Option<(u32, &'a str)>
+    ensures { MatchOption result (reports.told_at_line lines.now line.now ≡ None) (λ t. reports.told_at_line lines.now line.now ≡ Some (t.0, t.1.now)) }
 {
     let (number, text) = line.split_once(' ')?;
     let number = number_of(number.as_bytes())?;
@@ -176,9 +176,9 @@ fn told_by<'a>(line: &'a str, lines: &[u32]) -> Option<(u32, &'a str)>
 impl Outcome {
     /// Tells what a line of a report says, unless that is no more than that something was done.
     fn read(&mut self, alloc: Global, line: &str, lines: &[u32]) -> Result<(), AllocError>
-        ensures { OnOk result (spec.telling self.new ≡ reports.told_more (reports.told_by lines.now line.now) (spec.telling self.old)) }
+        ensures { OnOk result (spec.telling self.new ≡ reports.told_more (reports.told_at_line lines.now line.now) (spec.telling self.old)) }
     {
-        match told_by(line, lines) {
+        match told_at_line(line, lines) {
             Some((line, text)) if !is_silent(text) => self.tell(alloc, line, text),
             _ => Ok(()),
         }

@@ -20,7 +20,7 @@ pub enum Spot {
 
 /// A place in a block.
 #[derive(Clone, Copy)]
-pub struct Place {
+pub struct BlockPlace {
     /// Which directive of the block, from 0.
     pub directive: usize,
     /// Where by that directive.
@@ -35,11 +35,11 @@ pub fn begins_frame(order: &Order) -> bool
 }
 
 /// Keeps the place behind the beginning of a frame, where an order begins one.
-fn keep_begun(all: &mut Vec<Place>, directive: usize, order: &Order) -> Result<(), AllocError>
+fn keep_begun(all: &mut Vec<BlockPlace>, directive: usize, order: &Order) -> Result<(), AllocError>
     ensures { OnOk result (all.new.items ≡ all.old.items ++ spec.when_begun directive order.now) }
 {
     if begins_frame(order) {
-        all.push(Place {
+        all.push(BlockPlace {
             directive,
             spot: Spot::Begun,
         })?;
@@ -50,7 +50,7 @@ fn keep_begun(all: &mut Vec<Place>, directive: usize, order: &Order) -> Result<(
 /// Keeps the places of a directive that makes so many steps.
 #[tactic(auto, using(crate::proofs::Placed::places_by_some))]
 fn places_of(
-    all: &mut Vec<Place>,
+    all: &mut Vec<BlockPlace>,
     directive: usize,
     order: &Order,
     steps: u32,
@@ -58,7 +58,7 @@ fn places_of(
     ensures { OnOk result (all.new.items ≡ all.old.items ++ spec.places_by directive order.now steps) }
 {
     if steps == 0 {
-        all.push(Place {
+        all.push(BlockPlace {
             directive,
             spot: Spot::Behind,
         })?;
@@ -66,7 +66,7 @@ fn places_of(
     }
     keep_begun(all, directive, order)?;
     for made in 0..steps {
-        all.push(Place {
+        all.push(BlockPlace {
             directive,
             spot: Spot::Step(made + 1),
         })?;
@@ -81,13 +81,13 @@ pub fn places_in(
     alloc: Global,
     block: &[Directive],
     steps: &[u32],
-) -> Result<Vec<Place>, AllocError>
+) -> Result<Vec<BlockPlace>, AllocError>
     requires { length steps.now ≡ length block.now }
     ensures all { IfOk result (λ all. all.items ≡ spec.places block.now steps.now) }
     ensures by { 0 < length block.now → IfOk result (λ all. All (spec.IsBy (length block.now)) all.items) }
 {
     let mut all = Vec::new(alloc);
-    all.push(Place {
+    all.push(BlockPlace {
         directive: 0,
         spot: Spot::Before,
     })?;

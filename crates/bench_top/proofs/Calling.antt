@@ -13,7 +13,7 @@ use Rattle.run_model.specs.Moment.{start_moment}
 use Rattle.run_model.specs.Script.{deeds_of}
 use Rattle.run_model.proofs.CallsLaws.{calls-append}
 use Rattle.run_model.proofs.Following.{deeds_of-append}
-use Rattle.run_model.proofs.TellingLaws.{told_by}
+use Rattle.run_model.proofs.TellingLaws.{told_along}
 use Rattle.run_model.proofs.ToldLaws.{are_told}
 use Rattle.serial_devices.specs.Lines.{Line, extended}
 use Rattle.script_runner.specs.Scripts.{chip_for}
@@ -59,7 +59,7 @@ pub told_run : (run : SystemRun) (devices : ℕ) (c : Config) (script : List Dir
     IsLegal (system_setting c) (start_moment (system_setting c) (chip_for devices c script)) (deeds_of call_of script es) → AreCalled run old new → AreToldBy devices es old new
 told_run run devices c script es old new n p q r there legal h =
     let start = start_moment (system_setting c) (chip_for devices c script) in
-    told_by (system_setting c) call_of script start es old new 0 refl there legal
+    told_along (system_setting c) call_of script start es old new 0 refl there legal
     (are_told (system_setting c) start (deeds_of call_of script es) old new (same_calls devices run.devices c run.config script run.script es run.journal.entries old new n p q (sym r) h))
 
 -- contracts see as many of them as the rack has

@@ -14,3 +14,5 @@ pub mod Promised
 pub mod Returning
 pub mod Scripts
 pub mod Stopping
+pub use Rattle.board_promises.proofs.Kept
+pub use Rattle.report_modules.proofs.VerdictLaws

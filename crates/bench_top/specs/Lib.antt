@@ -10,3 +10,4 @@ pub mod Tail
 pub mod Words
 pub use Rattle.shown_rows.specs.Shows
 pub mod Verdicts
+pub use Rattle.board_promises.specs.Promised

@@ -25,8 +25,8 @@ use Rattle.whole_runs.proofs.Promises.{groups_keep, sequences_keep, part_allowed
 use Rattle.run_laws.proofs.EndResults.{all_ended_as}
 use Rattle.run_laws.proofs.RoundStories.{all_served_right}
 use Rattle.run_laws.proofs.SentCalls.{all_sent_so}
-use Rattle.mcal_system.proofs.SoundSerial.{sound_serial}
-use Rattle.mcal_system.specs.Setting.{system_setting, call_of}
+use Rattle.mcal_drivers.proofs.SoundSerial.{sound_serial}
+use Rattle.mcal_drivers.specs.Setting.{system_setting, call_of}
 use Rattle.board_promises.specs.Expiries.{ResetsInTime}
 use Rattle.board_promises.specs.Places.{converter_place, serial_place}
 use Rattle.board_promises.specs.Promised.{KeepsPromises, deeds_in, group_events, sequence_events}

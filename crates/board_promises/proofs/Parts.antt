@@ -27,14 +27,14 @@ use Rattle.wdg_machine.specs.Machine as watchdogs
 use Rattle.port_machine.specs.Machine as pins
 use Rattle.gpt_machine.specs.Machine as timers
 use Rattle.pwm_machine.specs.Machine as pulses
-use Rattle.whole_runs.specs.Members.{IsPart, IsMute, Place, first_place, own_through, second_place}
+use Rattle.whole_runs.specs.Members.{IsPart, IsMute, Embedding, first_place, own_through, second_place}
 use Rattle.whole_runs.proofs.MemberRuns.{first_part, second_part, part_within, union_mute}
 use Rattle.whole_runs.proofs.Promises.{mute_by, converter_mute, serial_mute}
-use Rattle.mcal_system.specs.Setting.{joined, clock_setting, watchdog_setting, pin_setting, timer_setting, pulse_setting, capture_setting, converter_setting, serial_setting, host_pins, host_setting, port_guest, system_setting, SystemState}
+use Rattle.mcal_drivers.specs.Setting.{joined, clock_setting, watchdog_setting, pin_setting, timer_setting, pulse_setting, capture_setting, converter_setting, serial_setting, host_pins, host_setting, port_guest, system_setting, SystemState}
 use Rattle.board_promises.specs.Places.{watched_modules, first_modules, edge_modules, unit_modules, last_modules, host_own, host_place, host_units_place, units_place, converter_place, serial_place}
 
 -- a part of a driver that its guest leaves alone is a part of both
-module _ {S C U E D G : Type 0} (small : Machine S C) (m : Machine U E) (g : Guest U D G) (p : Place S C U E) (is : IsPart small m p) (still : (w : World) (u : U) (c : D) → p.part (g.does w u c).state ≡ p.part u) where
+module _ {S C U E D G : Type 0} (small : Machine S C) (m : Machine U E) (g : Guest U D G) (p : Embedding S C U E) (is : IsPart small m p) (still : (w : World) (u : U) (c : D) → p.part (g.does w u c).state ≡ p.part u) where
   guest_leaves : (w : World) (u : U) (h : Happening (Either E D)) (out : Outcome U) → guest_happens m g w u h ≡ Some out → own_through p w u (host_own h) ≡ None → p.part out.state ≡ p.part u
   guest_leaves w u (Acts (Left c) times) out at none = is.leaves w u (Acts c times) out at none
   guest_leaves w u (Acts (Right c) times) out at none = ap (λ (o : Outcome U). p.part o.state) (sym (some_same at)) ∙ still w u c

@@ -21,9 +21,9 @@ use Rattle.dio_machine.specs.declared.table.PortPins.{PortPins}
 use Rattle.dio_machine.specs.declared.call.Call.{Call}
 use Rattle.dio_machine.specs.declared.call.Call.TheVariants.{ReadChannel, WriteChannel, FlipChannel, ReadPort, WritePort, ReadChannelGroup, WriteChannelGroup}
 use Rattle.pwm_machine.specs.Table as pulse_table
-use Rattle.mcal_system.specs.Setting.{SystemState, SystemCall, host_pins, system_setting}
-use Rattle.mcal_system.specs.Shows.{level_at}
-use Rattle.mcal_system.proofs.Levels.{same_level}
+use Rattle.mcal_drivers.specs.Setting.{SystemState, SystemCall, host_pins, system_setting}
+use Rattle.mcal_drivers.specs.Shows.{level_at}
+use Rattle.mcal_drivers.proofs.Levels.{same_level}
 use Rattle.board_promises.specs.PortReads.{AnswersBy, ActReads, StepReads, DeedReads, ReadAtOnce}
 
 module _ (c : Config) (v : IsValid c) where

@@ -22,8 +22,8 @@ use Rattle.adc_machine.specs.Turns.{AdcState}
 use Rattle.adc_machine.specs.declared.call.Call as converter
 use Rattle.spi_machine.specs.State.{SpiState}
 use Rattle.spi_machine.specs.declared.call.Call as serial
-use Rattle.whole_runs.specs.Members.{Place, first_place, own_through, second_place, within}
-use Rattle.mcal_system.specs.Setting.{SystemState, HostCall, SystemCall, joined, clock_setting, watchdog_setting, pin_setting, timer_setting, pulse_setting, capture_setting, converter_setting, serial_setting}
+use Rattle.whole_runs.specs.Members.{Embedding, first_place, own_through, second_place, within}
+use Rattle.mcal_drivers.specs.Setting.{SystemState, HostCall, SystemCall, joined, clock_setting, watchdog_setting, pin_setting, timer_setting, pulse_setting, capture_setting, converter_setting, serial_setting}
 
 -- clock and watchdog as one; those with pins and timers; pulses and captures; converter and serial units; and all but the first four
 abbrev pub watched_modules : Config → Setting (McuState × WdgState) (Either clocks.Call watchdogs.Call)
@@ -54,17 +54,17 @@ host_own (Moves order) = Some (Moves order)
 host_own (Restarts reason) = Some (Restarts reason)
 
 -- the place of a part of the driver in both
-abbrev pub host_place : {S C U E D : Type 0} → Place S C U E → Place S C U (Either E D)
+abbrev pub host_place : {S C U E D : Type 0} → Embedding S C U E → Embedding S C U (Either E D)
 host_place p = record { part = p.part; own = λ w u h. own_through p w u (host_own h) }
 
-abbrev pub host_units_place : (c : Config) → Place (AdcState × SpiState) (Either converter.Call serial.Call) SystemState HostCall
+abbrev pub host_units_place : (c : Config) → Embedding (AdcState × SpiState) (Either converter.Call serial.Call) SystemState HostCall
 host_units_place c = within (second_place (edge_modules c).used (edge_modules c).machine) (second_place (first_modules c).used (first_modules c).machine)
 
-abbrev pub units_place : (c : Config) → Place (AdcState × SpiState) (Either converter.Call serial.Call) SystemState SystemCall
+abbrev pub units_place : (c : Config) → Embedding (AdcState × SpiState) (Either converter.Call serial.Call) SystemState SystemCall
 units_place c = host_place (host_units_place c)
 
-abbrev pub converter_place : (c : Config) → Place AdcState converter.Call SystemState SystemCall
+abbrev pub converter_place : (c : Config) → Embedding AdcState converter.Call SystemState SystemCall
 converter_place c = within (first_place (converter_setting c).used (converter_setting c).machine) (units_place c)
 
-abbrev pub serial_place : (c : Config) → Place SpiState serial.Call SystemState SystemCall
+abbrev pub serial_place : (c : Config) → Embedding SpiState serial.Call SystemState SystemCall
 serial_place c = within (second_place (converter_setting c).used (converter_setting c).machine) (units_place c)

@@ -15,8 +15,8 @@ use Rattle.dio_machine.specs.Table.{table_of, pins_of}
 use Rattle.dio_machine.specs.declared.table.PortPins.{PortPins}
 use Rattle.dio_machine.specs.declared.call.Call.{Call}
 use Rattle.dio_machine.specs.declared.call.Call.TheVariants.{ReadChannel, FlipChannel, ReadPort, ReadChannelGroup}
-use Rattle.mcal_system.specs.Setting.{SystemState, SystemCall, system_setting}
-use Rattle.mcal_system.specs.Shows.{level_at}
+use Rattle.mcal_drivers.specs.Setting.{SystemState, SystemCall, system_setting}
+use Rattle.mcal_drivers.specs.Shows.{level_at}
 
 -- the value of some pins of a port, by the levels of all its pins
 abbrev pub value_by : PortPins → (level : ℕ → Bool) → ℕ

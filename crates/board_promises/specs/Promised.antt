@@ -20,7 +20,7 @@ use Rattle.whole_runs.specs.SequenceRuns as sequences
 use Rattle.run_laws.specs.Results.{AreEndedAs}
 use Rattle.run_laws.specs.Rounds.{AreServedRight}
 use Rattle.run_laws.specs.Sent.{AreSent}
-use Rattle.mcal_system.specs.Setting.{SystemCall, system_setting, call_of}
+use Rattle.mcal_drivers.specs.Setting.{SystemCall, system_setting, call_of}
 use Rattle.board_promises.specs.Expiries.{EndsInTime, ResetsInTime}
 use Rattle.board_promises.specs.Places.{converter_place, serial_place}
 use Rattle.board_promises.specs.PortReads.{ReadAtOnce}

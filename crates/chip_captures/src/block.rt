@@ -2,8 +2,7 @@ ghost use Rattle.std.specs.Prelude.{◌≡◌, ◌+◌, ◌<◌, ◌/◌, ◌%�
 ghost use Rattle.chip_captures.specs.Captures as spec;
 
 use crate::capture::{Act, Capture};
-use chip_timers::is_set;
-use mcal_base::{Config, IcuChannel, Reg};
+use mcal_base::{Config, IcuChannel, Reg, is_set};
 use std::marker::Model;
 
 /// How many channels there are.

@@ -2,8 +2,7 @@ ghost use Rattle.std.specs.Prelude.{◌≡◌, ◌+◌, ◌<◌, ◌^◌};
 ghost use Rattle.chip_pulses.specs.Pulses as spec;
 
 use crate::pulse::Pulse;
-use chip_timers::is_set;
-use mcal_base::{Config, Reg};
+use mcal_base::{Config, Reg, is_set};
 use std::marker::Model;
 
 /// How many channels there are.

@@ -1,9 +1,8 @@
 ghost use Rattle.std.specs.Prelude.{◌≡◌, ◌+◌, ◌<◌, ◌^◌};
 ghost use Rattle.chip_timers.specs.Timers.{timers_fresh, timer_at, is_running, is_flagged, counter, acted, running_of, flags_of, read_of, after_read, after_write, ticked};
 
-use crate::bits::is_set;
 use crate::timer::{Act, Timer};
-use mcal_base::{Config, Reg};
+use mcal_base::{Config, Reg, is_set};
 use std::marker::Model;
 
 /// How many channels there are.

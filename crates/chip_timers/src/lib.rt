@@ -2,11 +2,9 @@
 //! when it is read, so that a tick of any length is one addition.
 #![tactic(auto)]
 
-mod bits;
 mod block;
 pub mod laws;
 mod run;
 mod timer;
 
-pub use bits::is_set;
 pub use block::TimerBlock;

@@ -6,7 +6,7 @@ use Rattle.std.proofs.lemmas.Bool.{false≢true}
 use Rattle.std.proofs.lemmas.Option.{none-some}
 use Rattle.toml.specs.Data.{Data, Items, no_items, item, Members, no_members, as_array, as_table}
 use Rattle.config_keys.specs.Checks.{Checks, passes, fails, ◌⨾◌, first, or_else}
-use Rattle.config_keys.specs.Kinds.{◌>>=◌, Seen, absent, another_kind, out_of_range, good, required, found, items_from, items_of, length_checks, list_kind, list_checks, list_value}
+use Rattle.config_keys.specs.Kinds.{◌>>=◌, ReadValue, absent, another_kind, out_of_range, good, required, found, items_from, items_of, length_checks, list_kind, list_checks, list_value}
 use Rattle.config_keys.specs.Keys.{entry, of_element, of_key, needed, read, needed_list, allowed_list, read_list, read_list_or}
 use Rattle.config_rows.specs.Rows.{Shape, table_checks, id_of, elements_from, element_value, values_of, array_kind, found_checks, found_value, array_checks, array_value}
 use Rattle.config_rows.specs.Modules as parts
@@ -54,35 +54,35 @@ pub skip : {B : Type 0} (c rest : Checks) (o : Option B) → Recorded rest o →
 skip c rest o h = record { holds = λ p. h.holds (rest_passes c rest p) }
 
 -- a key that is required
-pub found_there : {A : Type 0} (at : Path) (s : Seen A) → Recorded (required at s) (found s)
+pub found_there : {A : Type 0} (at : Path) (s : ReadValue A) → Recorded (required at s) (found s)
 found_there at (good x) = there (required at (good x)) x
 found_there at absent = failed _ _
 found_there at another_kind = failed _ _
 found_there at out_of_range = failed _ _
 
-pub need : {A B : Type 0} (at : Path) (k : KeyName) (kind : Option Data → Seen A) (ms : Members) (rest : Checks) (f : A → Option B) → ((x : A) → read k kind ms ≡ Some x → Recorded rest (f x)) → Recorded (needed at k kind ms ⨾ rest) (read k kind ms >>= f)
+pub need : {A B : Type 0} (at : Path) (k : KeyName) (kind : Option Data → ReadValue A) (ms : Members) (rest : Checks) (f : A → Option B) → ((x : A) → read k kind ms ≡ Some x → Recorded rest (f x)) → Recorded (needed at k kind ms ⨾ rest) (read k kind ms >>= f)
 need at k kind ms rest f = then (needed at k kind ms) rest (read k kind ms) f (found_there (of_key at k) (kind (entry k ms)))
 
-pub need_last : {A B : Type 0} (at : Path) (k : KeyName) (kind : Option Data → Seen A) (ms : Members) (f : A → Option B) → ((x : A) → IsSome (f x)) → Recorded (needed at k kind ms) (read k kind ms >>= f)
+pub need_last : {A B : Type 0} (at : Path) (k : KeyName) (kind : Option Data → ReadValue A) (ms : Members) (f : A → Option B) → ((x : A) → IsSome (f x)) → Recorded (needed at k kind ms) (read k kind ms >>= f)
 need_last at k kind ms f = at_last (needed at k kind ms) (read k kind ms) f (found_there (of_key at k) (kind (entry k ms)))
 
 -- lists of items
-items_there : {A : Type 0} (kind : Option Data → Seen A) (at : Path) (i : ℕ) (ds : Items) → Recorded (items_from kind at i ds) (items_of kind ds)
+items_there : {A : Type 0} (kind : Option Data → ReadValue A) (at : Path) (i : ℕ) (ds : Items) → Recorded (items_from kind at i ds) (items_of kind ds)
 items_there kind at i no_items = there passes []
 items_there kind at i (item d ds) = then _ (items_from kind at (i + 1) ds) (found (kind (Some d))) _ (found_there _ (kind (Some d))) (λ x e. at_last (items_from kind at (i + 1) ds) (items_of kind ds) _ (items_there kind at (i + 1) ds) (λ xs. refl))
 
-array_there : {A : Type 0} (least most : ℕ) (kind : Option Data → Seen A) (at : Path) (o : Option Items) → Recorded (list_kind least most kind at o) (o >>= items_of kind)
+array_there : {A : Type 0} (least most : ℕ) (kind : Option Data → ReadValue A) (at : Path) (o : Option Items) → Recorded (list_kind least most kind at o) (o >>= items_of kind)
 array_there least most kind at None = failed _ _
 array_there least most kind at (Some ds) = skip (length_checks least most at ds) (items_from kind at 0 ds) _ (items_there kind at 0 ds)
 
-list_there : {A : Type 0} (least most : ℕ) (kind : Option Data → Seen A) (at : Path) (missing : Checks) (default : Option (List A)) (o : Option Data) → Recorded missing default → Recorded (list_checks least most kind at missing o) (list_value kind default o)
+list_there : {A : Type 0} (least most : ℕ) (kind : Option Data → ReadValue A) (at : Path) (missing : Checks) (default : Option (List A)) (o : Option Data) → Recorded missing default → Recorded (list_checks least most kind at missing o) (list_value kind default o)
 list_there least most kind at missing default None h = h
 list_there least most kind at missing default (Some d) h = array_there least most kind at (as_array d)
 
-pub need_list : {A B : Type 0} (least most : ℕ) (at : Path) (k : KeyName) (kind : Option Data → Seen A) (ms : Members) (rest : Checks) (f : List A → Option B) → ((xs : List A) → Recorded rest (f xs)) → Recorded (needed_list least most at k kind ms ⨾ rest) (read_list k kind ms >>= f)
+pub need_list : {A B : Type 0} (least most : ℕ) (at : Path) (k : KeyName) (kind : Option Data → ReadValue A) (ms : Members) (rest : Checks) (f : List A → Option B) → ((xs : List A) → Recorded rest (f xs)) → Recorded (needed_list least most at k kind ms ⨾ rest) (read_list k kind ms >>= f)
 need_list least most at k kind ms rest f h = then (needed_list least most at k kind ms) rest (read_list k kind ms) f (list_there least most kind (of_key at k) (fails (Missing (of_key at k))) None (entry k ms) (failed _ _)) (λ xs e. h xs)
 
-pub allow_list : {A B : Type 0} (least most : ℕ) (at : Path) (d : List A) (k : KeyName) (kind : Option Data → Seen A) (ms : Members) (rest : Checks) (f : List A → Option B) → ((xs : List A) → Recorded rest (f xs)) → Recorded (allowed_list least most at k kind ms ⨾ rest) (read_list_or d k kind ms >>= f)
+pub allow_list : {A B : Type 0} (least most : ℕ) (at : Path) (d : List A) (k : KeyName) (kind : Option Data → ReadValue A) (ms : Members) (rest : Checks) (f : List A → Option B) → ((xs : List A) → Recorded rest (f xs)) → Recorded (allowed_list least most at k kind ms ⨾ rest) (read_list_or d k kind ms >>= f)
 allow_list least most at d k kind ms rest f h = then (allowed_list least most at k kind ms) rest (read_list_or d k kind ms) f (list_there least most kind (of_key at k) passes (Some d) (entry k ms) (there passes d)) (λ xs e. h xs)
 
 -- arrays of tables, where their elements are read

@@ -1,2 +1,3 @@
+pub mod FirstFaults
 pub mod Levels
 pub mod Recorded

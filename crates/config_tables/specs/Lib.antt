@@ -1,3 +1,4 @@
+pub mod Faults
 pub mod Mcu
 pub mod Port
 pub mod Gpt

@@ -4,14 +4,17 @@ ghost use Rattle.config_keys.specs.Checks.{Gives};
 ghost use Rattle.config_facts.specs.Valid as valid;
 ghost use Rattle.config_tables.specs.Adc as spec;
 
+use crate::faults::FirstFault;
 use config_keys::{
     ConfigFault, KeyName, Path, name_or, needed_name, needed_numbers, needed_whole, text, truth_or,
     whole_if, whole_or,
 };
 use config_rows::{Element, elements};
+use mcal_base::AdcGroupReplacement::AbortRestart;
+use mcal_base::AdcStreamBufferMode::Linear;
 use mcal_base::{
-    AdcAccessMode, AdcConfig, AdcConversionMode, AdcGroup, AdcGroupReplacement, AdcHwUnit,
-    AdcPriorityImplementation, AdcStreamBufferMode, AdcTriggerSource, ModuleName,
+    AdcAccessMode, AdcConfig, AdcConversionMode, AdcGroup, AdcHwUnit, AdcPriorityImplementation,
+    AdcTriggerSource, ModuleName,
 };
 use toml::Table;
 
@@ -52,11 +55,11 @@ impl Element for Units {
         Some(value.id)
     }
 
-    #[tactic(auto, unfolding(crate::specs::Adc::unit_checks, crate::specs::Adc::unit_of))]
     fn read(table: &Table, at: Path) -> Result<AdcHwUnit, ConfigFault> {
-        let id = needed_whole(table, at, KeyName::AdcHwUnitId, 0, 1)?;
-        let level = whole_or(table, at, KeyName::Level, 1, 7, 1)?;
-        Ok(AdcHwUnit { id, level })
+        let mut faults = FirstFault::none();
+        let id = faults.keep(needed_whole(table, at, KeyName::AdcHwUnitId, 0, 1));
+        let level = faults.keep(whole_or(table, at, KeyName::Level, 1, 7, 1));
+        faults.finish(AdcHwUnit { id, level })
     }
 }
 
@@ -109,39 +112,27 @@ impl Element for Groups {
         Some(value.id)
     }
 
-    #[tactic(auto, unfolding(crate::specs::Adc::group_checks, crate::specs::Adc::group_of))]
     fn read(table: &Table, at: Path) -> Result<AdcGroup, ConfigFault> {
-        let id = needed_whole(table, at, KeyName::AdcGroupId, 0, 15)?;
-        let unit = needed_whole(table, at, KeyName::Unit, 0, 1)?;
-        let definition = needed_numbers(table, at, KeyName::AdcGroupDefinition, 1, 0, 31)?;
-        let access_mode = needed_name(table, at, KeyName::AdcGroupAccessMode)?;
-        let conversion_mode = needed_name(table, at, KeyName::AdcGroupConversionMode)?;
-        let priority = whole_or(table, at, KeyName::AdcGroupPriority, 0, 255, 0)?;
-        let replacement = name_or(
-            table,
-            at,
-            KeyName::AdcGroupReplacement,
-            AdcGroupReplacement::AbortRestart,
-        )?;
-        let trigger_source = needed_name(table, at, KeyName::AdcGroupTriggSrc)?;
-        let streaming_buffer_mode = name_or(
-            table,
-            at,
-            KeyName::AdcStreamingBufferMode,
-            AdcStreamBufferMode::Linear,
-        )?;
-        let streaming_num_samples = whole_or(table, at, KeyName::AdcStreamingNumSamples, 1, 64, 1)?;
-        let notification = text(table, at, KeyName::AdcNotification)?;
-        let trigger_input = whole_if(
-            is_hardware(trigger_source),
-            table,
-            at,
-            KeyName::TriggerInput,
-            0,
-            3,
-        )?;
-        let level = whole_or(table, at, KeyName::Level, 1, 7, 1)?;
-        Ok(AdcGroup {
+        let mut faults = FirstFault::none();
+        let id = faults.keep(needed_whole(table, at, KeyName::AdcGroupId, 0, 15));
+        let unit = faults.keep(needed_whole(table, at, KeyName::Unit, 0, 1));
+        let definition = needed_numbers(table, at, KeyName::AdcGroupDefinition, 1, 0, 31);
+        let definition = faults.keep(definition);
+        let access_mode = faults.keep(needed_name(table, at, KeyName::AdcGroupAccessMode));
+        let conversion_mode = faults.keep(needed_name(table, at, KeyName::AdcGroupConversionMode));
+        let priority = faults.keep(whole_or(table, at, KeyName::AdcGroupPriority, 0, 255, 0));
+        let replacement = name_or(table, at, KeyName::AdcGroupReplacement, AbortRestart);
+        let replacement = faults.keep(replacement);
+        let trigger_source = faults.keep(needed_name(table, at, KeyName::AdcGroupTriggSrc));
+        let streaming_buffer_mode = name_or(table, at, KeyName::AdcStreamingBufferMode, Linear);
+        let streaming_buffer_mode = faults.keep(streaming_buffer_mode);
+        let streaming_num_samples = whole_or(table, at, KeyName::AdcStreamingNumSamples, 1, 64, 1);
+        let streaming_num_samples = faults.keep(streaming_num_samples);
+        let notification = faults.keep(text(table, at, KeyName::AdcNotification));
+        let hardware = is_hardware(trigger_source);
+        let trigger_input = faults.keep(whole_if(hardware, table, at, KeyName::TriggerInput, 0, 3));
+        let level = faults.keep(whole_or(table, at, KeyName::Level, 1, 7, 1));
+        faults.finish(AdcGroup {
             id,
             unit,
             definition,
@@ -160,23 +151,23 @@ impl Element for Groups {
 }
 
 /// The keys and arrays of the module.
-#[tactic(auto, unfolding(crate::specs::Adc::key_checks, crate::specs::Adc::value_of))]
 pub fn keys(table: &Table) -> Result<AdcConfig, ConfigFault>
     ensures gives { Gives result (spec.key_checks (table_view table.now)) (spec.value_of (table_view table.now)) }
     ensures tables { IfOk result valid.HasAdcTables }
 {
-    let dev_error_detect = truth_or(table, HERE, KeyName::AdcDevErrorDetect, true)?;
-    let classification = whole_or(table, HERE, KeyName::Classification, 1, 2, 1)?;
-    let priority_implementation = name_or(
+    let mut faults = FirstFault::none();
+    let dev_error_detect = faults.keep(truth_or(table, HERE, KeyName::AdcDevErrorDetect, true));
+    let classification = faults.keep(whole_or(table, HERE, KeyName::Classification, 1, 2, 1));
+    let priority_implementation = faults.keep(name_or(
         table,
         HERE,
         KeyName::AdcPriorityImplementation,
         AdcPriorityImplementation::None,
-    )?;
-    let enable_queuing = truth_or(table, HERE, KeyName::AdcEnableQueuing, false)?;
-    let units = elements::<Units, 2>(table)?;
-    let groups = elements::<Groups, 16>(table)?;
-    Ok(AdcConfig {
+    ));
+    let enable_queuing = faults.keep(truth_or(table, HERE, KeyName::AdcEnableQueuing, false));
+    let units = faults.keep(elements::<Units, 2>(table));
+    let groups = faults.keep(elements::<Groups, 16>(table));
+    faults.finish(AdcConfig {
         dev_error_detect,
         classification,
         priority_implementation,

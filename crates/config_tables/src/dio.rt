@@ -4,6 +4,7 @@ ghost use Rattle.config_keys.specs.Checks.{Gives};
 ghost use Rattle.config_facts.specs.Valid as valid;
 ghost use Rattle.config_tables.specs.Dio as spec;
 
+use crate::faults::FirstFault;
 use config_keys::{ConfigFault, KeyName, Path, needed_whole, truth_or};
 use config_rows::{Element, Module, elements};
 use mcal_base::{DioChannelGroup, DioConfig, ModuleName};
@@ -46,13 +47,13 @@ impl Element for Groups {
         Some(value.id)
     }
 
-    #[tactic(auto, unfolding(crate::specs::Dio::group_checks, crate::specs::Dio::group_of))]
     fn read(table: &Table, at: Path) -> Result<DioChannelGroup, ConfigFault> {
-        let id = needed_whole(table, at, KeyName::DioChannelGroupId, 0, 7)?;
-        let port = needed_whole(table, at, KeyName::Port, 0, 7)?;
-        let offset = needed_whole(table, at, KeyName::DioPortOffset, 0, 7)?;
-        let mask = needed_whole(table, at, KeyName::DioPortMask, 1, 255)?;
-        Ok(DioChannelGroup {
+        let mut faults = FirstFault::none();
+        let id = faults.keep(needed_whole(table, at, KeyName::DioChannelGroupId, 0, 7));
+        let port = faults.keep(needed_whole(table, at, KeyName::Port, 0, 7));
+        let offset = faults.keep(needed_whole(table, at, KeyName::DioPortOffset, 0, 7));
+        let mask = faults.keep(needed_whole(table, at, KeyName::DioPortMask, 1, 255));
+        faults.finish(DioChannelGroup {
             id,
             port,
             offset,
@@ -62,14 +63,14 @@ impl Element for Groups {
 }
 
 /// The keys and arrays of the module.
-#[tactic(auto, unfolding(crate::specs::Dio::checks, crate::specs::Dio::value_of))]
 fn keys(table: &Table) -> Result<DioConfig, ConfigFault>
     ensures gives { Gives result (spec.checks (table_view table.now)) (spec.value_of (table_view table.now)) }
     ensures tables { IfOk result valid.HasDioTables }
 {
-    let dev_error_detect = truth_or(table, HERE, KeyName::DioDevErrorDetect, true)?;
-    let groups = elements::<Groups, 8>(table)?;
-    Ok(DioConfig {
+    let mut faults = FirstFault::none();
+    let dev_error_detect = faults.keep(truth_or(table, HERE, KeyName::DioDevErrorDetect, true));
+    let groups = faults.keep(elements::<Groups, 8>(table));
+    faults.finish(DioConfig {
         dev_error_detect,
         groups,
     })

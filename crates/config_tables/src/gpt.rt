@@ -4,6 +4,7 @@ ghost use Rattle.config_keys.specs.Checks.{Gives};
 ghost use Rattle.config_facts.specs.Valid as valid;
 ghost use Rattle.config_tables.specs.Gpt as spec;
 
+use crate::faults::FirstFault;
 use config_keys::{
     ConfigFault, KeyName, Path, needed_name, needed_whole, text, truth_or, whole_or,
 };
@@ -48,23 +49,23 @@ impl Element for Channels {
         Some(value.id)
     }
 
-    #[tactic(auto, unfolding(crate::specs::Gpt::channel_checks, crate::specs::Gpt::channel_of))]
     fn read(table: &Table, at: Path) -> Result<GptChannel, ConfigFault> {
-        let id = needed_whole(table, at, KeyName::GptChannelId, 0, 7)?;
-        let mode = needed_name(table, at, KeyName::GptChannelMode)?;
-        let tick_value_max = whole_or(
+        let mut faults = FirstFault::none();
+        let id = faults.keep(needed_whole(table, at, KeyName::GptChannelId, 0, 7));
+        let mode = faults.keep(needed_name(table, at, KeyName::GptChannelMode));
+        let tick_value_max = faults.keep(whole_or(
             table,
             at,
             KeyName::GptChannelTickValueMax,
             1,
             u32::MAX,
             u32::MAX,
-        )?;
-        let enable_wakeup = truth_or(table, at, KeyName::GptEnableWakeup, false)?;
-        let notification = text(table, at, KeyName::GptNotification)?;
-        let prescaler = whole_or(table, at, KeyName::Prescaler, 1, 65535, 1)?;
-        let level = whole_or(table, at, KeyName::Level, 1, 7, 1)?;
-        Ok(GptChannel {
+        ));
+        let enable_wakeup = faults.keep(truth_or(table, at, KeyName::GptEnableWakeup, false));
+        let notification = faults.keep(text(table, at, KeyName::GptNotification));
+        let prescaler = faults.keep(whole_or(table, at, KeyName::Prescaler, 1, 65535, 1));
+        let level = faults.keep(whole_or(table, at, KeyName::Level, 1, 7, 1));
+        faults.finish(GptChannel {
             id,
             mode,
             tick_value_max,
@@ -77,15 +78,15 @@ impl Element for Channels {
 }
 
 /// The keys and arrays of the module.
-#[tactic(auto, unfolding(crate::specs::Gpt::checks, crate::specs::Gpt::value_of))]
 fn keys(table: &Table) -> Result<GptConfig, ConfigFault>
     ensures gives { Gives result (spec.checks (table_view table.now)) (spec.value_of (table_view table.now)) }
     ensures tables { IfOk result valid.IsGpt }
 {
-    let dev_error_detect = truth_or(table, HERE, KeyName::GptDevErrorDetect, true)?;
-    let classification = whole_or(table, HERE, KeyName::Classification, 1, 2, 1)?;
-    let channels = elements::<Channels, 8>(table)?;
-    Ok(GptConfig {
+    let mut faults = FirstFault::none();
+    let dev_error_detect = faults.keep(truth_or(table, HERE, KeyName::GptDevErrorDetect, true));
+    let classification = faults.keep(whole_or(table, HERE, KeyName::Classification, 1, 2, 1));
+    let channels = faults.keep(elements::<Channels, 8>(table));
+    faults.finish(GptConfig {
         dev_error_detect,
         classification,
         channels,

@@ -4,6 +4,7 @@ ghost use Rattle.config_keys.specs.Checks.{Gives};
 ghost use Rattle.config_facts.specs.Valid as valid;
 ghost use Rattle.config_tables.specs.Icu as spec;
 
+use crate::faults::FirstFault;
 use config_keys::{
     ConfigFault, KeyName, Path, name_if, needed_name, needed_whole, text, truth_or, whole_or,
 };
@@ -62,28 +63,29 @@ impl Element for Channels {
         Some(value.id)
     }
 
-    #[tactic(auto, unfolding(crate::specs::Icu::channel_checks, crate::specs::Icu::channel_of))]
     fn read(table: &Table, at: Path) -> Result<IcuChannel, ConfigFault> {
-        let id = needed_whole(table, at, KeyName::IcuChannelId, 0, 7)?;
-        let default_start_edge = needed_name(table, at, KeyName::IcuDefaultStartEdge)?;
-        let measurement_mode = needed_name(table, at, KeyName::IcuMeasurementMode)?;
-        let signal_measurement_property = name_if(
+        let mut faults = FirstFault::none();
+        let id = faults.keep(needed_whole(table, at, KeyName::IcuChannelId, 0, 7));
+        let default_start_edge = faults.keep(needed_name(table, at, KeyName::IcuDefaultStartEdge));
+        let measurement_mode = faults.keep(needed_name(table, at, KeyName::IcuMeasurementMode));
+        let signal_measurement_property = faults.keep(name_if(
             measures(measurement_mode),
             table,
             at,
             KeyName::IcuSignalMeasurementProperty,
-        )?;
-        let timestamp_measurement_property = name_if(
+        ));
+        let timestamp_measurement_property = faults.keep(name_if(
             stamps(measurement_mode),
             table,
             at,
             KeyName::IcuTimestampMeasurementProperty,
-        )?;
-        let signal_notification = text(table, at, KeyName::IcuSignalNotification)?;
-        let timestamp_notification = text(table, at, KeyName::IcuTimestampNotification)?;
-        let pin = needed_whole(table, at, KeyName::Pin, 0, 63)?;
-        let level = whole_or(table, at, KeyName::Level, 1, 7, 1)?;
-        Ok(IcuChannel {
+        ));
+        let signal_notification = faults.keep(text(table, at, KeyName::IcuSignalNotification));
+        let timestamp_notification = text(table, at, KeyName::IcuTimestampNotification);
+        let timestamp_notification = faults.keep(timestamp_notification);
+        let pin = faults.keep(needed_whole(table, at, KeyName::Pin, 0, 63));
+        let level = faults.keep(whole_or(table, at, KeyName::Level, 1, 7, 1));
+        faults.finish(IcuChannel {
             id,
             default_start_edge,
             measurement_mode,
@@ -98,15 +100,15 @@ impl Element for Channels {
 }
 
 /// The keys and arrays of the module.
-#[tactic(auto, unfolding(crate::specs::Icu::checks, crate::specs::Icu::value_of))]
 fn keys(table: &Table) -> Result<IcuConfig, ConfigFault>
     ensures gives { Gives result (spec.checks (table_view table.now)) (spec.value_of (table_view table.now)) }
     ensures tables { IfOk result valid.IsIcu }
 {
-    let dev_error_detect = truth_or(table, HERE, KeyName::IcuDevErrorDetect, true)?;
-    let classification = whole_or(table, HERE, KeyName::Classification, 1, 2, 1)?;
-    let channels = elements::<Channels, 8>(table)?;
-    Ok(IcuConfig {
+    let mut faults = FirstFault::none();
+    let dev_error_detect = faults.keep(truth_or(table, HERE, KeyName::IcuDevErrorDetect, true));
+    let classification = faults.keep(whole_or(table, HERE, KeyName::Classification, 1, 2, 1));
+    let channels = faults.keep(elements::<Channels, 8>(table));
+    faults.finish(IcuConfig {
         dev_error_detect,
         classification,
         channels,

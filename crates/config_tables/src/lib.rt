@@ -4,6 +4,7 @@
 
 pub mod adc;
 pub mod dio;
+mod faults;
 mod gpt;
 mod icu;
 pub mod mcu;

@@ -4,6 +4,7 @@ ghost use Rattle.config_keys.specs.Checks.{Gives};
 ghost use Rattle.config_facts.specs.Valid as valid;
 ghost use Rattle.config_tables.specs.Mcu as spec;
 
+use crate::faults::FirstFault;
 use config_keys::{ConfigFault, KeyName, Path, needed_whole, truth_or};
 use config_rows::{Element, elements};
 use mcal_base::{McuClockSetting, McuConfig, McuModeSetting, McuRamSection, ModuleName};
@@ -46,11 +47,11 @@ impl Element for ClockSettings {
         Some(value.id)
     }
 
-    #[tactic(auto, unfolding(crate::specs::Mcu::clock_setting_checks, crate::specs::Mcu::clock_setting_of))]
     fn read(table: &Table, at: Path) -> Result<McuClockSetting, ConfigFault> {
-        let id = needed_whole(table, at, KeyName::McuClockSettingId, 0, 7)?;
-        let multiplier = needed_whole(table, at, KeyName::Multiplier, 1, 16)?;
-        Ok(McuClockSetting { id, multiplier })
+        let mut faults = FirstFault::none();
+        let id = faults.keep(needed_whole(table, at, KeyName::McuClockSettingId, 0, 7));
+        let multiplier = faults.keep(needed_whole(table, at, KeyName::Multiplier, 1, 16));
+        faults.finish(McuClockSetting { id, multiplier })
     }
 }
 
@@ -117,12 +118,24 @@ impl Element for RamSections {
         None
     }
 
-    #[tactic(auto, unfolding(crate::specs::Mcu::ram_section_checks, crate::specs::Mcu::ram_section_of))]
     fn read(table: &Table, at: Path) -> Result<McuRamSection, ConfigFault> {
-        let base_address = needed_whole(table, at, KeyName::McuRamSectionBaseAddress, 0, 511)?;
-        let size = needed_whole(table, at, KeyName::McuRamSectionSize, 1, 64)?;
-        let default_value = needed_whole(table, at, KeyName::McuRamDefaultValue, 0, 255)?;
-        Ok(McuRamSection {
+        let mut faults = FirstFault::none();
+        let base_address = faults.keep(needed_whole(
+            table,
+            at,
+            KeyName::McuRamSectionBaseAddress,
+            0,
+            511,
+        ));
+        let size = faults.keep(needed_whole(table, at, KeyName::McuRamSectionSize, 1, 64));
+        let default_value = faults.keep(needed_whole(
+            table,
+            at,
+            KeyName::McuRamDefaultValue,
+            0,
+            255,
+        ));
+        faults.finish(McuRamSection {
             base_address,
             size,
             default_value,
@@ -131,16 +144,16 @@ impl Element for RamSections {
 }
 
 /// The keys and arrays of the module.
-#[tactic(auto, unfolding(crate::specs::Mcu::key_checks, crate::specs::Mcu::value_of))]
 pub fn keys(table: &Table) -> Result<McuConfig, ConfigFault>
     ensures gives { Gives result (spec.key_checks (table_view table.now)) (spec.value_of (table_view table.now)) }
     ensures tables { IfOk result valid.HasMcuTables }
 {
-    let dev_error_detect = truth_or(table, HERE, KeyName::McuDevErrorDetect, true)?;
-    let clock_settings = elements::<ClockSettings, 8>(table)?;
-    let modes = elements::<Modes, 8>(table)?;
-    let ram_sections = elements::<RamSections, 8>(table)?;
-    Ok(McuConfig {
+    let mut faults = FirstFault::none();
+    let dev_error_detect = faults.keep(truth_or(table, HERE, KeyName::McuDevErrorDetect, true));
+    let clock_settings = faults.keep(elements::<ClockSettings, 8>(table));
+    let modes = faults.keep(elements::<Modes, 8>(table));
+    let ram_sections = faults.keep(elements::<RamSections, 8>(table));
+    faults.finish(McuConfig {
         dev_error_detect,
         clock_settings,
         modes,

@@ -5,6 +5,7 @@ ghost use Rattle.config_keys.specs.Checks.{Gives};
 ghost use Rattle.config_facts.specs.Valid as valid;
 ghost use Rattle.config_tables.specs.Port as spec;
 
+use crate::faults::FirstFault;
 use config_keys::{
     ConfigFault, KeyName, Path, PinLevel, name_or, names_or, needed_name, needed_whole, truth_or,
 };
@@ -68,16 +69,19 @@ impl Element for Pins {
         Some(value.id)
     }
 
-    #[tactic(auto, unfolding(crate::specs::Port::pin_checks, crate::specs::Port::pin_of))]
     fn read(table: &Table, at: Path) -> Result<PortPin, ConfigFault> {
-        let id = needed_whole(table, at, KeyName::PortPinId, 0, 63)?;
-        let direction = needed_name(table, at, KeyName::PortPinDirection)?;
-        let direction_changeable = truth_or(table, at, KeyName::PortPinDirectionChangeable, false)?;
-        let initial_mode = name_or(table, at, KeyName::PortPinInitialMode, PortPinMode::Dio)?;
-        let modes = names_or(table, at, KeyName::PortPinMode, 1, alone(initial_mode))?;
-        let mode_changeable = truth_or(table, at, KeyName::PortPinModeChangeable, false)?;
-        let level = name_or(table, at, KeyName::PortPinLevelValue, PinLevel::Low)?;
-        Ok(PortPin {
+        let mut faults = FirstFault::none();
+        let id = faults.keep(needed_whole(table, at, KeyName::PortPinId, 0, 63));
+        let direction = faults.keep(needed_name(table, at, KeyName::PortPinDirection));
+        let direction_changeable = truth_or(table, at, KeyName::PortPinDirectionChangeable, false);
+        let direction_changeable = faults.keep(direction_changeable);
+        let initial_mode = name_or(table, at, KeyName::PortPinInitialMode, PortPinMode::Dio);
+        let initial_mode = faults.keep(initial_mode);
+        let modes = faults.keep(names_or(table, at, KeyName::PortPinMode, 1, alone(initial_mode)));
+        let mode_changeable = truth_or(table, at, KeyName::PortPinModeChangeable, false);
+        let mode_changeable = faults.keep(mode_changeable);
+        let level = faults.keep(name_or(table, at, KeyName::PortPinLevelValue, PinLevel::Low));
+        faults.finish(PortPin {
             id,
             direction,
             direction_changeable,
@@ -115,14 +119,14 @@ impl Rule<PortPin> for InitialNotAllowed {
 }
 
 /// The keys and arrays of the module.
-#[tactic(auto, unfolding(crate::specs::Port::key_checks, crate::specs::Port::value_of))]
 fn keys(table: &Table) -> Result<PortConfig, ConfigFault>
     ensures gives { Gives result (spec.key_checks (table_view table.now)) (spec.value_of (table_view table.now)) }
     ensures tables { IfOk result valid.HasPortTables }
 {
-    let dev_error_detect = truth_or(table, HERE, KeyName::PortDevErrorDetect, true)?;
-    let pins = elements::<Pins, 64>(table)?;
-    Ok(PortConfig {
+    let mut faults = FirstFault::none();
+    let dev_error_detect = faults.keep(truth_or(table, HERE, KeyName::PortDevErrorDetect, true));
+    let pins = faults.keep(elements::<Pins, 64>(table));
+    faults.finish(PortConfig {
         dev_error_detect,
         pins,
     })

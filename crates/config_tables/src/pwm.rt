@@ -4,6 +4,7 @@ ghost use Rattle.config_keys.specs.Checks.{Gives};
 ghost use Rattle.config_facts.specs.Valid as valid;
 ghost use Rattle.config_tables.specs.Pwm as spec;
 
+use crate::faults::FirstFault;
 use config_facts::are_same;
 use config_keys::{
     ConfigFault, KeyName, Path, needed_name, needed_whole, text, truth_or, whole, whole_or,
@@ -49,18 +50,24 @@ impl Element for Channels {
         Some(value.id)
     }
 
-    #[tactic(auto, unfolding(crate::specs::Pwm::channel_checks, crate::specs::Pwm::channel_of))]
     fn read(table: &Table, at: Path) -> Result<PwmChannel, ConfigFault> {
-        let id = needed_whole(table, at, KeyName::PwmChannelId, 0, 7)?;
-        let class = needed_name(table, at, KeyName::PwmChannelClass)?;
-        let duty_cycle_default = needed_whole(table, at, KeyName::PwmDutycycleDefault, 0, 32768)?;
-        let idle_state = needed_name(table, at, KeyName::PwmIdleState)?;
-        let polarity = needed_name(table, at, KeyName::PwmPolarity)?;
-        let notification = text(table, at, KeyName::PwmNotification)?;
-        let period_ticks = needed_whole(table, at, KeyName::PeriodTicks, 0, 65535)?;
-        let pin = whole(table, at, KeyName::Pin, 0, 63)?;
-        let level = whole_or(table, at, KeyName::Level, 1, 7, 1)?;
-        Ok(PwmChannel {
+        let mut faults = FirstFault::none();
+        let id = faults.keep(needed_whole(table, at, KeyName::PwmChannelId, 0, 7));
+        let class = faults.keep(needed_name(table, at, KeyName::PwmChannelClass));
+        let duty_cycle_default = faults.keep(needed_whole(
+            table,
+            at,
+            KeyName::PwmDutycycleDefault,
+            0,
+            32768,
+        ));
+        let idle_state = faults.keep(needed_name(table, at, KeyName::PwmIdleState));
+        let polarity = faults.keep(needed_name(table, at, KeyName::PwmPolarity));
+        let notification = faults.keep(text(table, at, KeyName::PwmNotification));
+        let period_ticks = faults.keep(needed_whole(table, at, KeyName::PeriodTicks, 0, 65535));
+        let pin = faults.keep(whole(table, at, KeyName::Pin, 0, 63));
+        let level = faults.keep(whole_or(table, at, KeyName::Level, 1, 7, 1));
+        faults.finish(PwmChannel {
             id,
             class,
             duty_cycle_default,
@@ -86,14 +93,14 @@ impl Rule<PwmChannel> for SharesPin {
 }
 
 /// The keys and arrays of the module.
-#[tactic(auto, unfolding(crate::specs::Pwm::key_checks, crate::specs::Pwm::value_of))]
 fn keys(table: &Table) -> Result<PwmConfig, ConfigFault>
     ensures gives { Gives result (spec.key_checks (table_view table.now)) (spec.value_of (table_view table.now)) }
     ensures tables { IfOk result valid.HasPwmTables }
 {
-    let dev_error_detect = truth_or(table, HERE, KeyName::PwmDevErrorDetect, true)?;
-    let channels = elements::<Channels, 8>(table)?;
-    Ok(PwmConfig {
+    let mut faults = FirstFault::none();
+    let dev_error_detect = faults.keep(truth_or(table, HERE, KeyName::PwmDevErrorDetect, true));
+    let channels = faults.keep(elements::<Channels, 8>(table));
+    faults.finish(PwmConfig {
         dev_error_detect,
         channels,
     })

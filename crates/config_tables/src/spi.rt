@@ -5,6 +5,7 @@ ghost use Rattle.config_facts.specs.Ids.{IsList};
 ghost use Rattle.config_facts.specs.Valid as valid;
 ghost use Rattle.config_tables.specs.Spi as spec;
 
+use crate::faults::FirstFault;
 use crate::spi_rules::{references, rules};
 use crate::spi_tables::{Channels, HERE, Jobs, Sequences};
 use config_keys::{ConfigFault, KeyName, numbers_or, truth_or, whole_or};
@@ -24,19 +25,27 @@ pub fn both_at_one() -> Short<u32, 2>
 }
 
 /// The keys and arrays of the module.
-#[tactic(auto, unfolding(crate::specs::Spi::key_checks, crate::specs::Spi::value_of))]
 fn keys(table: &Table) -> Result<SpiConfig, ConfigFault>
     ensures gives { Gives result (spec.key_checks (table_view table.now)) (spec.value_of (table_view table.now)) }
     ensures tables { IfOk result valid.HasSpiTables }
 {
-    let dev_error_detect = truth_or(table, HERE, KeyName::SpiDevErrorDetect, true)?;
-    let classification = whole_or(table, HERE, KeyName::Classification, 1, 2, 1)?;
-    let levels = numbers_or(table, HERE, KeyName::Levels, 2, 1, 7, both_at_one())?;
-    let sync_units = numbers_or(table, HERE, KeyName::SyncUnits, 0, 0, 1, Short::new())?;
-    let channels = elements::<Channels, 16>(table)?;
-    let jobs = elements::<Jobs, 16>(table)?;
-    let sequences = elements::<Sequences, 8>(table)?;
-    Ok(SpiConfig {
+    let mut faults = FirstFault::none();
+    let dev_error_detect = faults.keep(truth_or(table, HERE, KeyName::SpiDevErrorDetect, true));
+    let classification = faults.keep(whole_or(table, HERE, KeyName::Classification, 1, 2, 1));
+    let levels = faults.keep(numbers_or(table, HERE, KeyName::Levels, 2, 1, 7, both_at_one()));
+    let sync_units = faults.keep(numbers_or(
+        table,
+        HERE,
+        KeyName::SyncUnits,
+        0,
+        0,
+        1,
+        Short::new(),
+    ));
+    let channels = faults.keep(elements::<Channels, 16>(table));
+    let jobs = faults.keep(elements::<Jobs, 16>(table));
+    let sequences = faults.keep(elements::<Sequences, 8>(table));
+    faults.finish(SpiConfig {
         dev_error_detect,
         classification,
         levels,

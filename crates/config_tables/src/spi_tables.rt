@@ -5,6 +5,7 @@ ghost use Rattle.config_facts.specs.Valid as valid;
 ghost use Rattle.config_tables.specs.Spi as spec;
 ghost use Rattle.config_tables.specs.SpiRules as rules_spec;
 
+use crate::faults::FirstFault;
 use config_keys::{
     ConfigFault, KeyName, Path, SpiBuffer, needed_name, needed_numbers, needed_truth, needed_whole,
     text, whole, whole_or,
@@ -111,15 +112,22 @@ impl Element for Jobs {
         Some(value.id)
     }
 
-    #[tactic(auto, unfolding(crate::specs::Spi::job_checks, crate::specs::Spi::job_of))]
     fn read(table: &Table, at: Path) -> Result<SpiJob, ConfigFault> {
-        let id = needed_whole(table, at, KeyName::SpiJobId, 0, 15)?;
-        let priority = needed_whole(table, at, KeyName::SpiJobPriority, 0, 3)?;
-        let end_notification = text(table, at, KeyName::SpiJobEndNotification)?;
-        let channel_list = needed_numbers(table, at, KeyName::SpiChannelList, 1, 0, 15)?;
-        let unit = needed_whole(table, at, KeyName::Unit, 0, 1)?;
-        let select = whole(table, at, KeyName::Select, 0, 7)?;
-        Ok(SpiJob {
+        let mut faults = FirstFault::none();
+        let id = faults.keep(needed_whole(table, at, KeyName::SpiJobId, 0, 15));
+        let priority = faults.keep(needed_whole(table, at, KeyName::SpiJobPriority, 0, 3));
+        let end_notification = faults.keep(text(table, at, KeyName::SpiJobEndNotification));
+        let channel_list = faults.keep(needed_numbers(
+            table,
+            at,
+            KeyName::SpiChannelList,
+            1,
+            0,
+            15,
+        ));
+        let unit = faults.keep(needed_whole(table, at, KeyName::Unit, 0, 1));
+        let select = faults.keep(whole(table, at, KeyName::Select, 0, 7));
+        faults.finish(SpiJob {
             id,
             priority,
             end_notification,
@@ -158,13 +166,20 @@ impl Element for Sequences {
         Some(value.id)
     }
 
-    #[tactic(auto, unfolding(crate::specs::Spi::sequence_checks, crate::specs::Spi::sequence_of))]
     fn read(table: &Table, at: Path) -> Result<SpiSequence, ConfigFault> {
-        let id = needed_whole(table, at, KeyName::SpiSequenceId, 0, 7)?;
-        let interruptible = needed_truth(table, at, KeyName::SpiInterruptibleSequence)?;
-        let job_assignment = needed_numbers(table, at, KeyName::SpiJobAssignment, 1, 0, 15)?;
-        let end_notification = text(table, at, KeyName::SpiSeqEndNotification)?;
-        Ok(SpiSequence {
+        let mut faults = FirstFault::none();
+        let id = faults.keep(needed_whole(table, at, KeyName::SpiSequenceId, 0, 7));
+        let interruptible = faults.keep(needed_truth(table, at, KeyName::SpiInterruptibleSequence));
+        let job_assignment = faults.keep(needed_numbers(
+            table,
+            at,
+            KeyName::SpiJobAssignment,
+            1,
+            0,
+            15,
+        ));
+        let end_notification = faults.keep(text(table, at, KeyName::SpiSeqEndNotification));
+        faults.finish(SpiSequence {
             id,
             interruptible,
             job_assignment,

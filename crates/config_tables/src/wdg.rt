@@ -4,6 +4,7 @@ ghost use Rattle.config_keys.specs.Checks.{Gives};
 ghost use Rattle.config_facts.specs.Valid as valid;
 ghost use Rattle.config_tables.specs.Wdg as spec;
 
+use crate::faults::FirstFault;
 use config_keys::{ConfigFault, KeyName, Path, name_or, truth_or, whole_or};
 use config_rows::Module;
 use mcal_base::{ModuleName, WdgConfig, WdgMode};
@@ -19,17 +20,17 @@ const HERE: Path = Path {
 };
 
 /// The keys of the module.
-#[tactic(auto, unfolding(crate::specs::Wdg::key_checks, crate::specs::Wdg::value_of))]
 fn keys(table: &Table) -> Result<WdgConfig, ConfigFault>
     ensures gives { Gives result (spec.key_checks (table_view table.now)) (spec.value_of (table_view table.now)) }
     ensures tables { IfOk result valid.HasWdgTables }
 {
-    let dev_error_detect = truth_or(table, HERE, KeyName::WdgDevErrorDetect, true)?;
-    let default_mode = name_or(table, HERE, KeyName::WdgDefaultMode, WdgMode::Off)?;
-    let disable_allowed = truth_or(table, HERE, KeyName::WdgDisableAllowed, true)?;
-    let initial_ticks = whole_or(table, HERE, KeyName::InitialTicks, 1, 65535, 1000)?;
-    let max_ticks = whole_or(table, HERE, KeyName::MaxTicks, 1, 65535, 65535)?;
-    Ok(WdgConfig {
+    let mut faults = FirstFault::none();
+    let dev_error_detect = faults.keep(truth_or(table, HERE, KeyName::WdgDevErrorDetect, true));
+    let default_mode = faults.keep(name_or(table, HERE, KeyName::WdgDefaultMode, WdgMode::Off));
+    let disable_allowed = faults.keep(truth_or(table, HERE, KeyName::WdgDisableAllowed, true));
+    let initial_ticks = faults.keep(whole_or(table, HERE, KeyName::InitialTicks, 1, 65535, 1000));
+    let max_ticks = faults.keep(whole_or(table, HERE, KeyName::MaxTicks, 1, 65535, 65535));
+    faults.finish(WdgConfig {
         dev_error_detect,
         default_mode,
         disable_allowed,

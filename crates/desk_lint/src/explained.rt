@@ -4,7 +4,7 @@ use crate::split::{Word, before_comment, plain_len, words_of};
 use bench_script::ScriptFault;
 use desk_findings::{allowed, nearest};
 use desk_places::{Lines, Span};
-use desk_tables::{DirectiveRow, Place, ServiceRow, directives, services};
+use desk_tables::{DirectiveRow, Operand, ServiceRow, directives, services};
 use std::alloc::{AllocError, Global};
 
 /// The most numbers that stand in a row.
@@ -90,7 +90,9 @@ fn directive(found: &mut Found, words: &[Word<'_>]) -> Result<(), AllocError> {
     };
     match row_of(word.text) {
         None => unknown_directive(found, *word),
-        Some(DirectiveRow(_, [Place::Number(..), Place::Service])) => request(found, *word, rest),
+        Some(DirectiveRow(_, [Operand::Number(..), Operand::Service])) => request(
+            found, *word, rest,
+        ),
         Some(DirectiveRow(name, places)) => {
             if counted(found, name, places, *word, rest)? {
                 all_places(found, places, rest)?;
@@ -170,14 +172,14 @@ fn call_of(
 }
 
 /// How a line is written, from its first word on.
-fn form_of(alloc: Global, name: &str, places: &[Place]) -> Result<String, AllocError> {
+fn form_of(alloc: Global, name: &str, places: &[Operand]) -> Result<String, AllocError> {
     let mut text = String::from_str(alloc, name)?;
     for place in places {
         let (label, rest) = match *place {
-            Place::Number(label, _) | Place::Name(label, _) => (label, ""),
-            Place::Several(label, _) => (label, " .."),
-            Place::Buffer => ("buffer", ""),
-            Place::Service => ("service", " .."),
+            Operand::Number(label, _) | Operand::Name(label, _) => (label, ""),
+            Operand::Several(label, _) => (label, " .."),
+            Operand::Buffer => ("buffer", ""),
+            Operand::Service => ("service", " .."),
         };
         write!(text, " <{label}>{rest}")?;
     }
@@ -188,12 +190,15 @@ fn form_of(alloc: Global, name: &str, places: &[Place]) -> Result<String, AllocE
 fn counted(
     found: &mut Found,
     name: &str,
-    places: &[Place],
+    places: &[Operand],
     at: Word<'_>,
     words: &[Word<'_>],
 ) -> Result<bool, AllocError> {
     let (least, most) = match places {
-        [front @ .., Place::Several(..)] => (places.len(), front.len().saturating_add(MOST_IN_ROW)),
+        [front @ .., Operand::Several(..)] => (
+            places.len(),
+            front.len().saturating_add(MOST_IN_ROW),
+        ),
         _ => (places.len(), places.len()),
     };
     if least <= words.len() && words.len() <= most {
@@ -214,7 +219,7 @@ fn counted(
 fn one_too_many(
     found: &mut Found,
     name: &str,
-    places: &[Place],
+    places: &[Operand],
     word: Word<'_>,
 ) -> Result<(), AllocError> {
     let text = word.text;
@@ -227,7 +232,7 @@ fn one_too_many(
 }
 
 /// Looks at the words that stand in some places.
-fn all_places(found: &mut Found, places: &[Place], words: &[Word<'_>]) -> Result<(), AllocError> {
+fn all_places(found: &mut Found, places: &[Operand], words: &[Word<'_>]) -> Result<(), AllocError> {
     for (number, word) in words.iter().enumerate() {
         let Some(place) = places.get(number).or(places.last()) else {
             return Ok(());
@@ -238,14 +243,14 @@ fn all_places(found: &mut Found, places: &[Place], words: &[Word<'_>]) -> Result
 }
 
 /// Looks at the word that stands in a place.
-fn word_at(found: &mut Found, place: Place, word: Word<'_>) -> Result<(), AllocError> {
+fn word_at(found: &mut Found, place: Operand, word: Word<'_>) -> Result<(), AllocError> {
     match place {
-        Place::Number(label, most) | Place::Several(label, most) => {
+        Operand::Number(label, most) | Operand::Several(label, most) => {
             number_at(found, label, most, word)
         }
-        Place::Name(label, names) => name_at(found, label, names, word),
-        Place::Buffer => buffer_at(found, word),
-        Place::Service => Ok(()),
+        Operand::Name(label, names) => name_at(found, label, names, word),
+        Operand::Buffer => buffer_at(found, word),
+        Operand::Service => Ok(()),
     }
 }
 

@@ -4,7 +4,7 @@ use crate::objects::{Object, object_of};
 use crate::split::{before_comment, words_of};
 use bench_script::{ScriptFault, read_script};
 use desk_places::Lines;
-use desk_tables::{Place, ServiceRow};
+use desk_tables::{Operand, ServiceRow};
 use mcal_base::{Argument, Config, Directive, Order, Request};
 use std::alloc::AllocError;
 
@@ -106,7 +106,7 @@ fn look_at_request(
         return Ok(());
     };
     for (place, argument) in places.iter().zip(request.arguments.as_slice()) {
-        let (Place::Number(label, _), Argument::Number(id)) = (place, argument) else {
+        let (Operand::Number(label, _), Argument::Number(id)) = (place, argument) else {
             continue;
         };
         if let Some(object) = object_of(service, label) {

@@ -1,44 +1,54 @@
+use crate::writing::{begin, end, put_names, put_number, put_text};
 use desk_tables::{Kind, Need, Range};
-use serde_json::{Value, json};
+use json::Pretty;
 use std::alloc::{AllocError, Global};
 
-/// Names as a value.
-fn names_value(alloc: Global, names: &[&str]) -> Result<Value, AllocError> {
-    let mut all = Vec::new(alloc);
-    for name in names {
-        all.push(Value::String(String::from_str(alloc, name)?))?;
-    }
-    Ok(Value::Array(all))
-}
-
-/// What a whole number of a range is.
-fn whole_value(alloc: Global, range: Range) -> Result<Value, AllocError> {
+/// Says that a value is a whole number of a range.
+fn put_range(out: &mut Pretty, range: Range) -> Result<(), AllocError> {
     let Range(low, high) = range;
-    json!(in alloc; {"type": "integer", "minimum": low, "maximum": high})
+    put_number(out, "maximum", high)?;
+    put_number(out, "minimum", low)?;
+    put_text(out, "type", "integer")
 }
 
-/// What one of these names is.
-fn name_value(alloc: Global, names: &[&str]) -> Result<Value, AllocError> {
-    let names = names_value(alloc, names)?;
-    json!(in alloc; {"type": "string", "enum": names})
+/// Says that a value is one of these names.
+fn put_choices(out: &mut Pretty, names: &[&str]) -> Result<(), AllocError> {
+    put_names(out, "enum", names)?;
+    put_text(out, "type", "string")
 }
 
-/// What an array of so many items is.
-pub(crate) fn array_value(alloc: Global, count: Range, items: Value) -> Result<Value, AllocError> {
+/// Says that a value is an array of so many items.
+pub(crate) fn put_count(out: &mut Pretty, count: Range) -> Result<(), AllocError> {
     let Range(least, most) = count;
-    json!(in alloc; {"type": "array", "minItems": least, "maxItems": most, "items": items})
+    put_number(out, "maxItems", most)?;
+    put_number(out, "minItems", least)?;
+    put_text(out, "type", "array")
 }
 
-/// What a value of a kind is. The elements of an array of tables are what is said of them.
-pub(crate) fn kind_value(alloc: Global, kind: Kind, element: Value) -> Result<Value, AllocError> {
+/// Says what a value is that has no items.
+fn put_single(out: &mut Pretty, kind: Kind) -> Result<(), AllocError> {
     match kind {
-        Kind::Truth => json!(in alloc; {"type": "boolean"}),
-        Kind::Text => json!(in alloc; {"type": "string"}),
-        Kind::Whole(range) => whole_value(alloc, range),
-        Kind::Name(names) => name_value(alloc, names),
-        Kind::Wholes(count, range) => array_value(alloc, count, whole_value(alloc, range)?),
-        Kind::Names(count, names) => array_value(alloc, count, name_value(alloc, names)?),
-        Kind::Tables(most) => array_value(alloc, Range(0, most), element),
+        Kind::Whole(range) => put_range(out, range),
+        Kind::Name(names) => put_choices(out, names),
+        Kind::Text => put_text(out, "type", "string"),
+        _ => put_text(out, "type", "boolean"),
+    }
+}
+
+/// Says that a value is an array of so many items of a kind.
+fn put_items(out: &mut Pretty, count: Range, item: Kind) -> Result<(), AllocError> {
+    begin(out, "items")?;
+    put_single(out, item)?;
+    end(out)?;
+    put_count(out, count)
+}
+
+/// Says what a value of a kind is that is no array of tables.
+pub(crate) fn put_kind(out: &mut Pretty, kind: Kind) -> Result<(), AllocError> {
+    match kind {
+        Kind::Wholes(count, range) => put_items(out, count, Kind::Whole(range)),
+        Kind::Names(count, names) => put_items(out, count, Kind::Name(names)),
+        _ => put_single(out, kind),
     }
 }
 

@@ -2,6 +2,8 @@
 #![tactic(auto)]
 
 mod kinds;
+mod order;
 mod schemas;
+mod writing;
 
 pub use schemas::schema;

@@ -11,4 +11,4 @@ mod words;
 pub use all_tables::tables;
 pub use keys::{KeyRow, Kind, Need, Range, Table, table_of};
 pub use service_rows::{ServiceRow, services};
-pub use words::{DirectiveRow, Place, directives};
+pub use words::{DirectiveRow, Operand, directives};

@@ -1,9 +1,9 @@
-use crate::words::{MOST, Place};
+use crate::words::{MOST, Operand};
 use mcal_base::Service;
 
 /// A service, and its arguments.
 #[derive(Clone, Copy)]
-pub struct ServiceRow(pub Service, pub &'static [Place]);
+pub struct ServiceRow(pub Service, pub &'static [Operand]);
 
 /// Directions of a pin.
 const DIRECTIONS: [&str; 2] = ["PORT_PIN_IN", "PORT_PIN_OUT"];
@@ -53,43 +53,46 @@ const WATCHDOG_MODES: [&str; 4] = [
 ];
 
 /// A RAM section.
-const SECTION: [Place; 1] = [Place::Number("section", MOST)];
+const SECTION: [Operand; 1] = [Operand::Number("section", MOST)];
 
 /// A clock setting.
-const SETTING: [Place; 1] = [Place::Number("setting", MOST)];
+const SETTING: [Operand; 1] = [Operand::Number("setting", MOST)];
 
 /// A mode of the clock.
-const MODE: [Place; 1] = [Place::Number("mode", MOST)];
+const MODE: [Operand; 1] = [Operand::Number("mode", MOST)];
 
 /// A channel.
-const CHANNEL: [Place; 1] = [Place::Number("channel", MOST)];
+const CHANNEL: [Operand; 1] = [Operand::Number("channel", MOST)];
 
 /// A group of a converter or of channels.
-const GROUP: [Place; 1] = [Place::Number("group", MOST)];
+const GROUP: [Operand; 1] = [Operand::Number("group", MOST)];
 
 /// A sequence.
-const SEQUENCE: [Place; 1] = [Place::Number("sequence", MOST)];
+const SEQUENCE: [Operand; 1] = [Operand::Number("sequence", MOST)];
 
 /// A job.
-const JOB: [Place; 1] = [Place::Number("job", MOST)];
+const JOB: [Operand; 1] = [Operand::Number("job", MOST)];
 
 /// A serial unit.
-const UNIT: [Place; 1] = [Place::Number("unit", MOST)];
+const UNIT: [Operand; 1] = [Operand::Number("unit", MOST)];
 
 /// A port.
-const PORT: [Place; 1] = [Place::Number("port", MOST)];
+const PORT: [Operand; 1] = [Operand::Number("port", MOST)];
 
 /// A channel, and a level.
-const CHANNEL_AND_LEVEL: [Place; 2] = [
-    Place::Number("channel", MOST),
-    Place::Name("level", &LEVELS),
+const CHANNEL_AND_LEVEL: [Operand; 2] = [
+    Operand::Number("channel", MOST),
+    Operand::Name("level", &LEVELS),
 ];
 
 /// A port, and a value.
-const PORT_AND_VALUE: [Place; 2] = [Place::Number("port", MOST), Place::Number("value", 255)];
+const PORT_AND_VALUE: [Operand; 2] = [Operand::Number("port", MOST), Operand::Number("value", 255)];
 
 /// A group, and a value.
-const GROUP_AND_VALUE: [Place; 2] = [Place::Number("group", MOST), Place::Number("value", 255)];
+const GROUP_AND_VALUE: [Operand; 2] = [
+    Operand::Number("group", MOST),
+    Operand::Number("value", 255),
+];
 
 /// The services, module by module.
 static SERVICES: [ServiceRow; 87] = [
@@ -105,14 +108,17 @@ static SERVICES: [ServiceRow; 87] = [
     ServiceRow(
         Service::PortSetPinDirection,
         &[
-            Place::Number("pin", MOST),
-            Place::Name("direction", &DIRECTIONS),
+            Operand::Number("pin", MOST),
+            Operand::Name("direction", &DIRECTIONS),
         ],
     ),
     ServiceRow(Service::PortRefreshPortDirection, &[]),
     ServiceRow(
         Service::PortSetPinMode,
-        &[Place::Number("pin", MOST), Place::Name("mode", &PIN_MODES)],
+        &[
+            Operand::Number("pin", MOST),
+            Operand::Name("mode", &PIN_MODES),
+        ],
     ),
     ServiceRow(Service::GptInit, &[]),
     ServiceRow(Service::GptDeInit, &[]),
@@ -120,12 +126,15 @@ static SERVICES: [ServiceRow; 87] = [
     ServiceRow(Service::GptGetTimeRemaining, &CHANNEL),
     ServiceRow(
         Service::GptStartTimer,
-        &[Place::Number("channel", MOST), Place::Number("value", MOST)],
+        &[
+            Operand::Number("channel", MOST),
+            Operand::Number("value", MOST),
+        ],
     ),
     ServiceRow(Service::GptStopTimer, &CHANNEL),
     ServiceRow(Service::GptEnableNotification, &CHANNEL),
     ServiceRow(Service::GptDisableNotification, &CHANNEL),
-    ServiceRow(Service::GptSetMode, &[Place::Name("mode", &TIMER_MODES)]),
+    ServiceRow(Service::GptSetMode, &[Operand::Name("mode", &TIMER_MODES)]),
     ServiceRow(Service::GptEnableWakeup, &CHANNEL),
     ServiceRow(Service::GptDisableWakeup, &CHANNEL),
     ServiceRow(Service::GptCheckWakeup, &CHANNEL),
@@ -134,16 +143,16 @@ static SERVICES: [ServiceRow; 87] = [
     ServiceRow(
         Service::PwmSetDutyCycle,
         &[
-            Place::Number("channel", MOST),
-            Place::Number("duty", 65_535),
+            Operand::Number("channel", MOST),
+            Operand::Number("duty", 65_535),
         ],
     ),
     ServiceRow(
         Service::PwmSetPeriodAndDuty,
         &[
-            Place::Number("channel", MOST),
-            Place::Number("period", 65_535),
-            Place::Number("duty", 65_535),
+            Operand::Number("channel", MOST),
+            Operand::Number("period", 65_535),
+            Operand::Number("duty", 65_535),
         ],
     ),
     ServiceRow(Service::PwmSetOutputToIdle, &CHANNEL),
@@ -151,8 +160,8 @@ static SERVICES: [ServiceRow; 87] = [
     ServiceRow(
         Service::PwmEnableNotification,
         &[
-            Place::Number("channel", MOST),
-            Place::Name("edges", &PULSE_EDGES),
+            Operand::Number("channel", MOST),
+            Operand::Name("edges", &PULSE_EDGES),
         ],
     ),
     ServiceRow(Service::PwmDisableNotification, &CHANNEL),
@@ -161,8 +170,8 @@ static SERVICES: [ServiceRow; 87] = [
     ServiceRow(
         Service::IcuSetActivationCondition,
         &[
-            Place::Number("channel", MOST),
-            Place::Name("edges", &CAPTURE_EDGES),
+            Operand::Number("channel", MOST),
+            Operand::Name("edges", &CAPTURE_EDGES),
         ],
     ),
     ServiceRow(Service::IcuEnableNotification, &CHANNEL),
@@ -177,9 +186,9 @@ static SERVICES: [ServiceRow; 87] = [
     ServiceRow(
         Service::IcuStartTimestamp,
         &[
-            Place::Number("channel", MOST),
-            Place::Number("size", MOST),
-            Place::Number("interval", MOST),
+            Operand::Number("channel", MOST),
+            Operand::Number("size", MOST),
+            Operand::Number("interval", MOST),
         ],
     ),
     ServiceRow(Service::IcuStopTimestamp, &CHANNEL),
@@ -192,7 +201,7 @@ static SERVICES: [ServiceRow; 87] = [
     ServiceRow(Service::AdcDeInit, &[]),
     ServiceRow(
         Service::AdcSetupResultBuffer,
-        &[Place::Number("group", MOST), Place::Buffer],
+        &[Operand::Number("group", MOST), Operand::Buffer],
     ),
     ServiceRow(Service::AdcStartGroupConversion, &GROUP),
     ServiceRow(Service::AdcStopGroupConversion, &GROUP),
@@ -208,18 +217,18 @@ static SERVICES: [ServiceRow; 87] = [
     ServiceRow(
         Service::SpiWriteIb,
         &[
-            Place::Number("channel", MOST),
-            Place::Name("source", &SOURCES),
+            Operand::Number("channel", MOST),
+            Operand::Name("source", &SOURCES),
         ],
     ),
     ServiceRow(Service::SpiReadIb, &CHANNEL),
     ServiceRow(
         Service::SpiSetupEb,
         &[
-            Place::Number("channel", MOST),
-            Place::Name("source", &SOURCES),
-            Place::Name("destination", &DESTINATIONS),
-            Place::Number("length", MOST),
+            Operand::Number("channel", MOST),
+            Operand::Name("source", &SOURCES),
+            Operand::Name("destination", &DESTINATIONS),
+            Operand::Number("length", MOST),
         ],
     ),
     ServiceRow(Service::SpiAsyncTransmit, &SEQUENCE),
@@ -230,7 +239,7 @@ static SERVICES: [ServiceRow; 87] = [
     ServiceRow(Service::SpiGetHwUnitStatus, &UNIT),
     ServiceRow(
         Service::SpiSetAsyncMode,
-        &[Place::Name("mode", &ASYNC_MODES)],
+        &[Operand::Name("mode", &ASYNC_MODES)],
     ),
     ServiceRow(Service::SpiMainFunctionHandling, &[]),
     ServiceRow(Service::SpiSyncTransmit, &SEQUENCE),
@@ -242,10 +251,13 @@ static SERVICES: [ServiceRow; 87] = [
     ServiceRow(Service::DioReadChannelGroup, &GROUP),
     ServiceRow(Service::DioWriteChannelGroup, &GROUP_AND_VALUE),
     ServiceRow(Service::WdgInit, &[]),
-    ServiceRow(Service::WdgSetMode, &[Place::Name("mode", &WATCHDOG_MODES)]),
+    ServiceRow(
+        Service::WdgSetMode,
+        &[Operand::Name("mode", &WATCHDOG_MODES)],
+    ),
     ServiceRow(
         Service::WdgSetTriggerCondition,
-        &[Place::Number("timeout", 65_535)],
+        &[Operand::Number("timeout", 65_535)],
     ),
 ];
 

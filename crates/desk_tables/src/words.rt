@@ -1,6 +1,6 @@
 /// What stands at a place of a line.
 #[derive(Clone, Copy)]
-pub enum Place {
+pub enum Operand {
     /// A number of this name, of at most so much.
     Number(&'static str, u32),
     /// A word of this name, one of these.
@@ -15,16 +15,16 @@ pub enum Place {
 
 /// The word that a directive begins with, and what stands behind it.
 #[derive(Clone, Copy)]
-pub struct DirectiveRow(pub &'static str, pub &'static [Place]);
+pub struct DirectiveRow(pub &'static str, pub &'static [Operand]);
 
 /// Any number of the language.
 pub(crate) const MOST: u32 = 4_294_967_295;
 
 /// A level, and a service.
-const ASKED: [Place; 2] = [Place::Number("L", 7), Place::Service];
+const ASKED: [Operand; 2] = [Operand::Number("L", 7), Operand::Service];
 
 /// A line.
-const LINE: [Place; 1] = [Place::Number("LINE", 31)];
+const LINE: [Operand; 1] = [Operand::Number("LINE", 31)];
 
 /// The directives.
 static DIRECTIVES: [DirectiveRow; 17] = [
@@ -32,33 +32,39 @@ static DIRECTIVES: [DirectiveRow; 17] = [
     DirectiveRow("do", &ASKED),
     DirectiveRow("enter", &LINE),
     DirectiveRow("serve", &LINE),
-    DirectiveRow("run", &[Place::Number("N", MOST)]),
+    DirectiveRow("run", &[Operand::Number("N", MOST)]),
     DirectiveRow(
         "upto",
-        &[Place::Name("move", &["act", "mask", "unmask", "note"])],
+        &[Operand::Name("move", &["act", "mask", "unmask", "note"])],
     ),
     DirectiveRow("finish", &[]),
-    DirectiveRow("tick", &[Place::Number("N", 1_000_000)]),
-    DirectiveRow("level", &[Place::Number("PIN", 63), Place::Number("V", 1)]),
+    DirectiveRow("tick", &[Operand::Number("N", 1_000_000)]),
+    DirectiveRow(
+        "level",
+        &[Operand::Number("PIN", 63), Operand::Number("V", 1)],
+    ),
     DirectiveRow(
         "analog",
-        &[Place::Number("INPUT", 31), Place::Number("V", 4_095)],
+        &[Operand::Number("INPUT", 31), Operand::Number("V", 4_095)],
     ),
-    DirectiveRow("trigger", &[Place::Number("INPUT", 3)]),
+    DirectiveRow("trigger", &[Operand::Number("INPUT", 3)]),
     DirectiveRow(
         "miso",
-        &[Place::Number("UNIT", 1), Place::Several("W", 65_535)],
+        &[Operand::Number("UNIT", 1), Operand::Several("W", 65_535)],
     ),
-    DirectiveRow("spifault", &[Place::Number("UNIT", 1)]),
+    DirectiveRow("spifault", &[Operand::Number("UNIT", 1)]),
     DirectiveRow("detach", &[]),
     DirectiveRow(
         "fill",
-        &[Place::Number("CHANNEL", MOST), Place::Several("W", MOST)],
+        &[
+            Operand::Number("CHANNEL", MOST),
+            Operand::Several("W", MOST),
+        ],
     ),
-    DirectiveRow("reset", &[Place::Name("reason", &["power", "watchdog"])]),
+    DirectiveRow("reset", &[Operand::Name("reason", &["power", "watchdog"])]),
     DirectiveRow(
         "show",
-        &[Place::Name("view", &["pins", "wire", "buffers", "ram"])],
+        &[Operand::Name("view", &["pins", "wire", "buffers", "ram"])],
     ),
 ];
 

@@ -1,4 +1,4 @@
-use crate::json::differences_json;
+use crate::as_json::differences_json;
 use crate::junit::suite;
 use crate::running::run_bench;
 use crate::told::{Style, Told};

@@ -96,21 +96,30 @@ const MAP: Form = Form(
 /// All forms, in the order of the help.
 static FORMS: [Form; 7] = [LINT, LIST, DIFF, RUN, STATS, SCHEMA, MAP];
 
+/// What the command line does with a word of a kind.
+fn action_of(kind: Kind) -> ArgAction {
+    match kind {
+        Flag => ArgAction::SetTrue,
+        Report | File => ArgAction::Set,
+        Files => ArgAction::Append,
+    }
+}
+
+/// An argument with what help says of it, and what the command line does with it.
+fn helped<'a>(alloc: Global, word: Word) -> Arg<'a> {
+    let Word(kind, name, help) = word;
+    Arg::new(alloc, name).help(help).action(action_of(kind))
+}
+
 /// The argument for a word.
 fn argument<'a>(alloc: Global, word: Word) -> Arg<'a> {
-    let Word(kind, name, help) = word;
-    let argument = Arg::new(alloc, name).help(help);
+    let Word(kind, name, _) = word;
+    let argument = helped(alloc, word);
     match kind {
-        Flag => argument.long(name).action(ArgAction::SetTrue),
-        Report => argument
-            .long(name)
-            .value_name("REPORT")
-            .action(ArgAction::Set),
-        File => argument.required(true).action(ArgAction::Set),
-        Files => argument
-            .required(true)
-            .num_args(1..)
-            .action(ArgAction::Append),
+        Flag => argument.long(name),
+        Report => argument.long(name).value_name("REPORT"),
+        File => argument.required(true),
+        Files => argument.required(true).num_args(1..),
     }
 }
 

@@ -1,14 +1,22 @@
 use std::alloc::{AllocError, Global};
 
+/// What stands for a character in XML, where it can't stand there itself.
+fn escape_of(character: char) -> Option<&'static str> {
+    match character {
+        '&' => Some("&amp;"),
+        '<' => Some("&lt;"),
+        '>' => Some("&gt;"),
+        '"' => Some("&quot;"),
+        _ => None,
+    }
+}
+
 /// Writes a text as XML has it.
 fn put_escaped(text: &mut String, plain: &str) -> Result<(), AllocError> {
     for character in plain.chars() {
-        match character {
-            '&' => text.push_str("&amp;")?,
-            '<' => text.push_str("&lt;")?,
-            '>' => text.push_str("&gt;")?,
-            '"' => text.push_str("&quot;")?,
-            _ => text.push(character)?,
+        match escape_of(character) {
+            Some(escape) => text.push_str(escape)?,
+            None => text.push(character)?,
         }
     }
     Ok(())

@@ -1,11 +1,11 @@
 //! What the desk does with files that were read: each form gives a status and the text to print.
 #![tactic(auto)]
 
+mod as_json;
 mod bounds;
 mod comparing;
 mod counting;
 mod forms;
-mod json;
 mod junit;
 mod laws;
 mod linting;

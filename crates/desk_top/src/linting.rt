@@ -1,7 +1,7 @@
 ghost use Rattle.std.specs.Prelude.{◌≡◌, ◌==◌, IfOk, false};
 ghost use Rattle.desk_lint.specs.WellFormed.{is_well_formed};
 
-use crate::json::findings_json;
+use crate::as_json::findings_json;
 use crate::told::{Style, Told};
 use desk_findings::{Finding, shown};
 use desk_lint::lint_file;

@@ -9,12 +9,16 @@ const PIECE: usize = 4_096;
 
 /// The words of a run.
 fn words(alloc: Global, is_traced: bool) -> Result<Vec<String>, AllocError> {
-    let mut words = Vec::new(alloc);
-    words.push(String::from_str(alloc, "run")?)?;
-    if is_traced {
-        words.push(String::from_str(alloc, "--trace")?)?;
+    let words: &[&str] = if is_traced {
+        &["run", "--trace"]
+    } else {
+        &["run"]
+    };
+    let mut owned = Vec::new(alloc);
+    for word in words {
+        owned.push(String::from_str(alloc, word)?)?;
     }
-    Ok(words)
+    Ok(owned)
 }
 
 /// Has the bench run a file, as the program `mcal_bench` does, with the same two devices: what that prints, and its

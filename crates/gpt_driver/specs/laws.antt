@@ -1,7 +1,7 @@
 pub mod Base
 pub mod Bodies
 pub mod Count
-pub mod Courses
+pub mod ChannelTimes
 pub mod DeInit
 pub mod RefinementRight
 pub mod Init

@@ -33,7 +33,7 @@ use Rattle.service_outline.specs.declared.body.Or.{Or}
 use Rattle.service_outline.specs.declared.body.Or.TheVariants.{First, Second}
 use Rattle.service_outline.specs.declared.done.BodyTaken.{BodyTaken}
 use Rattle.service_outline.specs.declared.done.Epilogue.TheVariants.{Nothing}
-use Rattle.service_outline.specs.declared.sweep.Place.TheVariants.{Opens}
+use Rattle.service_outline.specs.declared.sweep.SweepStage.TheVariants.{Opens}
 use Rattle.service_outline.specs.declared.sweep.Sweep.{Sweep}
 use Rattle.service_outline.specs.Both.{both}
 use Rattle.service_outline.specs.Done.{goes, acts, ends, owed_error}
@@ -41,7 +41,7 @@ use Rattle.service_outline.specs.DeferredWrites.{DeferredWrites, Under, deferrin
 use Rattle.service_outline.specs.FrameHistory.{FrameHistory, fresh_history, IsThisFrame}
 use Rattle.service_outline.specs.Services.{ReservedBy, SharedRefinement, PointAssertion, Within, Outside, LongBodies, Services}
 use Rattle.service_outline.specs.WindowHistory.{Plain}
-use Rattle.service_outline.specs.Sweeping.{Sweeping, sweep}
+use Rattle.service_outline.specs.SweepServices.{Sweeping, sweep}
 use Rattle.held_example.specs.declared.asking.Asking.{Asking}
 use Rattle.held_example.specs.declared.asking.Asking.TheVariants.{Want, OpenOnce, Tell, ShutAgain, Look, Go, Unmark}
 use Rattle.held_example.specs.declared.call.Call.{Call}

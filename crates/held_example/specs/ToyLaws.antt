@@ -45,7 +45,7 @@ use Rattle.service_outline.specs.laws.Owing.{owing_basis, windows_right}
 use Rattle.service_outline.specs.WindowHistory.{is_windowed}
 use Rattle.service_outline.specs.laws.Seen.{free_windows}
 use Rattle.service_outline.specs.laws.SimpleMoves.{simple_owed}
-use Rattle.service_outline.specs.laws.Sweeping.{sweep_right}
+use Rattle.service_outline.specs.laws.SweepRight.{sweep_right}
 use Rattle.service_outline.specs.laws.Words.{stored_same, stored_other, stores_in, word_apart, word_later, fills_there}
 use Rattle.held_example.specs.Toy.{State, first_state, cells_of, table, put, filled, fills_by, tells_kept, starts_by, machine, class_of, is_own_word, is_own_register, owns, setting, Reservation, Part, Promise, Pinned, Reservations, cell, MARK, STATE, NEWEST, PIN, bank, flag, want_by, want, HeldRight, AllRight, Work, Settled, Marking, MarkAgrees, IsKept, KeptAgrees, Agrees, bare, is_publishing, publishing, basis, job_move, filled_bodies, filled_takes, is_of, Free, filling, fill_bodies, notice, tells_notice, told_all, ask_work, ask_bodies, ask_takes, ask_fuel, look_takes, put_work, put_takes, put_owes, put_windows, put_bodies, take_work, named, none_kept, take_takes, take_fuel, take_clean, take_ends, take_bodies, ends_with, both_read, twice, is_pin, NonePinned, answered, poll_work, poll_takes, poll_fuel, poll_bodies, reboot_work, reboot_takes, reboot_bodies, fill_looked, looked, toy}
 use Rattle.held_example.specs.declared.asking.Asking.{Asking}

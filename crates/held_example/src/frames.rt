@@ -10,7 +10,7 @@ use crate::rebooting::Rebooting;
 use chip_model::Bus;
 use mcal_base::{Answer, ErrorName, ModuleName, Service as ServiceName};
 use run_model::{Class, Key, KeyKind, Kind};
-use service_outline::{Done, Looked, Or, Place, Service, Short, Sweep, error, nothing};
+use service_outline::{Done, Looked, Or, Service, Short, Sweep, SweepStage, error, nothing};
 use std::marker::Model;
 use step_runner::Module;
 
@@ -41,7 +41,7 @@ impl Service for Call {
             Call::Fill(section, value) => {
                 if section < 4 {
                     let objects = Job { section, value };
-                    let place = Place::Opens;
+                    let place = SweepStage::Opens;
                     Looked::Goes(Or::First(Or::First(Sweep { objects, place })))
                 } else {
                     Looked::Refused(Done {

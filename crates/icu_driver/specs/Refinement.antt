@@ -192,14 +192,14 @@ whole_told true duty e Nothing_seen = []
 whole_told true duty e (Start_seen a) = []
 whole_told false duty e s = []
 
-abbrev pub told_by : IcuSignalMeasurementProperty → (starts : Bool) → Edge → MeasureHistory → List (List ℕ)
-told_by HighTime starts e s = half_told starts e s
-told_by LowTime starts e s = half_told starts e s
-told_by PeriodTime starts e s = whole_told starts false e s
-told_by DutyCycle starts e s = whole_told starts true e s
+abbrev pub measures_told : IcuSignalMeasurementProperty → (starts : Bool) → Edge → MeasureHistory → List (List ℕ)
+measures_told HighTime starts e s = half_told starts e s
+measures_told LowTime starts e s = half_told starts e s
+measures_told PeriodTime starts e s = whole_told starts false e s
+measures_told DutyCycle starts e s = whole_told starts true e s
 
 abbrev pub told_with : IcuSignalMeasurementProperty → Channel → Edge → MeasureHistory → List (List ℕ)
-told_with p k e s = told_by p (starts_at (begins_rising p k) e) e (unbroken e s)
+told_with p k e s = measures_told p (starts_at (begins_rising p k) e) e (unbroken e s)
 
 -- the edge at which a channel's measures start
 abbrev pub first_of : Option IcuSignalMeasurementProperty → Channel → Bool

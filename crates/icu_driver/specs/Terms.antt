@@ -69,7 +69,7 @@ pub use Rattle.service_outline.specs.{declared.body.Or.{Or}, declared.body.Or.Th
 pub use Rattle.service_outline.specs.{declared.done.BodyTaken.{BodyTaken}, declared.done.Done.{Done}}
 pub use Rattle.service_outline.specs.{declared.done.Epilogue.{Epilogue}, declared.short.Short.{Short}}
 pub use Rattle.service_outline.specs.laws.{Acts.{never_clean}, Either.{either_right}, Reports.{error_told}}
-pub use Rattle.service_outline.specs.laws.{Seen.{never_after, never_serving, plain_sees, sees_if}, Sweep.{each_but}}
+pub use Rattle.service_outline.specs.laws.{Seen.{never_after, never_serving, plain_sees, sees_if}, SweepWords.{each_but}}
 pub use Rattle.service_outline.specs.laws.{Words.{stored_other, stored_same, word_later}}
 pub use Rattle.icu_machine.specs.Bounds.{channel_count, counted, halves, icu_may, is_capture, is_for_lines}
 pub use Rattle.icu_machine.specs.{Shown.{size_by, size_of}}
@@ -93,7 +93,7 @@ pub use Rattle.icu_driver.specs.{Refinement.{left_by, marks_of, MeasureHistory, 
 pub use Rattle.icu_driver.specs.{Refinement.{Nothing_seen, only, opening, opposed, Opposite_seen, OppositeIs}}
 pub use Rattle.icu_driver.specs.{Refinement.{owns_written, seen_by, seen_from, seen_number, seen_with, settled}}
 pub use Rattle.icu_driver.specs.{Refinement.{size_word, Stamped, stamps_edges, StampWords, Start_seen, StartIs}}
-pub use Rattle.icu_driver.specs.{Refinement.{starts_at, state_word, told_by, told_with, unbroken, ValueIs}}
+pub use Rattle.icu_driver.specs.{Refinement.{starts_at, state_word, measures_told, told_with, unbroken, ValueIs}}
 pub use Rattle.icu_machine.specs.{Requests.{IsSmall}, Table.{channel_of}}
 pub use Rattle.icu_driver.specs.{Refinement.{waiting_value, whole_told}}
 pub use Rattle.icu_machine.specs.{Table.{channel_of_line, is_counter, is_detection, is_duty_cycle, is_linear}}

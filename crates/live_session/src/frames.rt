@@ -53,7 +53,10 @@ impl Frames {
         ensures top { result ≡ slice_get self.old 0 }
         ensures rest { self.new ≡ drop 1 self.old }
     {
-        self.begun.pop().map(|begun| begun.purpose)
+        match self.begun.pop() {
+            Some(begun) => Some(begun.purpose),
+            None => None,
+        }
     }
 
     /// Takes all frames off.
@@ -65,6 +68,9 @@ impl Frames {
 
     /// The level of the topmost frame.
     pub(crate) fn top_level(&self) -> Option<u32> {
-        self.begun.last().map(|begun| begun.level)
+        match self.begun.last() {
+            Some(begun) => Some(begun.level),
+            None => None,
+        }
     }
 }

@@ -9,6 +9,7 @@ mod obey;
 mod page;
 mod places;
 mod session;
+mod shown;
 mod shows;
 mod sights;
 mod steps;

@@ -235,7 +235,7 @@ pub(crate) fn obey<B: Sights>(
 }
 
 /// Prints a move that wasn't made yet: what a read or a load gives isn't known.
-fn write_upcoming(page: &mut Page, made: Move) -> Result<(), AllocError> {
+fn write_move(page: &mut Page, made: Move) -> Result<(), AllocError> {
     let number = page.number;
     match made {
         Move::Read(reg) => {
@@ -250,18 +250,28 @@ fn write_upcoming(page: &mut Page, made: Move) -> Result<(), AllocError> {
     }
 }
 
-/// Prints the next move of the top frame, and how long it waits.
-fn peek<B: Sights>(board: &Board<B>, page: &mut Page) -> Result<(), AllocError> {
-    let Some(made) = board.live.upcoming() else {
-        return page.say(Line::Holds(Held::Empty));
-    };
+/// Prints a move that wasn't made yet, and how long it waits.
+fn write_upcoming(page: &mut Page, made: Move, ticks: u32) -> Result<(), AllocError> {
     page.silent = false;
-    write_upcoming(page, made)?;
-    let ticks = board.live.stall();
+    write_move(page, made)?;
     if ticks > 0 {
         write!(page.text, " after {ticks}")?;
     }
     page.text.push_str("\n")
+}
+
+/// Prints the next move of the top frame, and how long it waits.
+fn peek<B: Sights>(board: &Board<B>, page: &mut Page) -> Result<(), AllocError> {
+    match board.live.upcoming() {
+        Some(made) => write_upcoming(page, made, board.live.stall()),
+        None => page.say(Line::Holds(Held::Empty)),
+    }
+}
+
+/// Prints what may be asked for.
+fn help(page: &mut Page) -> Result<(), AllocError> {
+    page.silent = false;
+    page.text.push_str(HELP)
 }
 
 /// Does what a command asks for, and tells whether the board is switched off and on.
@@ -276,10 +286,7 @@ pub(crate) fn command<B: Sights>(
         Command::Next => make_steps(board, rack, page, Far::Told)?,
         Command::Peek => peek(board, page)?,
         Command::PowerOn => return Ok(true),
-        Command::Help => {
-            page.silent = false;
-            page.text.push_str(HELP)?;
-        }
+        Command::Help => help(page)?,
     }
     Ok(false)
 }

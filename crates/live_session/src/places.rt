@@ -35,7 +35,12 @@ impl Places {
 
     /// Whether there is a pin of this number.
     pub(crate) fn has_pin(&self, number: u32) -> bool {
-        self.pins.iter().any(|pin| *pin == number)
+        for pin in self.pins.as_slice() {
+            if *pin == number {
+                return true;
+            }
+        }
+        false
     }
 
     /// The sections of the RAM, in their order.

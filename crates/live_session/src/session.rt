@@ -8,7 +8,6 @@ use crate::page::Page;
 use crate::sights::Sights;
 use crate::steps::Far;
 use bench_script::{ScriptFault, read_script};
-use chip_model::Bus;
 use mcal_base::Order;
 use mcal_config::{ConfigFault, read_config};
 use serial_devices::SerialDevice;
@@ -17,9 +16,21 @@ use std::alloc::{AllocError, Global};
 /// How many interrupt lines there are.
 const LINES: u32 = 32;
 
+/// What stands now.
+#[derive(Clone, Copy)]
+struct State {
+    /// How many frames are under way.
+    depth: u32,
+    /// The level of the topmost, where there is one.
+    level: Option<u32>,
+    /// Whether the mask is closed.
+    masked: bool,
+    /// The interrupt lines that are pending, a bit each.
+    pending: u32,
+}
+
 /// Prints which interrupt lines are pending.
-fn write_pending(bus: &Bus, page: &mut Page) -> Result<(), AllocError> {
-    let pending = bus.pending_lines();
+fn write_pending(page: &mut Page, pending: u32) -> Result<(), AllocError> {
     if pending == 0 {
         return Ok(());
     }
@@ -32,22 +43,37 @@ fn write_pending(bus: &Bus, page: &mut Page) -> Result<(), AllocError> {
     Ok(())
 }
 
-/// Prints what stands now: how many frames are there, the level of the top one, whether the mask is closed, and which lines
-/// are pending.
-fn write_state<B: Sights>(board: &Board<B>, page: &mut Page) -> Result<(), AllocError> {
-    match board.frames.top_level() {
-        None => page.text.push_str("> 0")?,
+/// Prints how many frames are there, and the level of the top one.
+fn write_frames(page: &mut Page, state: State) -> Result<(), AllocError> {
+    match state.level {
+        None => page.text.push_str("> 0"),
         Some(level) => {
-            let depth = board.live.depth();
-            write!(page.text, "> {depth} at {level}")?;
+            let depth = state.depth;
+            write!(page.text, "> {depth} at {level}")
         }
     }
-    let bus = board.live.bus();
-    if bus.masked() {
+}
+
+/// Prints how many frames are there, the level of the top one, whether the mask is closed, and which lines are pending.
+fn write_line(page: &mut Page, state: State) -> Result<(), AllocError> {
+    write_frames(page, state)?;
+    if state.masked {
         page.text.push_str(" masked")?;
     }
-    write_pending(bus, page)?;
+    write_pending(page, state.pending)?;
     page.text.push_str("\n")
+}
+
+/// Prints what stands now.
+fn write_state<B: Sights>(board: &Board<B>, page: &mut Page) -> Result<(), AllocError> {
+    let bus = board.live.bus();
+    let state = State {
+        depth: board.live.depth(),
+        level: board.frames.top_level(),
+        masked: bus.masked(),
+        pending: bus.pending_lines(),
+    };
+    write_line(page, state)
 }
 
 /// The directive of a line, and how far the steps of a frame go that it begins: to the frame's end, and behind the word `next`

@@ -1,24 +1,15 @@
-use crate::board::Board;
-use crate::sights::Sights;
+use crate::places::Section;
+use crate::shown::ShownBoard;
 use crate::wires::Wire;
 use bench_report::{RowName, Value, write_row};
-use mcal_base::{DESTINATIONS, SOURCES, STAMPS, Shown, USERS, WORDS};
+use mcal_base::{DESTINATIONS, SOURCES, STAMPS, Shown, USERS};
 use std::alloc::{AllocError, Global};
 
-/// A driver word; 0 where there is none.
-fn word<B: Sights>(board: &Board<B>, number: u32) -> u32 {
-    if number < WORDS {
-        board.live.bus().word(number)
-    } else {
-        0
-    }
-}
-
 /// Writes the row of so many driver words from a first one on.
-fn write_words<B: Sights>(
+fn write_words<R: ShownBoard>(
     alloc: Global,
     text: &mut String,
-    board: &Board<B>,
+    board: &R,
     line: u32,
     name: RowName,
     first: u32,
@@ -26,60 +17,62 @@ fn write_words<B: Sights>(
 ) -> Result<(), AllocError> {
     let mut values = Vec::new(alloc);
     for place in 0..size {
-        values.push(Value::One(word(board, first.saturating_add(place))))?;
+        values.push(Value::One(board.word(first.saturating_add(place))))?;
     }
     write_row(text, line, name, &values)
 }
 
 /// Writes the levels of the configured pins.
-fn write_pins<B: Sights>(text: &mut String, board: &Board<B>, line: u32) -> Result<(), AllocError> {
+fn write_pins<R: ShownBoard>(text: &mut String, board: &R, line: u32) -> Result<(), AllocError> {
     for pin in 0..64 {
-        if board.places.has_pin(pin) {
-            let level = if board.live.bus().pin(pin) { 1 } else { 0 };
+        if let Some(high) = board.level(pin) {
+            let level = if high { 1 } else { 0 };
             write_row(text, line, RowName::Pin(pin), &[Value::One(level)])?;
         }
     }
     Ok(())
 }
 
-/// A RAM word; 0 where there is none.
-fn ram<B: Sights>(board: &Board<B>, number: u32) -> u32 {
-    if number < 512 {
-        board.live.bus().ram(number)
-    } else {
-        0
+/// Writes the words of a RAM section.
+fn write_section<R: ShownBoard>(
+    alloc: Global,
+    text: &mut String,
+    board: &R,
+    line: u32,
+    number: u32,
+    section: Section,
+) -> Result<(), AllocError> {
+    let mut values = Vec::new(alloc);
+    for place in 0..section.size {
+        values.push(Value::One(board.ram(section.first.saturating_add(place))))?;
     }
+    write_row(text, line, RowName::Ram(number), &values)
 }
 
 /// Writes the words of the RAM sections.
-fn write_sections<B: Sights>(
+fn write_sections<R: ShownBoard>(
     alloc: Global,
     text: &mut String,
-    board: &Board<B>,
+    board: &R,
     line: u32,
 ) -> Result<(), AllocError> {
     let mut number = 0u32;
-    for section in board.places.sections() {
-        let mut values = Vec::new(alloc);
-        for place in 0..section.size {
-            values.push(Value::One(ram(board, section.first.saturating_add(place))))?;
-        }
-        write_row(text, line, RowName::Ram(number), &values)?;
+    for section in board.sections() {
+        write_section(alloc, text, board, line, number, *section)?;
         number = number.saturating_add(1);
     }
     Ok(())
 }
 
 /// Writes the stamps of the capture channels.
-fn write_captures<B: Sights>(
+fn write_captures<R: ShownBoard>(
     alloc: Global,
     text: &mut String,
-    board: &Board<B>,
+    board: &R,
     line: u32,
 ) -> Result<(), AllocError> {
     for channel in 0..8 {
-        let driver = board.live.driver();
-        if let Some(size) = B::stamps(driver, board.live.bus(), channel) {
+        if let Some(size) = board.stamps(channel) {
             let name = RowName::Stamps(channel);
             write_words(alloc, text, board, line, name, STAMPS + 64 * channel, size)?;
         }
@@ -88,15 +81,14 @@ fn write_captures<B: Sights>(
 }
 
 /// Writes the chosen buffers of the converter groups.
-fn write_groups<B: Sights>(
+fn write_groups<R: ShownBoard>(
     alloc: Global,
     text: &mut String,
-    board: &Board<B>,
+    board: &R,
     line: u32,
 ) -> Result<(), AllocError> {
     for group in 0..16 {
-        let driver = board.live.driver();
-        let Some((buffer, size)) = B::results(driver, board.live.bus(), group) else {
+        let Some((buffer, size)) = board.results(group) else {
             continue;
         };
         let first = USERS + 2_048 * (2 * group + buffer);
@@ -107,20 +99,18 @@ fn write_groups<B: Sights>(
 }
 
 /// Writes one side of an internal serial channel.
-fn write_side<B: Sights>(
+fn write_side<R: ShownBoard>(
     alloc: Global,
     text: &mut String,
-    board: &Board<B>,
+    board: &R,
     line: u32,
     channel: u32,
     received: bool,
     size: u32,
 ) -> Result<(), AllocError> {
-    let driver = board.live.driver();
     let mut values = Vec::new(alloc);
     for place in 0..size {
-        let word = B::internal(driver, board.live.bus(), channel, received, place);
-        values.push(Value::One(word))?;
+        values.push(Value::One(board.internal(channel, received, place)))?;
     }
     let name = if received {
         RowName::Receive(channel)
@@ -131,14 +121,14 @@ fn write_side<B: Sights>(
 }
 
 /// Writes the arrays of the serial channels.
-fn write_channels<B: Sights>(
+fn write_channels<R: ShownBoard>(
     alloc: Global,
     text: &mut String,
-    board: &Board<B>,
+    board: &R,
     line: u32,
 ) -> Result<(), AllocError> {
     for number in 0..16 {
-        let Some((internal, size)) = B::channel(board.live.driver(), number) else {
+        let Some((internal, size)) = board.channel(number) else {
             continue;
         };
         let source = SOURCES + 64 * number;
@@ -179,9 +169,9 @@ fn write_wire(
 }
 
 /// The lines that a show prints.
-pub(crate) fn shown_text<B: Sights>(
+pub(crate) fn shown_text<R: ShownBoard>(
     alloc: Global,
-    board: &Board<B>,
+    board: &R,
     line: u32,
     shown: Shown,
 ) -> Result<String, AllocError> {
@@ -195,8 +185,8 @@ pub(crate) fn shown_text<B: Sights>(
             write_channels(alloc, &mut text, board, line)?;
         }
         Shown::Wire => {
-            write_wire(alloc, &mut text, &board.first_wire, line, 0)?;
-            write_wire(alloc, &mut text, &board.second_wire, line, 1)?;
+            write_wire(alloc, &mut text, board.first_wire(), line, 0)?;
+            write_wire(alloc, &mut text, board.second_wire(), line, 1)?;
         }
     }
     Ok(text)

@@ -99,6 +99,18 @@ pub(crate) fn tell_watchdog<B: Sights>(
     }
 }
 
+/// Tells that no step is made, since what is counted is used up.
+fn spend(page: &mut Page) -> Result<Goes, AllocError> {
+    page.refuse("Spent")?;
+    Ok(Goes::Spent)
+}
+
+/// Tells why no step is made.
+fn refuse_step(page: &mut Page, refusal: Refusal) -> Result<Goes, AllocError> {
+    tell_refusal(page, refusal)?;
+    Ok(Goes::Spent)
+}
+
 /// Tells why something isn't done.
 pub(crate) fn tell_refusal(page: &mut Page, refusal: Refusal) -> Result<(), AllocError>
     ensures { OnOk result (page.new ≡ spec.refusal_told page.old refusal) }
@@ -233,10 +245,7 @@ fn one_step<B: Sights>(
     let ticks = told_wait(&board.live, traced);
     let dropped = match board.live.wait(stepped) {
         Ok(dropped) => dropped,
-        Err(_) => {
-            page.refuse("Spent")?;
-            return Ok(Goes::Spent);
-        }
+        Err(_) => return spend(page),
     };
     if dropped.is_some() {
         tell_watchdog(board, page, dropped)?;
@@ -248,10 +257,7 @@ fn one_step<B: Sights>(
             tell_wait(page, ticks)?;
             follow(board, page, traced, depth, stepped)
         }
-        Err(refusal) => {
-            tell_refusal(page, refusal)?;
-            Ok(Goes::Spent)
-        }
+        Err(refusal) => refuse_step(page, refusal),
     }
 }
 

@@ -93,23 +93,33 @@ fn write_out<K: Sink, B: Sights>(out: &mut K, session: &mut Session<B>) -> Resul
     Ok(())
 }
 
+/// Reads the next line of a configuration, and tells whether it is one: the line `---` ends it.
+fn next_of_text<S: Source + Drop>(lines: &mut Lines<S>) -> Result<bool, End> {
+    match lines.next()? {
+        Came::End => Err(End::NoSeparator),
+        Came::Long => Err(End::TooLong),
+        Came::Line => Ok(lines.line() != b"---".as_slice()),
+    }
+}
+
+/// Keeps a line of a configuration, as far as there may be more of it.
+fn keep_line(text: &mut Vec<u8>, line: &[u8]) -> Result<(), End> {
+    text.extend_from_slice(line)?;
+    text.push(b'\n')?;
+    if text.len() > MOST_BYTES {
+        return Err(End::TooLong);
+    }
+    Ok(())
+}
+
 /// Reads the lines of a configuration, to the line `---`.
 fn read_text<S: Source + Drop>(alloc: Global, lines: &mut Lines<S>) -> Result<Vec<u8>, End> {
     let mut text = Vec::new(alloc);
     for _ in 0..u64::MAX {
-        match lines.next()? {
-            Came::End => return Err(End::NoSeparator),
-            Came::Long => return Err(End::TooLong),
-            Came::Line => {}
-        }
-        if lines.line() == b"---".as_slice() {
+        if !next_of_text(lines)? {
             break;
         }
-        text.extend_from_slice(lines.whole())?;
-        text.push(b'\n')?;
-        if text.len() > MOST_BYTES {
-            return Err(End::TooLong);
-        }
+        keep_line(&mut text, lines.whole())?;
     }
     Ok(text)
 }
@@ -154,8 +164,45 @@ fn answer_all<S: Source + Drop, K: Sink, B: Sights>(
     Ok(false)
 }
 
-/// Reads a configuration, and answers what comes behind it. At each power on there are two new devices, of which the first
-/// answers each word's complement and the second the word that it was sent before.
+/// Answers what comes while the power is on, with two new devices, of which the first answers each word's complement and the
+/// second the word that it was sent before. Tells whether the board is switched off and on.
+fn answer_powered<S: Source + Drop, K: Sink, B: Sights>(
+    alloc: Global,
+    lines: &mut Lines<S>,
+    out: &mut K,
+    session: &mut Session<B>,
+) -> Result<bool, End> {
+    let mut rack: Vec<Box<dyn SerialDevice>> = Vec::new(alloc);
+    for echo in [false, true] {
+        rack.push(Box::new(alloc, PlainDevice::new(echo))?)?;
+    }
+    answer_all(alloc, lines, out, session, &mut rack)
+}
+
+/// Answers what comes behind the configuration, from one power on to the next.
+fn answer_on<S: Source + Drop, K: Sink, B: Sights>(
+    alloc: Global,
+    lines: &mut Lines<S>,
+    out: &mut K,
+    session: &mut Session<B>,
+) -> Result<(), End> {
+    for _ in 0..u64::MAX {
+        if !answer_powered(alloc, lines, out, session)? {
+            break;
+        }
+        session.power_on(alloc, DEVICES)?;
+    }
+    Ok(())
+}
+
+/// Tells what was counted.
+fn close<K: Sink, B: Sights>(out: &mut K, session: &mut Session<B>) -> Result<(), End> {
+    session.close()?;
+    write_out(out, session)?;
+    Ok(())
+}
+
+/// Reads a configuration, and answers what comes behind it.
 fn talk<S: Source + Drop, K: Sink, B: Sights>(
     alloc: Global,
     input: S,
@@ -164,18 +211,8 @@ fn talk<S: Source + Drop, K: Sink, B: Sights>(
     let mut lines = Lines::new(alloc, input);
     let text = read_text(alloc, &mut lines)?;
     let mut session: Session<B> = open(alloc, out, text)?;
-    for _ in 0..u64::MAX {
-        let mut rack: Vec<Box<dyn SerialDevice>> = Vec::new(alloc);
-        rack.push(Box::new(alloc, PlainDevice::new(false))?)?;
-        rack.push(Box::new(alloc, PlainDevice::new(true))?)?;
-        if !answer_all(alloc, &mut lines, out, &mut session, &mut rack)? {
-            break;
-        }
-        session.power_on(alloc, DEVICES)?;
-    }
-    session.close()?;
-    write_out(out, &mut session)?;
-    Ok(())
+    answer_on(alloc, &mut lines, out, &mut session)?;
+    close(out, &mut session)
 }
 
 /// A session, to its end.

@@ -8,7 +8,7 @@ use Rattle.mcal_base.specs.declared.directive.Order.TheVariants.{Tick, Level}
 use Rattle.run_model.specs.World.{World, world_start, world_after}
 use Rattle.run_model.specs.Machine.{Happening, Moves, Told, Outcome}
 use Rattle.run_model.specs.Frame.{state_by}
-use Rattle.machine_examples.specs.Told.{told_by, acting, serving}
+use Rattle.machine_examples.specs.Told.{outcome_told, acting, serving}
 use Rattle.mcu_machine.specs.Shown.{shown_words}
 use Rattle.mcu_machine.specs.Machine.{McuState, mcu_machine, first_state as mcu_first}
 use Rattle.mcu_machine.specs.Table.{table_of as mcu_of}
@@ -100,10 +100,10 @@ pub data Step : Type 0 where
   ShowsPins : (pulses : ℕ → Option Bool) → Step
 
 -- What is told or shown; none is told where a step isn't allowed.
-pub data Seen : Type 0 where
-  Tells : Option Told → Seen
-  Words : List (ℕ × List ℕ) → Seen
-  Levels : List (ℕ × Bool) → Seen
+pub data StepOutput : Type 0 where
+  Tells : Option Told → StepOutput
+  Words : List (ℕ × List ℕ) → StepOutput
+  Levels : List (ℕ × Bool) → StepOutput
 
 -- The outside, and the modules of a board.
 pub record Standing : Type 0 where
@@ -144,22 +144,22 @@ after b x ShowsRam = x
 after b x (ShowsPins pulses) = x
 
 -- what is told or shown at a step
-abbrev pub seen_at : Board → Standing → Step → Seen
-seen_at b x (ClockActs call) = Tells (told_by (of_clock b x (acting call)))
-seen_at b x (PinActs call) = Tells (told_by (of_pins b x (acting call)))
-seen_at b x (TimerActs call) = Tells (told_by (of_timers b x (acting call)))
-seen_at b x (TimerServes line) = Tells (told_by (of_timers b x (serving line)))
-seen_at b x (Hardware order) = Tells (told_by (of_clock b x (Moves order)))
+abbrev pub seen_at : Board → Standing → Step → StepOutput
+seen_at b x (ClockActs call) = Tells (outcome_told (of_clock b x (acting call)))
+seen_at b x (PinActs call) = Tells (outcome_told (of_pins b x (acting call)))
+seen_at b x (TimerActs call) = Tells (outcome_told (of_timers b x (acting call)))
+seen_at b x (TimerServes line) = Tells (outcome_told (of_timers b x (serving line)))
+seen_at b x (Hardware order) = Tells (outcome_told (of_clock b x (Moves order)))
 seen_at b x ShowsRam = Words (shown_words b.clock x.clock)
 seen_at b x (ShowsPins pulses) = Levels (shown_levels b.pins x.world x.pins pulses)
 
 -- what is seen at each step
-abbrev pub seen_from : Board → Standing → List Step → List Seen
+abbrev pub seen_from : Board → Standing → List Step → List StepOutput
 seen_from b x [] = []
 seen_from b x (h ∷ hs) = seen_at b x h ∷ seen_from b (after b x h) hs
 
 -- the same from power on
-abbrev pub seen : Board → List Step → List Seen
+abbrev pub seen : Board → List Step → List StepOutput
 seen b hs = seen_from b at_power_on hs
 
 -- ---- what happens

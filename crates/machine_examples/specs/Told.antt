@@ -22,14 +22,14 @@ world_by mac w s _ = w
 abbrev pub state_of : {State Call : Type 0} → Machine State Call → World → State → Happening Call → State
 state_of mac w s h = state_by s (mac.happens w s h)
 
-abbrev pub told_by : {State : Type 0} → Option (Outcome State) → Option Told
-told_by None = None
-told_by (Some out) = Some out.told
+abbrev pub outcome_told : {State : Type 0} → Option (Outcome State) → Option Told
+outcome_told None = None
+outcome_told (Some out) = Some out.told
 
 -- what is told at each happening, and none where one isn't allowed, which changes nothing
 abbrev pub told_from : {State Call : Type 0} → Machine State Call → World → State → List (Happening Call) → List (Option Told)
 told_from mac w s [] = []
-told_from mac w s (h ∷ hs) = told_by (mac.happens w s h) ∷ told_from mac (world_by mac w s h) (state_of mac w s h) hs
+told_from mac w s (h ∷ hs) = outcome_told (mac.happens w s h) ∷ told_from mac (world_by mac w s h) (state_of mac w s h) hs
 
 abbrev pub list_of : {A : Type 0} → Option A → List A
 list_of None = []

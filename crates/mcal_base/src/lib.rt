@@ -5,6 +5,7 @@
 mod answer;
 mod answer_name;
 mod argument_name;
+mod bits;
 mod config;
 mod directive;
 mod ends;
@@ -24,6 +25,7 @@ mod there;
 pub use answer::{Answer, Head, Words};
 pub use answer_name::AnswerName;
 pub use argument_name::ArgumentName;
+pub use bits::is_set;
 pub use config::adc::{
     AdcAccessMode, AdcConfig, AdcConversionMode, AdcGroup, AdcGroupReplacement, AdcHwUnit,
     AdcPriorityImplementation, AdcStreamBufferMode, AdcTriggerSource,

@@ -2,8 +2,7 @@
 
 ghost use Rattle.std.specs.Prelude.{◌≤◌, length};
 
-use live_modules::AllModules;
-use live_session::Session;
+use live_session::{Session, Sights};
 use mcal_config::{ConfigFault, Printed};
 use serial_devices::SerialDevice;
 use std::alloc::{AllocError, AllocFailed, Global};
@@ -44,11 +43,11 @@ pub(crate) fn status_of(cause: Unpowered) -> u32 {
 }
 
 /// A session under a configuration, with no device on the serial bus; where it is refused `fault` says why.
-pub(crate) fn session_of(
+pub(crate) fn session_of<B: Sights>(
     alloc: Global,
     fault: &mut String,
     text: &[u8],
-) -> Result<Session<AllModules>, Unpowered> {
+) -> Result<Session<B>, Unpowered> {
     if text.len() > MOST_BYTES {
         return Err(Unpowered::TooLong);
     }
@@ -66,9 +65,9 @@ pub(crate) fn session_of(
 }
 
 /// Answers a line. What was told before is forgotten.
-pub(crate) fn answer(
+pub(crate) fn answer<B: Sights>(
     alloc: Global,
-    session: &mut Session<AllModules>,
+    session: &mut Session<B>,
     line: &[u8],
 ) -> Result<(), AllocError> {
     session.forget_told();

@@ -53,7 +53,7 @@ use Rattle.mcal_drivers.proofs.SoundSerial.{array_length, channel_words, sound_s
 use Rattle.mcal_drivers.proofs.Stamps.{size_few}
 use Rattle.mcal_system.specs.Runs.{RestingRun, moment_after, moment_at}
 use Rattle.shown_rows.specs.Places.{HasWords}
-use Rattle.mcal_system.specs.Wires.{told_by}
+use Rattle.mcal_system.specs.Wires.{exchanges_of}
 use Rattle.shown_rows.specs.Wires.{pairs}
 use Rattle.mcal_system.specs.laws.Resting.{IsResting}
 use Rattle.mcal_system.proofs.WireTold.{words_told}
@@ -166,5 +166,5 @@ module _ {c : Config} {script : List Directive} {devices : ℕ} {es : List Entry
           (serial_related (drivers_of c) chip there.world there.state rests.relates)
 
   -- the words that the journal tells of a wire
-  pub wire_there : (unit : ℕ) → unit < 2 → pairs (told_by unit es) ≡ wire_at (moment_at r).state unit
-  wire_there unit lt = so (λ x. pairs (told_by unit es) ≡ wire_at (moment_at x).state unit) (words_told c unit lt devices script es rests.legal)
+  pub wire_there : (unit : ℕ) → unit < 2 → pairs (exchanges_of unit es) ≡ wire_at (moment_at r).state unit
+  wire_there unit lt = so (λ x. pairs (exchanges_of unit es) ≡ wire_at (moment_at x).state unit) (words_told c unit lt devices script es rests.legal)

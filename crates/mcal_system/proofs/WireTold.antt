@@ -37,7 +37,7 @@ use Rattle.spi_machine.specs.Transfers.{shown}
 use Rattle.mcal_system.specs.Runs.{moment_after}
 use Rattle.mcal_drivers.specs.Setting.{SystemState, SystemCall, system_setting, call_of}
 use Rattle.mcal_drivers.specs.Shows.{wire_at}
-use Rattle.mcal_system.specs.Wires.{Wire, untold, exchange, with_step, with_said, with_all, told_by}
+use Rattle.mcal_system.specs.Wires.{Wire, untold, exchange, with_step, with_said, with_all, exchanges_of}
 use Rattle.shown_rows.specs.Wires.{pairs}
 use Rattle.shown_rows.specs.declared.shown.Exchange.{Exchange}
 use Rattle.mcal_drivers.proofs.Growing.{step_grows}
@@ -291,7 +291,7 @@ module _ (c : Config) (u : ℕ) (lt : u < 2) where
   first_words = refl
 
   -- the words that a legal journal tells of are those of the wire
-  pub words_told : (devices : ℕ) (script : List Directive) (es : List Entry) → IsLegal g (start_moment g (chip_for devices c script)) (deeds_of call_of script es) → pairs (told_by u es) ≡ wire_at (moment_after devices c script es).state u
+  pub words_told : (devices : ℕ) (script : List Directive) (es : List Entry) → IsLegal g (start_moment g (chip_for devices c script)) (deeds_of call_of script es) → pairs (exchanges_of u es) ≡ wire_at (moment_after devices c script es).state u
   words_told devices script es legal =
       let start = start_moment g (chip_for devices c script) in
       let all = deeds_hold untold start (deeds_of call_of script es) legal (record { width = fresh_width 0 u lt; words = first_words }) in

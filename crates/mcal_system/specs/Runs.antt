@@ -92,10 +92,8 @@ pub record CallsDevices (before after : SystemRun) (old new : List Line) : Type 
   -- so the pairs and faults of each that is still there are those before, and the ones of those steps
   pub told : AreTold (system_setting before.config) (moment_of before) (deeds_of call_of before.script items) old new
 
--- an engine is over the drivers of its sound configuration, runs this script with so many devices, and makes at most so many steps
-pub record IsOver (engine : Run Drivers SystemFrame) (script : List Directive) (devices : ℕ) : Type 0 where
+-- an engine is over the drivers of its sound configuration, and makes at most so many steps
+pub record IsOver (engine : Run Drivers SystemFrame) : Type 0 where
   pub valid : IsValid engine.config
   pub made : engine.driver ≡ drivers_of engine.config
   pub limited : engine.limit ≡ most_steps
-  pub runs : script ≡ engine.script
-  pub hung : devices ≡ engine.devices

@@ -39,5 +39,5 @@ with_all u [] t = t
 with_all u (e ∷ es) t = with_all u es (with_said u e.said t)
 
 -- the words that a journal tells of
-abbrev pub told_by : (unit : ℕ) → List Entry → List Exchange
-told_by u es = (with_all u es untold).words
+abbrev pub exchanges_of : (unit : ℕ) → List Entry → List Exchange
+exchanges_of u es = (with_all u es untold).words

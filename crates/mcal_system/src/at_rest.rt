@@ -3,7 +3,7 @@ ghost use Rattle.std.specs.Option.{option_map};
 ghost use Rattle.adc_machine.specs.Words.{buffer_number};
 ghost use Rattle.mcal_system.specs.Runs.{shown_at};
 
-use crate::wires::told_by;
+use crate::wires::exchanges_of;
 use adc_driver::AdcDriver;
 use adc_machine::ResultBuffer;
 use chip_model::Bus;
@@ -83,7 +83,7 @@ impl ShownBoard for AtRest<'_> {
 
     /// They are read from the journal.
     fn wire(&self, alloc: Global, unit: u32) -> Result<Vec<Exchange>, AllocError> {
-        told_by(alloc, self.journal, unit)
+        exchanges_of(alloc, self.journal, unit)
     }
 }
 

@@ -28,8 +28,6 @@ pub const MOST_STEPS: u32 = 1_000_000;
 #[derive(Drop)]
 pub struct System<'s> {
     engine: Engine<'s, Drivers>,
-    script: &'s [Directive],
-    devices: usize,
 }
 
 impl<'s> Model for System<'s> {
@@ -39,7 +37,7 @@ impl<'s> Model for System<'s> {
 
     ghost view = { λ s. record { config = s.engine.config; script = s.engine.script; devices = s.engine.devices; obeyed = s.engine.obeyed; too_long = s.engine.too_long; journal = s.engine.journal } };
 
-    ghost invariant = { λ s. IsOver s.engine s.script.now s.devices };
+    ghost invariant = { λ s. IsOver s.engine };
 }
 
 impl<'s> System<'s> {
@@ -57,11 +55,7 @@ impl<'s> System<'s> {
     {
         let drivers = Drivers::new(&config);
         let engine = Engine::new(alloc, drivers, config, script, MOST_STEPS, devices)?;
-        Ok(System {
-            engine,
-            script,
-            devices,
-        })
+        Ok(System { engine })
     }
 
     /// Obeys the next directive of the script, unless one more step than the most would be taken: then the run is over.
@@ -133,8 +127,8 @@ impl<'s> System<'s> {
         let drivers = self.engine.driver();
         Some(AtRest {
             config: self.engine.config(),
-            script: self.script,
-            devices: self.devices,
+            script: self.engine.script(),
+            devices: self.engine.devices(),
             journal: self.engine.journal(),
             bus,
             captures: drivers.captures(),

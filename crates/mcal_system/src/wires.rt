@@ -83,12 +83,12 @@ fn masked(width: u32, word: u32) -> u32
 }
 
 /// The words that a journal tells of the wire of a serial unit since the last reset.
-pub(crate) fn told_by(
+pub(crate) fn exchanges_of(
     alloc: Global,
     journal: &Journal,
     unit: u32,
 ) -> Result<Vec<Exchange>, AllocError>
-    ensures { IfOk result (λ words. words.items ≡ spec.told_by unit journal.now.entries) }
+    ensures { IfOk result (λ words. words.items ≡ spec.exchanges_of unit journal.now.entries) }
 {
     let mut told = Told {
         width: 0,

@@ -48,7 +48,7 @@ pub use Rattle.service_outline.specs.{FrameHistory.{IsThisFrame}, Fuel.{Shortens
 pub use Rattle.service_outline.specs.{Services.{AllLet, AreLong, AreServices, AssertedAt, Beside, Decides, IsBasis}}
 pub use Rattle.service_outline.specs.{Services.{KeepsMask, LongBodies, mark_of, MayCome, place_at, PointAssertion}}
 pub use Rattle.service_outline.specs.{Services.{ReservedBy, Right, Services, services_driver, TurnsTo, Within, Works}}
-pub use Rattle.service_outline.specs.{Sweeping.{sweep, Sweeping}, WindowHistory.{is_windowed}}
+pub use Rattle.service_outline.specs.{SweepServices.{sweep, Sweeping}, WindowHistory.{is_windowed}}
 pub use Rattle.service_outline.specs.{WindowHistory.{Plain}, declared.body.Looked.{Looked}}
 pub use Rattle.service_outline.specs.{declared.body.Looked.TheVariants.{Goes, Refused}, declared.body.Or.{Or}}
 pub use Rattle.service_outline.specs.{declared.body.Or.TheVariants.{First, Second}, declared.done.BodyTaken.{BodyTaken}}
@@ -56,10 +56,10 @@ pub use Rattle.service_outline.specs.{declared.done.Done.{Done}, declared.done.E
 pub use Rattle.service_outline.specs.{declared.done.Epilogue.TheVariants.{Nothing}, declared.short.Short.{Short}}
 pub use Rattle.service_outline.specs.{declared.short.Short.TheVariants.{Calling, Entering, Inside, Loading, Opening}}
 pub use Rattle.service_outline.specs.{declared.short.Short.TheVariants.{Returning, Telling}}
-pub use Rattle.service_outline.specs.{declared.sweep.Place.TheVariants.{Opens}, declared.sweep.Sweep.{Sweep}}
+pub use Rattle.service_outline.specs.{declared.sweep.SweepStage.TheVariants.{Opens}, declared.sweep.Sweep.{Sweep}}
 pub use Rattle.service_outline.specs.laws.{Acts.{never_clean}, Both.{both_right}, Duties.{no_duties, no_units}}
 pub use Rattle.service_outline.specs.laws.{Reports.{error_told}, Seen.{free_windows}, ShortServices.{plain_makes}}
-pub use Rattle.service_outline.specs.laws.{ShortServices.{plain_turns}, StepKinds.{or_true}, Sweeping.{sweep_right}}
+pub use Rattle.service_outline.specs.laws.{ShortServices.{plain_turns}, StepKinds.{or_true}, SweepRight.{sweep_right}}
 pub use Rattle.service_outline.specs.laws.Words.{fills_there, stored_other, stored_same}
 pub use Rattle.service_outline.specs.laws.{Words.{stores_in, word_apart, word_later}}
 pub use Rattle.mcu_machine.specs.{Classes.{class_of}}

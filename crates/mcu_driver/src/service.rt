@@ -13,7 +13,7 @@ use clock::ClockBody;
 use fill::{Fill, FilledBody};
 use query::QueryBody;
 use reset::ResetBody;
-use service_outline::{Or, Place, Sweep};
+use service_outline::{Or, Sweep, SweepStage};
 use state::StateBody;
 
 /// The bodies of the calls that look at the chip or change a word or the clock.
@@ -52,6 +52,6 @@ pub(crate) fn reset_body(body: ResetBody) -> McuBody
 pub(crate) fn fill_body(objects: Fill) -> McuBody
     ensures { result ≡ spec.fill_body objects }
 {
-    let place = Place::Opens;
+    let place = SweepStage::Opens;
     Or::Second(Or::Second(Sweep { objects, place }))
 }

@@ -51,18 +51,18 @@ pub use Rattle.service_outline.specs.{Services.{AreServices, AssertedAt, Beside,
 pub use Rattle.service_outline.specs.{Services.{MakesWrites, mark_of, owners, place_at, PointAssertion, ReservedBy}}
 pub use Rattle.service_outline.specs.{Services.{Right, Services, services_driver, Steady, TurnsTo, with_holds, Within}}
 pub use Rattle.service_outline.specs.{Services.{WritesOn}, Short.{short_gave, short_left, short_move}, Sweep.{place_of}}
-pub use Rattle.service_outline.specs.{Sweeping.{sweep, Sweeping}, WindowHistory.{is_windowed}}
+pub use Rattle.service_outline.specs.{SweepServices.{sweep, Sweeping}, WindowHistory.{is_windowed}}
 pub use Rattle.service_outline.specs.{WindowHistory.{Plain}, declared.body.Looked.{Looked}}
 pub use Rattle.service_outline.specs.{declared.body.Looked.TheVariants.{Goes, Refused}, declared.body.Or.{Or}}
 pub use Rattle.service_outline.specs.{declared.body.Or.TheVariants.{First, Second}, declared.done.BodyTaken.{BodyTaken}}
 pub use Rattle.service_outline.specs.{declared.done.Done.{Done}, declared.done.Epilogue.TheVariants.{Nothing}}
-pub use Rattle.service_outline.specs.{declared.short.Short.{Short}, declared.sweep.Place.{Place}}
-pub use Rattle.service_outline.specs.{declared.sweep.Place.TheVariants.{At, Closes, Follows, Opens}}
+pub use Rattle.service_outline.specs.{declared.short.Short.{Short}, declared.sweep.SweepStage.{SweepStage}}
+pub use Rattle.service_outline.specs.{declared.sweep.SweepStage.TheVariants.{At, Closes, Follows, Opens}}
 pub use Rattle.service_outline.specs.{declared.sweep.Sweep.{Sweep}}
 pub use Rattle.service_outline.specs.laws.{Acts.{never_clean}, Both.{both_right}, Duties.{made_here, made_on, no_units}}
 pub use Rattle.service_outline.specs.laws.{Duties.{none_on, none_unless}, Lawful.{services_lawful}}
 pub use Rattle.service_outline.specs.laws.{Reports.{error_told}, Seen.{free_windows}, StepKinds.{or_true}}
-pub use Rattle.service_outline.specs.laws.{Sweep.{each_but, next_by}, Sweeping.{sweep_right}}
+pub use Rattle.service_outline.specs.laws.{SweepWords.{each_but, next_by}, SweepRight.{sweep_right}}
 pub use Rattle.service_outline.specs.laws.{Words.{fills_there, stored_same, stores_in, word_apart, word_later}}
 pub use Rattle.port_machine.specs.{Classes.{class_of}}
 pub use Rattle.port_machine.specs.Bounds.{call_steps, is_alone, is_guests, is_of_init, is_own_word, is_register}

@@ -10,7 +10,7 @@ ghost use Rattle.port_driver.specs.laws.Bodies as spec;
 use init::{InitDone, Setup};
 use pin::PinBody;
 use refresh::RefreshBody;
-use service_outline::{Or, Place, Sweep};
+use service_outline::{Or, Sweep, SweepStage};
 
 /// The body of `Port_Init`: a sweep over all its writes, and the act.
 pub type InitBody = Sweep<Setup, InitDone>;
@@ -21,7 +21,7 @@ pub type PortBody = Or<InitBody, Or<RefreshBody, PinBody>>;
 pub(crate) fn init_body(objects: Setup) -> PortBody
     ensures { result ≡ spec.init_body objects }
 {
-    let place = Place::Opens;
+    let place = SweepStage::Opens;
     Or::First(Sweep { objects, place })
 }
 

@@ -57,20 +57,20 @@ pub use Rattle.service_outline.specs.{Services.{is_closed, IsBasis, LongBodies, 
 pub use Rattle.service_outline.specs.{Services.{over, place_at, PointAssertion, Right, Services, services_driver}}
 pub use Rattle.service_outline.specs.{Services.{Steady, TurnsMask, TurnsTo, with_holds, Within, WritesOn}}
 pub use Rattle.service_outline.specs.{Short.{short_gave, short_left, short_move}, ShortServices.{above, AsksNone}}
-pub use Rattle.service_outline.specs.{ShortServices.{short}, Sweep.{place_of}, Sweeping.{sweep, Sweeping}}
+pub use Rattle.service_outline.specs.{ShortServices.{short}, Sweep.{place_of}, SweepServices.{sweep, Sweeping}}
 pub use Rattle.service_outline.specs.WindowHistory.{Acted, Acting, is_windowed, Plain, Sees}
 pub use Rattle.service_outline.specs.{WindowHistory.{SeesTo, Starts, WindowHistory}, declared.body.Looked.{Looked}}
 pub use Rattle.service_outline.specs.{declared.body.Looked.TheVariants.{Goes, Refused}, declared.body.Or.{Or}}
 pub use Rattle.service_outline.specs.{declared.body.Or.TheVariants.{First, Second}, declared.done.BodyTaken.{BodyTaken}}
 pub use Rattle.service_outline.specs.{declared.done.Done.{Done}, declared.done.Epilogue.TheVariants.{Nothing, One}}
-pub use Rattle.service_outline.specs.{declared.short.Short.{Short}, declared.sweep.Place.{Place}}
-pub use Rattle.service_outline.specs.{declared.sweep.Place.TheVariants.{At, Closes, Follows, Opens}}
+pub use Rattle.service_outline.specs.{declared.short.Short.{Short}, declared.sweep.SweepStage.{SweepStage}}
+pub use Rattle.service_outline.specs.{declared.sweep.SweepStage.TheVariants.{At, Closes, Follows, Opens}}
 pub use Rattle.service_outline.specs.{declared.sweep.Sweep.{Sweep}}
 pub use Rattle.service_outline.specs.laws.{Acts.{never_clean}, Both.{both_right}, Duties.{made_here, made_on, no_units}}
 pub use Rattle.service_outline.specs.laws.{Duties.{none_on, none_unless}, Lawful.{services_lawful}}
 pub use Rattle.service_outline.specs.laws.{Reports.{error_told}, Seen.{begun_after, plain_sees, sees_if}}
 pub use Rattle.service_outline.specs.laws.{ShortServices.{plain_makes, plain_turns, short_right}, StepKinds.{asks_no}}
-pub use Rattle.service_outline.specs.laws.{StepKinds.{or_true}, Sweep.{each_but}, Sweeping.{sweep_right}}
+pub use Rattle.service_outline.specs.laws.{StepKinds.{or_true}, SweepWords.{each_but}, SweepRight.{sweep_right}}
 pub use Rattle.service_outline.specs.laws.Words.{fills_there, stored_other, stored_same}
 pub use Rattle.service_outline.specs.laws.{Words.{stores_in, word_apart, word_later}}
 pub use Rattle.pwm_machine.specs.{Classes.{class_of}}

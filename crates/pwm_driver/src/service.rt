@@ -16,7 +16,7 @@ use notify::NotifyBody;
 use output::OutputBody;
 use rest::RestBody;
 use serve::ServeBody;
-use service_outline::{Or, Place, Sweep};
+use service_outline::{Or, Sweep, SweepStage};
 
 /// The bodies of the calls about the whole module.
 pub type ModuleBody = Or<Sweep<Setup, InitBody>, DeInitBody>;
@@ -30,7 +30,7 @@ pub type PwmBody = Or<ModuleBody, Or<ChannelBody, ServeBody>>;
 pub(crate) fn init_body(objects: Setup) -> PwmBody
     ensures { result ≡ spec.init_body objects }
 {
-    let place = Place::Opens;
+    let place = SweepStage::Opens;
     Or::First(Or::First(Sweep { objects, place }))
 }
 

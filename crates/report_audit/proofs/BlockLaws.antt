@@ -7,7 +7,7 @@ use Rattle.mcal_base.specs.declared.directive.Directive.{Directive}
 use Rattle.mcal_base.specs.declared.directive.Request.{Request}
 use Rattle.mcal_base.specs.facts.Truths.{off_on, on_off}
 use Rattle.run_model.specs.Moment.{Setting}
-use Rattle.report_reading.specs.Blocks.{Place, IsBlock, begins_with, behind, block_lines, own_lines, place_after, printed}
+use Rattle.report_reading.specs.Blocks.{AuditState, IsBlock, begins_with, behind, block_lines, own_lines, place_after, printed}
 use Rattle.report_text.specs.Unread.{Unread, begun, is_empty, own, own_text}
 use Rattle.report_text.proofs.Owning.{over, over_is}
 use Rattle.trace_reader.specs.Reading.{parts_of}
@@ -34,7 +34,7 @@ none_counted (line ∷ lines) e = off_on e
 counted_all : (a b n m : ℕ) → a + n ≡ b + m → n ≡ 0 → a ≡ b + m
 counted_all a b n m e none = omega (arith, e, none)
 
-module _ {State Call : Type 0} (g : Setting State Call) (call_of : Request → Call) (showing : Showing State) (p : Place State Call) (d : Directive) (Stands : Place State Call → Type 0) (before after : Unread) where
+module _ {State Call : Type 0} (g : Setting State Call) (call_of : Request → Call) (showing : Showing State) (p : AuditState State Call) (d : Directive) (Stands : AuditState State Call → Type 0) (before after : Unread) where
   -- what a block is, its items print
   pub items_of_block : (text : List ℕ) (b : IsBlock g call_of showing p d text) → PrintsItems g call_of showing p d (block_lines g call_of showing p d b.items) (place_after g call_of showing p d b.items)
   items_of_block text b = record { items = b.items; fits = b.fits; gives = b.gives; legal = b.legal; prints = refl; leads = refl }

@@ -30,7 +30,7 @@ use Rattle.run_model.specs.Script.{order_at, deed_of}
 use Rattle.run_model.specs.declared.stop_condition.StopCondition.{StopCondition}
 use Rattle.run_model.specs.declared.stop_condition.StopCondition.TheVariants.{Count, Until, Whole}
 use Rattle.run_model.proofs.LegalLaws.{served-first}
-use Rattle.report_reading.specs.Blocks.{Place, block_lines, counted, place_after}
+use Rattle.report_reading.specs.Blocks.{AuditState, block_lines, counted, place_after}
 use Rattle.report_reading.specs.Steps.{Comes, HasSteps}
 use Rattle.report_reading.proofs.Printing.{has_items, are_printed}
 use Rattle.report_audit.specs.Directives.{PrintsBeginning, PrintsGoingOver, PrintsHardware, PrintsOrder, PrintsShowOver, PrintsThrough, PrintsTicksTo, begun_to}
@@ -46,7 +46,7 @@ match_by true t e h f k = f e h
 match_by false t e h f k = k e h
 
 -- a place by its parts
-place_is : {State Call : Type 0} (q : Place State Call) (m : Moment State Call) (frames : List Purpose) (tally : Tally) → m ≡ q.moment → frames ≡ q.frames → tally ≡ q.tally → placed m frames tally ≡ q
+place_is : {State Call : Type 0} (q : AuditState State Call) (m : Moment State Call) (frames : List Purpose) (tally : Tally) → m ≡ q.moment → frames ≡ q.frames → tally ≡ q.tally → placed m frames tally ≡ q
 place_is {State} {Call} q m frames tally e f k =
     ap (λ (x : Moment State Call). placed x frames tally) e ∙ (ap (λ (x : List Purpose). placed q.moment x tally) f ∙ ap (λ (x : Tally). placed q.moment q.frames x) k)
 
@@ -75,7 +75,7 @@ one_more n h = omega arith
 few : (n : ℕ) → n < 4294967295 → n < 4294967296
 few n h = omega arith
 
-module _ {State Call : Type 0} (g : Setting State Call) (call_of : Request → Call) (showing : Showing State) (p : Place State Call) (line : ℕ) (number : IsNumber line) (small : length p.moment.opens < 4294967295) (served : IsServed g p.moment) where
+module _ {State Call : Type 0} (g : Setting State Call) (call_of : Request → Call) (showing : Showing State) (p : AuditState State Call) (line : ℕ) (number : IsNumber line) (small : length p.moment.opens < 4294967295) (served : IsServed g p.moment) where
   -- the directive of an order at this line
   abbrev here : Order → Directive
   here order = record { line = line; order = order }
@@ -84,8 +84,8 @@ module _ {State Call : Type 0} (g : Setting State Call) (call_of : Request → C
   depth = few (length p.moment.opens) small
 
   -- what lines say of an order is what its items print
-  abbrev Same : Order → (List Line → Place State Call → Type 0) → Type 0
-  Same order Prints = (lines : List Line) (there : Place State Call) → (Prints lines there → PrintsItems g call_of showing p (here order) lines there) × (PrintsItems g call_of showing p (here order) lines there → Prints lines there)
+  abbrev Same : Order → (List Line → AuditState State Call → Type 0) → Type 0
+  Same order Prints = (lines : List Line) (there : AuditState State Call) → (Prints lines there → PrintsItems g call_of showing p (here order) lines there) × (PrintsItems g call_of showing p (here order) lines there → Prints lines there)
 
   -- ---- what shows nothing has no rows
 
@@ -128,7 +128,7 @@ module _ {State Call : Type 0} (g : Setting State Call) (call_of : Request → C
     lines_on : (steps : List Entry) → Gives g call_of p.moment line order (begins steps) → block_lines g call_of showing p (here order) (begins steps) ≡ with_done (chapter_lines true order (purpose ∷ p.frames) [] steps)
     lines_on steps gives = quiet_lines order (begins steps) quiet gives ∙ ap (λ (fs : List Purpose). with_done (chapter_lines true order fs [] steps)) frames
 
-    whole_prints : (held : Option Held) (lines : List Line) (there : Place State Call) → ((items : List Entry) → BeginsWhole g p.moment line (beginning x level) held items → Gives g call_of p.moment line order items)
+    whole_prints : (held : Option Held) (lines : List Line) (there : AuditState State Call) → ((items : List Entry) → BeginsWhole g p.moment line (beginning x level) held items → Gives g call_of p.moment line order items)
         → PrintsBeginning g true p x level purpose held lines there → PrintsItems g call_of showing p (here order) lines there
     whole_prints (Some cause) lines there gives h = held_prints g call_of showing p (here order) cause lines there number depth served (gives (one g call_of showing p (here order) (entry.Stays cause)) refl) h
     whole_prints None lines there gives h =
@@ -144,7 +144,7 @@ module _ {State Call : Type 0} (g : Setting State Call) (call_of : Request → C
         }
 
     -- what items say that begin so
-    begun_prints : (lines : List Line) (there : Place State Call) (y : PrintsItems g call_of showing p (here order) lines there) (steps : List Entry) → y.items ≡ begins steps → GoesOn g line Whole 0 begun steps
+    begun_prints : (lines : List Line) (there : AuditState State Call) (y : PrintsItems g call_of showing p (here order) lines there) (steps : List Entry) → y.items ≡ begins steps → GoesOn g line Whole 0 begun steps
         → Comes g p.moment (beginning x level) × PrintsOn g Whole 0 true (begun_to g p x level purpose) lines there
     begun_prints lines there y steps is goes =
         let fits : Each EntryFits (begins steps) = subst (λ (es : List Entry). Each EntryFits es) is y.fits in
@@ -159,14 +159,14 @@ module _ {State Call : Type 0} (g : Setting State Call) (call_of : Request → C
           goes = goes;
           legal = legal.3;
           prints = sym (lines_on steps gives) ∙ prints;
-          leads = sym (moment_on steps) ∙ ap (λ (q : Place State Call). q.moment) leads;
-          leaves = sym (frames_on steps) ∙ ap (λ (q : Place State Call). q.frames) leads;
+          leads = sym (moment_on steps) ∙ ap (λ (q : AuditState State Call). q.moment) leads;
+          leaves = sym (frames_on steps) ∙ ap (λ (q : AuditState State Call). q.frames) leads;
         } in (
           record { time = legal.1; legal = legal.2; served = served-first g begun (deeds_in call_of order steps) legal.3 },
-          record { steps = are_printed g call_of order [] line Whole has; tally = sym (ap (λ (q : Place State Call). q.tally) leads) ∙ ap (counted p.tally) prints },
+          record { steps = are_printed g call_of order [] line Whole has; tally = sym (ap (λ (q : AuditState State Call). q.tally) leads) ∙ ap (counted p.tally) prints },
         )
 
-    prints_whole : (held : Option Held) (lines : List Line) (there : Place State Call) (y : PrintsItems g call_of showing p (here order) lines there) → BeginsWhole g p.moment line (beginning x level) held y.items
+    prints_whole : (held : Option Held) (lines : List Line) (there : AuditState State Call) (y : PrintsItems g call_of showing p (here order) lines there) → BeginsWhole g p.moment line (beginning x level) held y.items
         → PrintsBeginning g true p x level purpose held lines there
     prints_whole (Some cause) lines there y h = prints_held g call_of showing p (here order) cause lines there y h
     prints_whole None lines there y h = begun_prints lines there y h.steps h.is h.goes
@@ -174,7 +174,7 @@ module _ {State Call : Type 0} (g : Setting State Call) (call_of : Request → C
   -- ---- steps
 
   module _ (order : Order) (quiet : is_show order ≡ false) where
-    going_prints : (reach : StopCondition) (lines : List Line) (there : Place State Call) → ((items : List Entry) → GoesOn g line reach 0 p.moment items → Gives g call_of p.moment line order items)
+    going_prints : (reach : StopCondition) (lines : List Line) (there : AuditState State Call) → ((items : List Entry) → GoesOn g line reach 0 p.moment items → Gives g call_of p.moment line order items)
         → PrintsOn g reach 0 true p lines there → PrintsItems g call_of showing p (here order) lines there
     going_prints reach lines there gives h =
         let k = has_items g call_of order [] line reach 0 true p.moment p.frames number h.steps depth served in
@@ -188,7 +188,7 @@ module _ {State Call : Type 0} (g : Setting State Call) (call_of : Request → C
           leads = place_is there _ _ _ k.leads k.leaves (ap (counted p.tally) (quiet_lines order k.items quiet given ∙ k.prints) ∙ sym h.tally);
         }
 
-    prints_going : (reach : StopCondition) (lines : List Line) (there : Place State Call) (y : PrintsItems g call_of showing p (here order) lines there) → GoesOn g line reach 0 p.moment y.items → PrintsOn g reach 0 true p lines there
+    prints_going : (reach : StopCondition) (lines : List Line) (there : AuditState State Call) (y : PrintsItems g call_of showing p (here order) lines there) → GoesOn g line reach 0 p.moment y.items → PrintsOn g reach 0 true p lines there
     prints_going reach lines there y goes = record {
       steps = are_printed g call_of order [] line reach (record {
         items = y.items;
@@ -196,14 +196,14 @@ module _ {State Call : Type 0} (g : Setting State Call) (call_of : Request → C
         goes = goes;
         legal = y.legal;
         prints = sym (quiet_lines order y.items quiet y.gives) ∙ y.prints;
-        leads = ap (λ (q : Place State Call). q.moment) y.leads;
-        leaves = ap (λ (q : Place State Call). q.frames) y.leads;
+        leads = ap (λ (q : AuditState State Call). q.moment) y.leads;
+        leaves = ap (λ (q : AuditState State Call). q.frames) y.leads;
       });
-      tally = sym (ap (λ (q : Place State Call). q.tally) y.leads) ∙ ap (counted p.tally) y.prints;
+      tally = sym (ap (λ (q : AuditState State Call). q.tally) y.leads) ∙ ap (counted p.tally) y.prints;
     }
 
     -- nothing is done
-    none_prints : (lines : List Line) (there : Place State Call) → Gives g call_of p.moment line order [] → (lines ≡ Done ∷ []) × (there ≡ p) → PrintsItems g call_of showing p (here order) lines there
+    none_prints : (lines : List Line) (there : AuditState State Call) → Gives g call_of p.moment line order [] → (lines ≡ Done ∷ []) × (there ≡ p) → PrintsItems g call_of showing p (here order) lines there
     none_prints lines there gives h = record {
       items = [];
       fits = tt;
@@ -213,13 +213,13 @@ module _ {State Call : Type 0} (g : Setting State Call) (call_of : Request → C
       leads = place_is p _ _ _ refl refl (sym (counted_ok p.tally)) ∙ sym h.1;
     }
 
-    prints_none : (lines : List Line) (there : Place State Call) (y : PrintsItems g call_of showing p (here order) lines there) → y.items ≡ [] → (lines ≡ Done ∷ []) × (there ≡ p)
+    prints_none : (lines : List Line) (there : AuditState State Call) (y : PrintsItems g call_of showing p (here order) lines there) → y.items ≡ [] → (lines ≡ Done ∷ []) × (there ≡ p)
     prints_none lines there y is = (
       sym (subst (λ (es : List Entry). block_lines g call_of showing p (here order) es ≡ lines) is y.prints),
       sym (subst (λ (es : List Entry). place_after g call_of showing p (here order) es ≡ there) is y.leads) ∙ place_is p _ _ _ refl refl (sym (counted_ok p.tally)),
     )
 
-    goes_prints : (reach : StopCondition) (os : List (Open Call)) (lines : List Line) (there : Place State Call) → ((items : List Entry) → Goes g line reach p.moment os items → Gives g call_of p.moment line order items)
+    goes_prints : (reach : StopCondition) (os : List (Open Call)) (lines : List Line) (there : AuditState State Call) → ((items : List Entry) → Goes g line reach p.moment os items → Gives g call_of p.moment line order items)
         → PrintsGoingOver g reach p os lines there → PrintsItems g call_of showing p (here order) lines there
     goes_prints reach [] lines there gives h = held_prints g call_of showing p (here order) Empty lines there number depth served (gives (one g call_of showing p (here order) (entry.Stays Empty)) refl) h
     goes_prints (Count zero) (o ∷ os) lines there gives h = none_prints lines there (gives [] refl) h
@@ -227,7 +227,7 @@ module _ {State Call : Type 0} (g : Setting State Call) (call_of : Request → C
     goes_prints (Until stop) (o ∷ os) lines there gives h = going_prints (Until stop) lines there gives h
     goes_prints Whole (o ∷ os) lines there gives h = going_prints Whole lines there gives h
 
-    prints_goes : (reach : StopCondition) (os : List (Open Call)) (lines : List Line) (there : Place State Call) (y : PrintsItems g call_of showing p (here order) lines there) → Goes g line reach p.moment os y.items
+    prints_goes : (reach : StopCondition) (os : List (Open Call)) (lines : List Line) (there : AuditState State Call) (y : PrintsItems g call_of showing p (here order) lines there) → Goes g line reach p.moment os y.items
         → PrintsGoingOver g reach p os lines there
     prints_goes reach [] lines there y h = prints_held g call_of showing p (here order) Empty lines there y h
     prints_goes (Count zero) (o ∷ os) lines there y h = prints_none lines there y h
@@ -243,13 +243,13 @@ module _ {State Call : Type 0} (g : Setting State Call) (call_of : Request → C
     through left rest = ticks_through line (length p.moment.opens) left rest
 
     -- the place behind the reset
-    abbrev fallen : ℕ → Place State Call
+    abbrev fallen : ℕ → AuditState State Call
     fallen left = restarted g (waited_to g p left) Watchdog
 
     reset_tally : counted p.tally (Restarts Watchdog (length p.moment.opens) ∷ []) ≡ p.tally
     reset_tally = makes_uncounted p.tally (Restarts Watchdog (length p.moment.opens)) [] refl refl refl refl refl ∙ sym (counted_none p.tally)
 
-    through_prints : (left rest : ℕ) (lines : List Line) (there : Place State Call) → IsNumber left → IsNumber rest → Gives g call_of p.moment line (orders.Tick n) (through left rest) → PrintsThrough g p left rest lines there
+    through_prints : (left rest : ℕ) (lines : List Line) (there : AuditState State Call) → IsNumber left → IsNumber rest → Gives g call_of p.moment line (orders.Tick n) (through left rest) → PrintsThrough g p left rest lines there
         → PrintsItems g call_of showing p (here (orders.Tick n)) lines there
     through_prints left zero lines there l r gives h = record {
       items = through left zero;
@@ -268,7 +268,7 @@ module _ {State Call : Type 0} (g : Setting State Call) (call_of : Request → C
       leads = place_is (waited_to g (fallen left) (suc rest)) _ _ _ refl refl reset_tally ∙ sym h.leads.1;
     }
 
-    prints_through : (left rest : ℕ) (lines : List Line) (there : Place State Call) → IsLegal g p.moment (deeds_in call_of (orders.Tick n) (through left rest)) → block_lines g call_of showing p (here (orders.Tick n)) (through left rest) ≡ lines
+    prints_through : (left rest : ℕ) (lines : List Line) (there : AuditState State Call) → IsLegal g p.moment (deeds_in call_of (orders.Tick n) (through left rest)) → block_lines g call_of showing p (here (orders.Tick n)) (through left rest) ≡ lines
         → place_after g call_of showing p (here (orders.Tick n)) (through left rest) ≡ there → PrintsThrough g p left rest lines there
     prints_through left zero lines there legal prints leads = record {
       comes = record { time = legal.1; legal = legal.2; served = legal.3.0 };
@@ -283,7 +283,7 @@ module _ {State Call : Type 0} (g : Setting State Call) (call_of : Request → C
       leads = (record { time = legal.3.3.1; legal = legal.3.3.2; served = legal.3.3.3 }, sym leads ∙ place_is (waited_to g (fallen left) (suc rest)) _ _ _ refl refl reset_tally);
     }
 
-    ticks_print : (left : Option ℕ) (lines : List Line) (there : Place State Call) → ((items : List Entry) → Ticks p.moment line n left items → Gives g call_of p.moment line (orders.Tick n) items)
+    ticks_print : (left : Option ℕ) (lines : List Line) (there : AuditState State Call) → ((items : List Entry) → Ticks p.moment line n left items → Gives g call_of p.moment line (orders.Tick n) items)
         → PrintsTicksTo g p n left lines there → PrintsItems g call_of showing p (here (orders.Tick n)) lines there
     ticks_print None lines there gives h = deed_prints g call_of showing p (here (orders.Tick n)) (orders.Tick n) refl refl refl fits lines there number depth served (gives (one g call_of showing p (here (orders.Tick n)) (entry.Happens (orders.Tick n))) refl) h
     ticks_print (Some left) lines there gives h =
@@ -291,7 +291,7 @@ module _ {State Call : Type 0} (g : Setting State Call) (call_of : Request → C
         (λ early k. deed_prints g call_of showing p (here (orders.Tick n)) (orders.Tick n) refl refl refl fits lines there number depth served (gives (one g call_of showing p (here (orders.Tick n)) (entry.Happens (orders.Tick n))) (rw early refl)) k)
         (λ late k. let small_rest = rest_fits n left late fits in through_prints left (n - left) lines there small_rest.0 small_rest.1 (gives (through left (n - left)) (rw late refl)) k)
 
-    prints_ticks : (left : Option ℕ) (lines : List Line) (there : Place State Call) (y : PrintsItems g call_of showing p (here (orders.Tick n)) lines there) → Ticks p.moment line n left y.items → PrintsTicksTo g p n left lines there
+    prints_ticks : (left : Option ℕ) (lines : List Line) (there : AuditState State Call) (y : PrintsItems g call_of showing p (here (orders.Tick n)) lines there) → Ticks p.moment line n left y.items → PrintsTicksTo g p n left lines there
     prints_ticks None lines there y h = prints_deed g call_of showing p (here (orders.Tick n)) (orders.Tick n) refl refl refl fits lines there y h
     prints_ticks (Some left) lines there y h =
         match_by (nat_lt n left) (nat_lt n left) refl h
@@ -314,7 +314,7 @@ module _ {State Call : Type 0} (g : Setting State Call) (call_of : Request → C
     show_leads : place_after g call_of showing p (here (orders.Show what)) show_item ≡ p
     show_leads = place_is p _ _ _ refl refl (ap (counted p.tally) show_lines ∙ shown_uncounted p.tally shown)
 
-    show_prints : (os : List (Open Call)) (lines : List Line) (there : Place State Call) → ((items : List Entry) → follows.Shows p.moment line (orders.Show what) os items → Gives g call_of p.moment line (orders.Show what) items)
+    show_prints : (os : List (Open Call)) (lines : List Line) (there : AuditState State Call) → ((items : List Entry) → follows.Shows p.moment line (orders.Show what) os items → Gives g call_of p.moment line (orders.Show what) items)
         → PrintsShowOver showing p what os lines there → PrintsItems g call_of showing p (here (orders.Show what)) lines there
     show_prints [] lines there gives h = record {
       items = show_item;
@@ -326,7 +326,7 @@ module _ {State Call : Type 0} (g : Setting State Call) (call_of : Request → C
     }
     show_prints (o ∷ os) lines there gives h = held_prints g call_of showing p (here (orders.Show what)) Frames lines there number depth served (gives (one g call_of showing p (here (orders.Show what)) (entry.Stays Frames)) refl) h
 
-    prints_show : (os : List (Open Call)) (lines : List Line) (there : Place State Call) (y : PrintsItems g call_of showing p (here (orders.Show what)) lines there) → follows.Shows p.moment line (orders.Show what) os y.items
+    prints_show : (os : List (Open Call)) (lines : List Line) (there : AuditState State Call) (y : PrintsItems g call_of showing p (here (orders.Show what)) lines there) → follows.Shows p.moment line (orders.Show what) os y.items
         → PrintsShowOver showing p what os lines there
     prints_show [] lines there y is = (
       sym (subst (λ (es : List Entry). block_lines g call_of showing p (here (orders.Show what)) es ≡ lines) is y.prints) ∙ show_lines,

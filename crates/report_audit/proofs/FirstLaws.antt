@@ -11,7 +11,7 @@ use Rattle.audit_base.specs.declared.outside.Outside.{Outside}
 use Rattle.audit_frames.specs.Kept.{Kept}
 use Rattle.audit_frames.specs.StackRules.{StandAll}
 use Rattle.audit_subject.specs.Product.{member_of}
-use Rattle.report_reading.specs.Blocks.{Place, place_from}
+use Rattle.report_reading.specs.Blocks.{AuditState, place_from}
 use Rattle.report_auditor.specs.Auditing.{AllCommitted, Auditing, IsSound, Stands, purposes_by}
 use Rattle.report_auditor.specs.Seeing.{Agreeing, IsSeen, nothing}
 use Rattle.report_auditor.proofs.SeenLaws.{seen_nothing}
@@ -37,7 +37,7 @@ used_are setting member member_is x t used same is = is ∙ (ap (λ y. bits_of (
 module _ {Parts Table State Call : Type 0} (agrees : Agreeing Table State) (setting : Table → Setting State Call) (table : Parts → Table) (stands : Parts → State → Type 0) (fits : Parts → Outside → Type 0) (within : Parts → Type 0) (t : Table) (a : Auditing Parts Call) (chip : Chip)
     (on : ArePoweredOn setting table stands fits within t a.parts a.outside) (chip_is : a.chip ≡ hung a.devices chip) (frames : a.frames ≡ []) (origins : a.origins ≡ []) where
   -- where it stands
-  abbrev pub first : Place State Call
+  abbrev pub first : AuditState State Call
   first = place_from (start_moment (setting t) (hung a.devices chip))
 
   pub first_stands : a.tally ≡ nothing_counted → (used : ℕ) → used ≡ bits_of (setting t).used 32 → a.seen ≡ nothing used → Stands agrees setting table stands t a first

@@ -15,7 +15,7 @@ use Rattle.run_model.proofs.LegalLaws.{served-first, served-last}
 use Rattle.script_runner.specs.Scripts.{words_given}
 use Rattle.script_runner.specs.Standing.{words_by}
 use Rattle.report_reading.specs.Audits.{Audits, Ends, Unended, Unserved, Next, Refused}
-use Rattle.report_reading.specs.Blocks.{Place, IsBlock, behind, own_lines, place_after, text_of}
+use Rattle.report_reading.specs.Blocks.{AuditState, IsBlock, behind, own_lines, place_after, text_of}
 use Rattle.report_reading.specs.declared.verdict.Verdict.{Verdict}
 use Rattle.report_reading.specs.declared.verdict.Verdict.TheVariants.{Passed, Fault}
 use Rattle.report_text.specs.Unread as unread
@@ -57,20 +57,20 @@ line_after after before n e = omega (arith, e)
 module _ {State Call : Type 0} (g : Setting State Call) (call_of : Request → Call) (showing : Showing State) where
   -- ---- from a moment that isn't served
 
-  pub unserved : (first : Place State Call) (script : List Directive) (line : ℕ) (left : List (List ℕ)) → (IsServed g first.moment → ⊥) → Audits g call_of showing first script line left (Fault line)
+  pub unserved : (first : AuditState State Call) (script : List Directive) (line : ℕ) (left : List (List ℕ)) → (IsServed g first.moment → ⊥) → Audits g call_of showing first script line left (Fault line)
   unserved first [] line left none = Unserved none
   unserved first (d ∷ ds) line left none = Refused (λ b. none (served-first g first.moment (deeds_in call_of d.order b.items) b.legal))
 
-  module _ (first : Place State Call) (script : List Directive) (whole : Unread) where
-    pub starts : (Stands : Place State Call → Type 0) → Stands first → IsServed g first.moment → ComesTo g call_of showing Stands first script whole script whole
+  module _ (first : AuditState State Call) (script : List Directive) (whole : Unread) where
+    pub starts : (Stands : AuditState State Call → Type 0) → Stands first → IsServed g first.moment → ComesTo g call_of showing Stands first script whole script whole
     starts Stands stands served = record { place = first; stands = stands; served = served; on = λ verdict h. h }
 
     -- what is left, in other words
-    pub comes_as : (Stands : Place State Call → Type 0) (left more : List Directive) (now : Unread) → left ≡ more → ComesTo g call_of showing Stands first script whole left now → ComesTo g call_of showing Stands first script whole more now
+    pub comes_as : (Stands : AuditState State Call → Type 0) (left more : List Directive) (now : Unread) → left ≡ more → ComesTo g call_of showing Stands first script whole left now → ComesTo g call_of showing Stands first script whole more now
     comes_as Stands left more now e h = subst (λ (ds : List Directive). ComesTo g call_of showing Stands first script whole ds now) e h
 
     -- the block of the next directive was taken
-    pub goes_on : (Stands Later : Place State Call → Type 0) (d : Directive) (ds : List Directive) (before after : Unread) (c : ComesTo g call_of showing Stands first script whole (d ∷ ds) before)
+    pub goes_on : (Stands Later : AuditState State Call → Type 0) (d : Directive) (ds : List Directive) (before after : Unread) (c : ComesTo g call_of showing Stands first script whole (d ∷ ds) before)
         → BlockTaken g call_of showing c.place d Later before after → ComesTo g call_of showing Later first script whole ds after
     goes_on Stands Later d ds before after c h =
         let there = place_after g call_of showing c.place d h.block.items in
@@ -86,17 +86,17 @@ module _ {State Call : Type 0} (g : Setting State Call) (call_of : Request → C
         }
 
     -- it is refused
-    pub refused : (Stands : Place State Call → Type 0) (d : Directive) (ds : List Directive) (now : Unread) (c : ComesTo g call_of showing Stands first script whole (d ∷ ds) now)
+    pub refused : (Stands : AuditState State Call → Type 0) (d : Directive) (ds : List Directive) (now : Unread) (c : ComesTo g call_of showing Stands first script whole (d ∷ ds) now)
         → (IsBlock g call_of showing c.place d (text_of (own_lines d.line (parts_of now.left))) → ⊥) → Audits g call_of showing first script (whole.read + 1) (parts_of whole.left) (Fault (now.read + 1))
     refused Stands d ds now c none = c.on (Fault (now.read + 1)) (Refused none)
 
     -- by what was answered of it
-    pub goes_on_right : (Stands Later : Place State Call → Type 0) (d : Directive) (ds : List Directive) (before after : Unread) (c : ComesTo g call_of showing Stands first script whole (d ∷ ds) before) (right : Bool) → right ≡ true
+    pub goes_on_right : (Stands Later : AuditState State Call → Type 0) (d : Directive) (ds : List Directive) (before after : Unread) (c : ComesTo g call_of showing Stands first script whole (d ∷ ds) before) (right : Bool) → right ≡ true
         → BlockRight g call_of showing c.place d Later before after right → ComesTo g call_of showing Later first script whole ds after
     goes_on_right Stands Later d ds before after c true e h = goes_on Stands Later d ds before after c h
     goes_on_right Stands Later d ds before after c false e h = off_on e
 
-    pub refused_at : (Stands Later : Place State Call → Type 0) (d : Directive) (ds : List Directive) (before after : Unread) (c : ComesTo g call_of showing Stands first script whole (d ∷ ds) before) (right : Bool) → right ≡ false
+    pub refused_at : (Stands Later : AuditState State Call → Type 0) (d : Directive) (ds : List Directive) (before after : Unread) (c : ComesTo g call_of showing Stands first script whole (d ∷ ds) before) (right : Bool) → right ≡ false
         → BlockRight g call_of showing c.place d Later before after right → (line : ℕ) → line ≡ before.read + 1 → Audits g call_of showing first script (whole.read + 1) (parts_of whole.left) (Fault line)
     refused_at Stands Later d ds before after c true e h line is = on_off e
     refused_at Stands Later d ds before after c false e h line is =
@@ -104,7 +104,7 @@ module _ {State Call : Type 0} (g : Setting State Call) (call_of : Request → C
 
     -- ---- the last line
 
-    module _ (Stands : Place State Call → Type 0) (now : Unread) (c : ComesTo g call_of showing Stands first script whole [] now) where
+    module _ (Stands : AuditState State Call → Type 0) (now : Unread) (c : ComesTo g call_of showing Stands first script whole [] now) where
       pub alone : unread.Ends c.place.tally now.left Alone → Audits g call_of showing first script (whole.read + 1) (parts_of whole.left) (Passed (now.read + 1))
       alone e = c.on (Passed (now.read + 1)) (Ends c.served (lasts.alone c.place.tally now.left e))
 

@@ -21,7 +21,7 @@ use Rattle.run_model.specs.declared.stop_condition.StopCondition.{StopCondition}
 use Rattle.run_model.specs.declared.stop_condition.StopCondition.TheVariants.{Count, Until, Whole}
 use Rattle.audit_frames.specs.Kept.{Kept}
 use Rattle.audit_frames.specs.StackRules.{StandAll}
-use Rattle.report_reading.specs.Blocks.{Place}
+use Rattle.report_reading.specs.Blocks.{AuditState}
 use Rattle.report_reading.specs.Steps.{Comes}
 use Rattle.script_runner.specs.Standing.{makes_no_step}
 use Rattle.report_auditor.specs.Auditing.{NamesThere, moved_to}
@@ -59,7 +59,7 @@ module _ {State Call : Type 0} (g : Setting State Call) where
   as_many (k ∷ ks) [] h = absurd h
   as_many (k ∷ ks) (o ∷ os) h = ap (λ n. suc n) (as_many ks os h.1)
 
-module _ {State Call : Type 0} (g : Setting State Call) (p : Place State Call) (Stands : Place State Call → Type 0) (right : Bool) (n : ℕ) (text rest : List ℕ) where
+module _ {State Call : Type 0} (g : Setting State Call) (p : AuditState State Call) (Stands : AuditState State Call → Type 0) (right : Bool) (n : ℕ) (text rest : List ℕ) where
   -- ---- beginnings
 
   module _ (whole : Bool) (x : Origin Call) (level : ℕ) (purpose : Purpose) (held : Option Held) where
@@ -145,21 +145,21 @@ module _ {State Call : Type 0} (g : Setting State Call) (p : Place State Call) (
 
 -- ---- ticks through the watchdog's reset
 
-module _ {State Call : Type 0} (g : Setting State Call) (p : Place State Call) (left more n : ℕ) (text rest : List ℕ) where
+module _ {State Call : Type 0} (g : Setting State Call) (p : AuditState State Call) (left more n : ℕ) (text rest : List ℕ) where
   -- the ticks don't come
-  pub early : (Stands : Place State Call → Type 0) → (Comes g p.moment (Happens (Tick left)) → ⊥) → Takes false (PrintsThrough g p left more) Stands n text rest
+  pub early : (Stands : AuditState State Call → Type 0) → (Comes g p.moment (Happens (Tick left)) → ⊥) → Takes false (PrintsThrough g p left more) Stands n text rest
   early Stands none = λ all there q is. none q.comes
 
   -- what says the reset
-  reset_said : (all : List Line) (there : Place State Call) → PrintsThrough g p left more all there → PrintsReset g (waited_to g p left) Watchdog all (restarted g (waited_to g p left) Watchdog)
+  reset_said : (all : List Line) (there : AuditState State Call) → PrintsThrough g p left more all there → PrintsReset g (waited_to g p left) Watchdog all (restarted g (waited_to g p left) Watchdog)
   reset_said all there q = record { comes = q.resets; lines_are = q.lines_are; leads = refl }
 
   -- it isn't said
-  pub unsaid : (Stands Later : Place State Call → Type 0) → Takes false (PrintsReset g (waited_to g p left) Watchdog) Stands n text rest → Takes false (PrintsThrough g p left more) Later n text rest
+  pub unsaid : (Stands Later : AuditState State Call → Type 0) → Takes false (PrintsReset g (waited_to g p left) Watchdog) Stands n text rest → Takes false (PrintsThrough g p left more) Later n text rest
   unsaid Stands Later none = λ all there q is. none all (restarted g (waited_to g p left) Watchdog) (reset_said all there q) is
 
   -- it is, and then ticks come, or none are left
-  pub said : (Stands Later : Place State Call → Type 0) (to : Place State Call) → Comes g p.moment (Happens (Tick left)) → Took (PrintsReset g (waited_to g p left) Watchdog) Stands n text rest
+  pub said : (Stands Later : AuditState State Call → Type 0) (to : AuditState State Call) → Comes g p.moment (Happens (Tick left)) → Took (PrintsReset g (waited_to g p left) Watchdog) Stands n text rest
       → TicksOn g (restarted g (waited_to g p left) Watchdog) more to → Later to → Took (PrintsThrough g p left more) Later n text rest
   said Stands Later to comes h on later = record {
     lines = h.lines;
@@ -170,71 +170,71 @@ module _ {State Call : Type 0} (g : Setting State Call) (p : Place State Call) (
     whole = λ all there q e. h.whole all (restarted g (waited_to g p left) Watchdog) (reset_said all there q) e;
   }
 
-pub ticks_done : {State Call : Type 0} (g : Setting State Call) (p : Place State Call) (more : ℕ) → more ≡ 0 → TicksOn g p more p
+pub ticks_done : {State Call : Type 0} (g : Setting State Call) (p : AuditState State Call) (more : ℕ) → more ≡ 0 → TicksOn g p more p
 ticks_done g p zero e = refl
 ticks_done g p (suc more) e = absurd (omega (arith, e))
 
-pub ticks_come : {State Call : Type 0} (g : Setting State Call) (p : Place State Call) (more : ℕ) → (more ≡ 0 → ⊥) → Comes g p.moment (Happens (Tick more)) → TicksOn g p more (waited_to g p more)
+pub ticks_come : {State Call : Type 0} (g : Setting State Call) (p : AuditState State Call) (more : ℕ) → (more ≡ 0 → ⊥) → Comes g p.moment (Happens (Tick more)) → TicksOn g p more (waited_to g p more)
 ticks_come g p zero e comes = absurd (e refl)
 ticks_come g p (suc more) e comes = (comes, refl)
 
-ticks_came : {State Call : Type 0} (g : Setting State Call) (p : Place State Call) (more : ℕ) (to : Place State Call) → (more ≡ 0 → ⊥) → TicksOn g p more to → Comes g p.moment (Happens (Tick more))
+ticks_came : {State Call : Type 0} (g : Setting State Call) (p : AuditState State Call) (more : ℕ) (to : AuditState State Call) → (more ≡ 0 → ⊥) → TicksOn g p more to → Comes g p.moment (Happens (Tick more))
 ticks_came g p zero to e h = absurd (e refl)
 ticks_came g p (suc more) to e h = h.0
 
 -- the ticks that are left don't come
-pub late : {State Call : Type 0} (g : Setting State Call) (p : Place State Call) (left more n : ℕ) (text rest : List ℕ) (Later : Place State Call → Type 0) → (more ≡ 0 → ⊥)
+pub late : {State Call : Type 0} (g : Setting State Call) (p : AuditState State Call) (left more n : ℕ) (text rest : List ℕ) (Later : AuditState State Call → Type 0) → (more ≡ 0 → ⊥)
     → (Comes g (restarted g (waited_to g p left) Watchdog).moment (Happens (Tick more)) → ⊥) → Takes false (PrintsThrough g p left more) Later n text rest
 late g p left more n text rest Later some none = λ all there q is. none (ticks_came g (restarted g (waited_to g p left) Watchdog) more there some q.leads)
 
 -- ---- a call
 
 -- what a frame was begun for, by the request
-pub call_begun : {State Call : Type 0} (g : Setting State Call) (p : Place State Call) (Stands : Place State Call → Type 0) (c d : Call) (level : ℕ) (service : Service) → c ≡ d → g.machine.service_of d ≡ service
+pub call_begun : {State Call : Type 0} (g : Setting State Call) (p : AuditState State Call) (Stands : AuditState State Call → Type 0) (c d : Call) (level : ℕ) (service : Service) → c ≡ d → g.machine.service_of d ≡ service
     → Comes g p.moment (beginning (Called c) level) × Stands (record { moment = after g p.moment (beginning (Called c) level); frames = purposes.Call (g.machine.service_of c) ∷ p.frames; tally = p.tally })
     → Comes g p.moment (beginning (Called d) level) × Stands (begun_to g p (Called d) level (purposes.Call service))
 call_begun g p Stands c d level service same is h =
     subst (λ s. Comes g p.moment (beginning (Called d) level) × Stands (begun_to g p (Called d) level (purposes.Call s))) is
     (subst (λ x. Comes g p.moment (beginning (Called x) level) × Stands (begun_to g p (Called x) level (purposes.Call (g.machine.service_of x)))) same h)
 
-pub call_never : {State Call : Type 0} (g : Setting State Call) (p : Place State Call) (c d : Call) (level : ℕ) → c ≡ d → (Comes g p.moment (beginning (Called c) level) → ⊥) → Comes g p.moment (beginning (Called d) level) → ⊥
+pub call_never : {State Call : Type 0} (g : Setting State Call) (p : AuditState State Call) (c d : Call) (level : ℕ) → c ≡ d → (Comes g p.moment (beginning (Called c) level) → ⊥) → Comes g p.moment (beginning (Called d) level) → ⊥
 call_never g p c d level same none comes = none (subst (λ x. Comes g p.moment (beginning (Called x) level)) (sym same) comes)
 
 -- ---- what was judged
 
 -- a frame that was judged right begins, and one that was judged wrong doesn't
-pub begins_right : {State Call : Type 0} (g : Setting State Call) (p : Place State Call) (Stands : Place State Call → Type 0) (x : Origin Call) (level : ℕ) (purpose : Purpose) (b : Bool) → b ≡ true
+pub begins_right : {State Call : Type 0} (g : Setting State Call) (p : AuditState State Call) (Stands : AuditState State Call → Type 0) (x : Origin Call) (level : ℕ) (purpose : Purpose) (b : Bool) → b ≡ true
     → Judges b (Comes g p.moment (beginning x level)) (Stands (begun_to g p x level purpose)) → Comes g p.moment (beginning x level) × Stands (begun_to g p x level purpose)
 begins_right g p Stands x level purpose true e h = h
 begins_right g p Stands x level purpose false e h = off_on e
 
-pub begins_wrong : {State Call : Type 0} (g : Setting State Call) (p : Place State Call) (Stands : Place State Call → Type 0) (x : Origin Call) (level : ℕ) (purpose : Purpose) (b : Bool) → b ≡ false
+pub begins_wrong : {State Call : Type 0} (g : Setting State Call) (p : AuditState State Call) (Stands : AuditState State Call → Type 0) (x : Origin Call) (level : ℕ) (purpose : Purpose) (b : Bool) → b ≡ false
     → Judges b (Comes g p.moment (beginning x level)) (Stands (begun_to g p x level purpose)) → Comes g p.moment (beginning x level) → ⊥
 begins_wrong g p Stands x level purpose true e h = on_off e
 begins_wrong g p Stands x level purpose false e h = h
 
 -- so does the hardware
-pub moves_right : {State Call : Type 0} (g : Setting State Call) (p : Place State Call) (Stands : Place State Call → Type 0) (order : Order) (b : Bool) → b ≡ true
+pub moves_right : {State Call : Type 0} (g : Setting State Call) (p : AuditState State Call) (Stands : AuditState State Call → Type 0) (order : Order) (b : Bool) → b ≡ true
     → Judges b (Comes g p.moment (Happens order)) (Stands (moved_to (after g p.moment (Happens order)) p)) → Comes g p.moment (Happens order) × Stands (moved_to (after g p.moment (Happens order)) p)
 moves_right g p Stands order true e h = h
 moves_right g p Stands order false e h = off_on e
 
-pub moves_wrong : {State Call : Type 0} (g : Setting State Call) (p : Place State Call) (Stands : Place State Call → Type 0) (order : Order) (b : Bool) → b ≡ false
+pub moves_wrong : {State Call : Type 0} (g : Setting State Call) (p : AuditState State Call) (Stands : AuditState State Call → Type 0) (order : Order) (b : Bool) → b ≡ false
     → Judges b (Comes g p.moment (Happens order)) (Stands (moved_to (after g p.moment (Happens order)) p)) → Comes g p.moment (Happens order) → ⊥
 moves_wrong g p Stands order true e h = on_off e
 moves_wrong g p Stands order false e h = h
 
 -- lines that were taken
-pub right_takes : {State Call : Type 0} (Prints : List Line → Place State Call → Type 0) (Stands : Place State Call → Type 0) (n : ℕ) (text rest : List ℕ) (b : Bool) → b ≡ true → Takes b Prints Stands n text rest → Took Prints Stands n text rest
+pub right_takes : {State Call : Type 0} (Prints : List Line → AuditState State Call → Type 0) (Stands : AuditState State Call → Type 0) (n : ℕ) (text rest : List ℕ) (b : Bool) → b ≡ true → Takes b Prints Stands n text rest → Took Prints Stands n text rest
 right_takes Prints Stands n text rest true e h = h
 right_takes Prints Stands n text rest false e h = off_on e
 
-pub wrong_takes : {State Call : Type 0} (Prints : List Line → Place State Call → Type 0) (Stands : Place State Call → Type 0) (n : ℕ) (text rest : List ℕ) (b : Bool) → b ≡ false → Takes b Prints Stands n text rest → Takes false Prints Stands n text rest
+pub wrong_takes : {State Call : Type 0} (Prints : List Line → AuditState State Call → Type 0) (Stands : AuditState State Call → Type 0) (n : ℕ) (text rest : List ℕ) (b : Bool) → b ≡ false → Takes b Prints Stands n text rest → Takes false Prints Stands n text rest
 wrong_takes Prints Stands n text rest true e h = on_off e
 wrong_takes Prints Stands n text rest false e h = h
 
 -- the ticks behind the watchdog's reset
-pub through_judged : {State Call : Type 0} (g : Setting State Call) (p : Place State Call) (left more n : ℕ) (text rest : List ℕ) (Stands Later : Place State Call → Type 0) (right : Bool) → (more ≡ 0 → ⊥) → Comes g p.moment (Happens (Tick left))
+pub through_judged : {State Call : Type 0} (g : Setting State Call) (p : AuditState State Call) (left more n : ℕ) (text rest : List ℕ) (Stands Later : AuditState State Call → Type 0) (right : Bool) → (more ≡ 0 → ⊥) → Comes g p.moment (Happens (Tick left))
     → Took (PrintsReset g (waited_to g p left) Watchdog) Stands n text rest
     → Judges right (Comes g (restarted g (waited_to g p left) Watchdog).moment (Happens (Tick more))) (Later (waited_to g (restarted g (waited_to g p left) Watchdog) more))
     → Takes right (PrintsThrough g p left more) Later n text rest

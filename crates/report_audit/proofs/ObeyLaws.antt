@@ -19,7 +19,7 @@ use Rattle.run_model.specs.Moment.{Setting}
 use Rattle.script_runner.specs.Standing.{is_built}
 use Rattle.audit_frames.specs.Kept.{Kept}
 use Rattle.audit_frames.specs.StackRules.{StandAll}
-use Rattle.report_reading.specs.Blocks.{Place}
+use Rattle.report_reading.specs.Blocks.{AuditState}
 use Rattle.report_steps.specs.Going.{PrintsReset}
 use Rattle.report_steps.specs.Taking.{Takes}
 use Rattle.report_audit.specs.Directives.{PrintsHardware, PrintsOrder}
@@ -54,9 +54,9 @@ MovesHardware (orders.Reset reason) = ⊥
 MovesHardware (orders.Show what) = ⊥
 MovesHardware order = Unit {0}
 
-module _ {State Call E : Type 0} (g : Setting State Call) (call_of : Request → Call) (showing : Showing State) (p : Place State Call) (result : Result Bool E) (Stands : Place State Call → Type 0) (n : ℕ) (text rest : List ℕ) where
+module _ {State Call E : Type 0} (g : Setting State Call) (call_of : Request → Call) (showing : Showing State) (p : AuditState State Call) (result : Result Bool E) (Stands : AuditState State Call → Type 0) (n : ℕ) (text rest : List ℕ) where
   -- what was answered of an order
-  abbrev Answers : (Prints : List Line → Place State Call → Type 0) → Type 0
+  abbrev Answers : (Prints : List Line → AuditState State Call → Type 0) → Type 0
   Answers Prints = IfOk result (λ right. Takes right Prints Stands n text rest)
 
   pub hardware_as : (line : ℕ) (order : Order) → MovesHardware order → Answers (λ lines there. PrintsHardware g p order lines there) → Answers (λ lines there. PrintsOrder g call_of showing p line order lines there)

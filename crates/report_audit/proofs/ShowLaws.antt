@@ -21,7 +21,7 @@ use Rattle.report_text.proofs.Owning.{takes}
 use Rattle.report_text.proofs.Taking.{comes_again, comes_is, took_more, took_none, took_text}
 use Rattle.bench_report.specs.Lines.{Done}
 use Rattle.bench_report.specs.Report.{with_done}
-use Rattle.report_reading.specs.Blocks.{Place}
+use Rattle.report_reading.specs.Blocks.{AuditState}
 use Rattle.report_text.proofs.Nexts.{some_bytes}
 use Rattle.report_steps.specs.Lines.{Advances, TakesLine}
 use Rattle.report_steps.specs.Taking.{Takes}
@@ -170,7 +170,7 @@ module _ (r : Unread) (rows : List Row) (text : List ℕ) (text_is : text ≡ ro
   pub rows_there : (length text == 0) ≡ false → rows ≡ [] → ⊥
   rows_there off e = off_on (sym off ∙ ap (λ (bs : List ℕ). length bs == 0) (text_is ∙ ap (λ (xs : List Row). rows_text r.number xs) e))
 
-  module _ {State Call : Type 0} (p : Place State Call) (Stands : Place State Call → Type 0) where
+  module _ {State Call : Type 0} (p : AuditState State Call) (Stands : AuditState State Call → Type 0) where
     -- there are none
     pub none_shown : rows ≡ [] → (right : Bool) (new : Unread) → Stands p → TakesLine right Done r new → Takes right (λ lines there. PrintsRows p rows lines there) Stands r.number (own_text r) (own_text new)
     none_shown e right new stands h =

@@ -9,7 +9,7 @@ use Rattle.bench_report.specs.declared.tally.Tally.{Tally}
 use Rattle.chip_model.specs.Chip.{incoming_at}
 use Rattle.irq_control.specs.declared.held.Held.{Held}
 use Rattle.run_model.specs.Moment.{Setting}
-use Rattle.report_reading.specs.Blocks.{Place, counted, printed}
+use Rattle.report_reading.specs.Blocks.{AuditState, counted, printed}
 use Rattle.report_text.specs.Unread.{Unread, own_text}
 use Rattle.audit_base.specs.declared.outside.Outside.{Outside}
 use Rattle.report_auditor.specs.Auditing.{Auditing, IsReady, Stands}
@@ -24,7 +24,7 @@ use Rattle.report_audit.specs.Directives.{PrintsDeed, PrintsHeld}
 
 -- ---- lines said in another way
 
-pub took_as : {State Call : Type 0} (P Q : List Line → Place State Call → Type 0) (Stands : Place State Call → Type 0) (n : ℕ) (text rest : List ℕ) → ((lines : List Line) (there : Place State Call) → (P lines there → Q lines there) × (Q lines there → P lines there))
+pub took_as : {State Call : Type 0} (P Q : List Line → AuditState State Call → Type 0) (Stands : AuditState State Call → Type 0) (n : ℕ) (text rest : List ℕ) → ((lines : List Line) (there : AuditState State Call) → (P lines there → Q lines there) × (Q lines there → P lines there))
     → Took P Stands n text rest → Took Q Stands n text rest
 took_as P Q Stands n text rest same h = record {
   lines = h.lines;
@@ -35,19 +35,19 @@ took_as P Q Stands n text rest same h = record {
   whole = λ all there q e. h.whole all there ((same all there).1 q) e;
 }
 
-pub takes_as : {State Call : Type 0} (right : Bool) (P Q : List Line → Place State Call → Type 0) (Stands : Place State Call → Type 0) (n : ℕ) (text rest : List ℕ) → ((lines : List Line) (there : Place State Call) → (P lines there → Q lines there) × (Q lines there → P lines there))
+pub takes_as : {State Call : Type 0} (right : Bool) (P Q : List Line → AuditState State Call → Type 0) (Stands : AuditState State Call → Type 0) (n : ℕ) (text rest : List ℕ) → ((lines : List Line) (there : AuditState State Call) → (P lines there → Q lines there) × (Q lines there → P lines there))
     → Takes right P Stands n text rest → Takes right Q Stands n text rest
 takes_as true P Q Stands n text rest same h = took_as P Q Stands n text rest same h
 takes_as false P Q Stands n text rest same h = λ all there q e. h all there ((same all there).1 q) e
 
 -- ---- lines
 
-module _ {State Call : Type 0} (Prints : List Line → Place State Call → Type 0) (Stands : Place State Call → Type 0) (n : ℕ) (text : List ℕ) (lines : List Line) (only : (all : List Line) (there : Place State Call) → Prints all there → all ≡ lines) where
+module _ {State Call : Type 0} (Prints : List Line → AuditState State Call → Type 0) (Stands : AuditState State Call → Type 0) (n : ℕ) (text : List ℕ) (lines : List Line) (only : (all : List Line) (there : AuditState State Call) → Prints all there → all ≡ lines) where
   -- such lines print this
-  all_print : (all : List Line) (there : Place State Call) → Prints all there → text ≡ printed n all → text ≡ printed n lines ++ []
+  all_print : (all : List Line) (there : AuditState State Call) → Prints all there → text ≡ printed n all → text ≡ printed n lines ++ []
   all_print all there q e = e ∙ (ap (printed n) (only all there q) ∙ sym (append-nil (printed n lines)))
 
-  pub took : (there : Place State Call) (rest : List ℕ) → Prints lines there → Stands there → text ≡ printed n lines ++ rest → Took Prints Stands n text rest
+  pub took : (there : AuditState State Call) (rest : List ℕ) → Prints lines there → Stands there → text ≡ printed n lines ++ rest → Took Prints Stands n text rest
   took there rest prints stands is = record {
     lines = lines;
     place = there;
@@ -65,8 +65,8 @@ module _ {State Call : Type 0} (Prints : List Line → Place State Call → Type
 one_line : (n : ℕ) (line : Line) (text rest : List ℕ) → text ≡ printed n (line ∷ []) ++ rest → text ≡ numbered n line ++ rest
 one_line n line text rest e = e ∙ ap (λ (bs : List ℕ). bs ++ rest) (append-nil (numbered n line))
 
-pub takes_line : {State Call : Type 0} (Prints : List Line → Place State Call → Type 0) (Stands : Place State Call → Type 0) (right : Bool) (line : Line) (old new : Unread) (there : Place State Call)
-    → ((all : List Line) (place : Place State Call) → Prints all place → all ≡ line ∷ []) → TakesLine right line old new → (right ≡ true → Prints (line ∷ []) there) → (right ≡ true → Stands there)
+pub takes_line : {State Call : Type 0} (Prints : List Line → AuditState State Call → Type 0) (Stands : AuditState State Call → Type 0) (right : Bool) (line : Line) (old new : Unread) (there : AuditState State Call)
+    → ((all : List Line) (place : AuditState State Call) → Prints all place → all ≡ line ∷ []) → TakesLine right line old new → (right ≡ true → Prints (line ∷ []) there) → (right ≡ true → Stands there)
     → Takes right Prints Stands old.number (own_text old) (own_text new)
 takes_line Prints Stands true line old new there only h prints stands = took Prints Stands old.number (own_text old) (line ∷ []) only there (own_text new) (prints refl) (stands refl) h.text
 takes_line Prints Stands false line old new there only h prints stands = never Prints Stands old.number (own_text old) (line ∷ []) only (own_text new) (λ rest e. h.1 rest (one_line old.number line (own_text old) rest e))
@@ -108,7 +108,7 @@ held_more a cause more e =
     ap (λ (t : Tally). record { chip = a.chip; parts = a.parts; outside = a.outside; devices = a.devices; frames = a.frames; origins = a.origins; tally = t; seen = a.seen }) (held_counted a.tally cause more e)
 
 module _ {Parts Table State Call : Type 0} (agrees : Agreeing Table State) (setting : Table → Setting State Call) (table : Parts → Table) (stands : Parts → State → Type 0) (t : Table) where
-  pub counted_stands : (a : Auditing Parts Call) (p : Place State Call) (lines : List Line) → Stands agrees setting table stands t a p
+  pub counted_stands : (a : Auditing Parts Call) (p : AuditState State Call) (lines : List Line) → Stands agrees setting table stands t a p
       → Stands agrees setting table stands t (counting lines a) (record { moment = p.moment; frames = p.frames; tally = counted p.tally lines })
   counted_stands a p lines s = record {
     kept_of = s.kept_of;
@@ -126,7 +126,7 @@ module _ {Parts Table State Call : Type 0} (agrees : Agreeing Table State) (sett
   }
 
   -- a directive that is held
-  pub held_takes : (right : Bool) (cause : Held) (a b : Auditing Parts Call) (old new : Unread) (p : Place State Call) → spec.Stays right cause a b old new → Stands agrees setting table stands t a p
+  pub held_takes : (right : Bool) (cause : Held) (a b : Auditing Parts Call) (old new : Unread) (p : AuditState State Call) → spec.Stays right cause a b old new → Stands agrees setting table stands t a p
       → Takes right (PrintsHeld p cause) (Stands agrees setting table stands t b) old.number (own_text old) (own_text new)
   held_takes right cause a b old new p h s =
       takes_line (PrintsHeld p cause) (Stands agrees setting table stands t b) right (Holds cause) old new (record { moment = p.moment; frames = p.frames; tally = counted p.tally (Holds cause ∷ []) })
@@ -192,16 +192,16 @@ module _ {Parts Call : Type 0} (fits : Parts → Outside → Type 0) (within : P
 
 -- ---- deeds that print ok
 
-pub deed_never : {State Call : Type 0} (Comes : Type 0) (to : Place State Call) (Stands : Place State Call → Type 0) (n : ℕ) (text rest : List ℕ) → (Comes → ⊥) → Takes false (PrintsDeed Comes to) Stands n text rest
+pub deed_never : {State Call : Type 0} (Comes : Type 0) (to : AuditState State Call) (Stands : AuditState State Call → Type 0) (n : ℕ) (text rest : List ℕ) → (Comes → ⊥) → Takes false (PrintsDeed Comes to) Stands n text rest
 deed_never Comes to Stands n text rest none = λ all there q is. none q.comes
 
-pub deed_takes : {State Call : Type 0} (Comes : Type 0) (to : Place State Call) (Stands : Place State Call → Type 0) (right : Bool) (old new : Unread) → Comes → Stands to → TakesLine right Done old new
+pub deed_takes : {State Call : Type 0} (Comes : Type 0) (to : AuditState State Call) (Stands : AuditState State Call → Type 0) (right : Bool) (old new : Unread) → Comes → Stands to → TakesLine right Done old new
     → Takes right (PrintsDeed Comes to) Stands old.number (own_text old) (own_text new)
 deed_takes Comes to Stands right old new comes stands h =
     takes_line (PrintsDeed Comes to) Stands right Done old new to (λ all place q. q.lines_are) h (λ e. record { comes = comes; lines_are = refl; leads = refl }) (λ e. stands)
 
 -- nothing is done
-pub none_takes : {State Call : Type 0} (p : Place State Call) (Stands : Place State Call → Type 0) (right : Bool) (old new : Unread) → Stands p → TakesLine right Done old new
+pub none_takes : {State Call : Type 0} (p : AuditState State Call) (Stands : AuditState State Call → Type 0) (right : Bool) (old new : Unread) → Stands p → TakesLine right Done old new
     → Takes right (λ lines there. (lines ≡ Done ∷ []) × (there ≡ p)) Stands old.number (own_text old) (own_text new)
 none_takes p Stands right old new stands h =
     takes_line (λ lines there. (lines ≡ Done ∷ []) × (there ≡ p)) Stands right Done old new p (λ all place q. q.0) h (λ e. (refl, refl)) (λ e. stands)

@@ -9,7 +9,7 @@ use Rattle.run_model.specs.Moment.{Setting}
 use Rattle.script_runner.specs.Scripts.{is_offered}
 use Rattle.script_runner.specs.Standing.{is_built}
 use Rattle.trace_reader.specs.Reading.{parts_of}
-use Rattle.report_reading.specs.Blocks.{Place, IsBlock, place_after, own_lines, behind, text_of, block_lines}
+use Rattle.report_reading.specs.Blocks.{AuditState, IsBlock, place_after, own_lines, behind, text_of, block_lines}
 use Rattle.report_reading.specs.Audits.{Audits}
 use Rattle.report_reading.specs.declared.verdict.Verdict.{Verdict}
 use Rattle.report_reading.specs.declared.verdict.Verdict.TheVariants.{Passed, Fault}
@@ -26,7 +26,7 @@ use Rattle.mcal_base.specs.declared.directive.Order.TheVariants as orders
 use Rattle.report_auditor.specs.Seeing.{Agreeing}
 
 -- The lines are those of legal items of a directive, as a journal holds them, which lead there.
-pub record PrintsItems {State Call : Type 0} (g : Setting State Call) (call_of : Request → Call) (showing : Showing State) (p : Place State Call) (d : Directive) (lines : List Line) (there : Place State Call) : Type 0 where
+pub record PrintsItems {State Call : Type 0} (g : Setting State Call) (call_of : Request → Call) (showing : Showing State) (p : AuditState State Call) (d : Directive) (lines : List Line) (there : AuditState State Call) : Type 0 where
   pub items : List Entry
   pub fits : Each EntryFits items
   pub gives : Gives g call_of p.moment d.line d.order items
@@ -57,14 +57,14 @@ CanObeyAll has_service [] = Unit {0}
 CanObeyAll has_service (d ∷ ds) = CanObey has_service d × CanObeyAll has_service ds
 
 -- The block of a directive is that of legal items, and was taken; what is kept stands for the place behind them.
-pub record BlockTaken {State Call : Type 0} (g : Setting State Call) (call_of : Request → Call) (showing : Showing State) (p : Place State Call) (d : Directive) (Stands : Place State Call → Type 0) (before after : Unread) : Type 0 where
+pub record BlockTaken {State Call : Type 0} (g : Setting State Call) (call_of : Request → Call) (showing : Showing State) (p : AuditState State Call) (d : Directive) (Stands : AuditState State Call → Type 0) (before after : Unread) : Type 0 where
   pub block : IsBlock g call_of showing p d (text_of (own_lines d.line (parts_of before.left)))
   pub stands : Stands (place_after g call_of showing p d block.items)
   pub left : parts_of after.left ≡ behind d.line (parts_of before.left)
   pub read : after.read ≡ before.read + length (own_lines d.line (parts_of before.left))
 
 -- so it is, or it is that of none
-abbrev pub BlockRight : {State Call : Type 0} → Setting State Call → (Request → Call) → Showing State → Place State Call → Directive → (Stands : Place State Call → Type 0) → (before after : Unread) → (right : Bool) → Type 0
+abbrev pub BlockRight : {State Call : Type 0} → Setting State Call → (Request → Call) → Showing State → AuditState State Call → Directive → (Stands : AuditState State Call → Type 0) → (before after : Unread) → (right : Bool) → Type 0
 BlockRight g call_of showing p d Stands before after true = BlockTaken g call_of showing p d Stands before after
 BlockRight g call_of showing p d Stands before after false = IsBlock g call_of showing p d (text_of (own_lines d.line (parts_of before.left))) → ⊥
 
@@ -80,18 +80,18 @@ verdict_at last Missing = Fault last
 
 -- What is kept stands for a place.
 pub record StandsSomewhere {Parts Table State Call : Type 0} (agrees : Agreeing Table State) (setting : Table → Setting State Call) (table : Parts → Table) (stands : Parts → State → Type 0) (t : Table) (a : Auditing Parts Call) : Type 0 where
-  pub place : Place State Call
+  pub place : AuditState State Call
   pub kept : Stands agrees setting table stands t a place
 
 -- and the moment there is served
 pub record StandsServed {Parts Table State Call : Type 0} (agrees : Agreeing Table State) (setting : Table → Setting State Call) (table : Parts → Table) (stands : Parts → State → Type 0) (t : Table) (a : Auditing Parts Call) : Type 0 where
-  pub place : Place State Call
+  pub place : AuditState State Call
   pub kept : Stands agrees setting table stands t a place
   pub served : IsServed (setting t) place.moment
 
 -- An audit has come to a place: it answers of all what it answers from here on.
-pub record ComesTo {State Call : Type 0} (g : Setting State Call) (call_of : Request → Call) (showing : Showing State) (Stands : Place State Call → Type 0) (first : Place State Call) (script : List Directive) (whole : Unread) (left : List Directive) (now : Unread) : Type 0 where
-  pub place : Place State Call
+pub record ComesTo {State Call : Type 0} (g : Setting State Call) (call_of : Request → Call) (showing : Showing State) (Stands : AuditState State Call → Type 0) (first : AuditState State Call) (script : List Directive) (whole : Unread) (left : List Directive) (now : Unread) : Type 0 where
+  pub place : AuditState State Call
   pub stands : Stands place
   pub served : IsServed g place.moment
   pub on : (verdict : Verdict) → Audits g call_of showing place left (now.read + 1) (parts_of now.left) verdict → Audits g call_of showing first script (whole.read + 1) (parts_of whole.left) verdict

@@ -1,7 +1,7 @@
 ghost use Rattle.std.specs.Prelude.{◌≡◌, ◌+◌, ◌-◌, ◌<◌, ◌≤◌, ℕ, IfOk, true};
 ghost use Rattle.std.specs.Bool.{OnTrue};
 ghost use Rattle.run_model.specs.Legal.{IsServed};
-ghost use Rattle.report_reading.specs.Blocks.{Place};
+ghost use Rattle.report_reading.specs.Blocks.{AuditState};
 ghost use Rattle.report_text.specs.Unread.{own_text};
 ghost use Rattle.script_runner.specs.Standing.{makes_no_step, words_by};
 ghost use Rattle.report_auditor.specs.Auditing.{IsReady, Stands};
@@ -40,7 +40,7 @@ fn has_begun<P: Whole>(
     whole: bool,
 ) -> Result<bool, NoMemory>
     requires ready { IsReady P.fits P.within P.ticks 0 auditor.old }
-    ensures goes { (t : P.Table) (p : Place P.State P.Call) → Stands P.agrees P.setting P.table P.stands t auditor.old p → IsServed (P.setting t) p.moment →
+    ensures goes { (t : P.Table) (p : AuditState P.State P.Call) → Stands P.agrees P.setting P.table P.stands t auditor.old p → IsServed (P.setting t) p.moment →
         IfOk result (λ right. Takes right (spec.PrintsBegun (P.setting t) whole p) (Stands P.agrees P.setting P.table P.stands t auditor.new) report.old.number (own_text report.old) (own_text report.new)) }
     ensures ready { (given : ℕ) → IsReady P.fits P.within P.ticks given auditor.old → IfOk result (λ right. OnTrue right (IsReady P.fits P.within P.ticks given auditor.new)) }
     ensures on { IfOk result (λ _. Advances report.old report.new) }
@@ -63,7 +63,7 @@ pub(crate) fn call<P: Whole>(
 ) -> Result<bool, NoMemory>
     requires ready { IsReady P.fits P.within P.ticks 0 auditor.old }
     requires has { P.has_service request.now.service ≡ true }
-    ensures call { (t : P.Table) (p : Place P.State P.Call) → Stands P.agrees P.setting P.table P.stands t auditor.old p → IsServed (P.setting t) p.moment →
+    ensures call { (t : P.Table) (p : AuditState P.State P.Call) → Stands P.agrees P.setting P.table P.stands t auditor.old p → IsServed (P.setting t) p.moment →
         IfOk result (λ right. Takes right (spec.PrintsCall (P.setting t) P.call_of p line level request.now whole) (Stands P.agrees P.setting P.table P.stands t auditor.new) report.old.number (own_text report.old) (own_text report.new)) }
     ensures ready { (given : ℕ) → IsReady P.fits P.within P.ticks given auditor.old → IfOk result (λ right. OnTrue right (IsReady P.fits P.within P.ticks given auditor.new)) }
     ensures on { IfOk result (λ _. Advances report.old report.new) }
@@ -91,7 +91,7 @@ pub(crate) fn enter<P: Whole>(
 ) -> Result<bool, NoMemory>
     requires ready { IsReady P.fits P.within P.ticks 0 auditor.old }
     requires there { irq < 64 }
-    ensures enter { (t : P.Table) (p : Place P.State P.Call) → Stands P.agrees P.setting P.table P.stands t auditor.old p → IsServed (P.setting t) p.moment →
+    ensures enter { (t : P.Table) (p : AuditState P.State P.Call) → Stands P.agrees P.setting P.table P.stands t auditor.old p → IsServed (P.setting t) p.moment →
         IfOk result (λ right. Takes right (spec.PrintsEnter (P.setting t) p line irq whole) (Stands P.agrees P.setting P.table P.stands t auditor.new) report.old.number (own_text report.old) (own_text report.new)) }
     ensures ready { (given : ℕ) → IsReady P.fits P.within P.ticks given auditor.old → IfOk result (λ right. OnTrue right (IsReady P.fits P.within P.ticks given auditor.new)) }
     ensures on { IfOk result (λ _. Advances report.old report.new) }
@@ -123,7 +123,7 @@ pub(crate) fn goes<P: Whole>(
     reach: StopCondition,
 ) -> Result<bool, NoMemory>
     requires ready { IsReady P.fits P.within P.ticks 0 auditor.old }
-    ensures goes { (t : P.Table) (p : Place P.State P.Call) → Stands P.agrees P.setting P.table P.stands t auditor.old p → IsServed (P.setting t) p.moment →
+    ensures goes { (t : P.Table) (p : AuditState P.State P.Call) → Stands P.agrees P.setting P.table P.stands t auditor.old p → IsServed (P.setting t) p.moment →
         IfOk result (λ right. Takes right (spec.PrintsGoing (P.setting t) reach p) (Stands P.agrees P.setting P.table P.stands t auditor.new) report.old.number (own_text report.old) (own_text report.new)) }
     ensures ready { (given : ℕ) → IsReady P.fits P.within P.ticks given auditor.old → IfOk result (λ right. OnTrue right (IsReady P.fits P.within P.ticks given auditor.new)) }
     ensures on { IfOk result (λ _. Advances report.old report.new) }
@@ -147,7 +147,7 @@ pub(crate) fn hardware<P: Whole>(
 ) -> Result<bool, NoMemory>
     requires ready { IsReady P.fits P.within P.ticks (words_by directive.now.order) auditor.old }
     requires there { NamesKnown directive.now.order }
-    ensures hardware { (t : P.Table) (p : Place P.State P.Call) → Stands P.agrees P.setting P.table P.stands t auditor.old p → IsServed (P.setting t) p.moment →
+    ensures hardware { (t : P.Table) (p : AuditState P.State P.Call) → Stands P.agrees P.setting P.table P.stands t auditor.old p → IsServed (P.setting t) p.moment →
         IfOk result (λ right. Takes right (spec.PrintsHardware (P.setting t) p directive.now.order) (Stands P.agrees P.setting P.table P.stands t auditor.new) report.old.number (own_text report.old) (own_text report.new)) }
     ensures ready { (given : ℕ) → IsReady P.fits P.within P.ticks (words_by directive.now.order + given) auditor.old → IfOk result (λ right. OnTrue right (IsReady P.fits P.within P.ticks given auditor.new)) }
     ensures on { IfOk result (λ _. Advances report.old report.new) }
@@ -174,7 +174,7 @@ fn ticks_through<P: Whole>(
 ) -> Result<bool, NoMemory>
     requires ready { IsReady P.fits P.within P.ticks 0 auditor.old }
     requires within { left ≤ ticks }
-    ensures through { (t : P.Table) (p : Place P.State P.Call) → Stands P.agrees P.setting P.table P.stands t auditor.old p → IsServed (P.setting t) p.moment →
+    ensures through { (t : P.Table) (p : AuditState P.State P.Call) → Stands P.agrees P.setting P.table P.stands t auditor.old p → IsServed (P.setting t) p.moment →
         IfOk result (λ right. Takes right (spec.PrintsThrough (P.setting t) p left (ticks - left)) (Stands P.agrees P.setting P.table P.stands t auditor.new) report.old.number (own_text report.old) (own_text report.new)) }
     ensures ready { (given : ℕ) → IsReady P.fits P.within P.ticks given auditor.old → IfOk result (λ right. OnTrue right (IsReady P.fits P.within P.ticks given auditor.new)) }
     ensures on { IfOk result (λ _. Advances report.old report.new) }
@@ -202,7 +202,7 @@ fn ticks_on<P: Whole>(
     ticks: u32,
 ) -> Result<bool, NoMemory>
     requires ready { IsReady P.fits P.within P.ticks 0 auditor.old }
-    ensures on { (t : P.Table) (p : Place P.State P.Call) → Stands P.agrees P.setting P.table P.stands t auditor.old p → IsServed (P.setting t) p.moment →
+    ensures on { (t : P.Table) (p : AuditState P.State P.Call) → Stands P.agrees P.setting P.table P.stands t auditor.old p → IsServed (P.setting t) p.moment →
         IfOk result (λ right. Takes right (spec.PrintsTicksOn (P.setting t) p ticks) (Stands P.agrees P.setting P.table P.stands t auditor.new) report.old.number (own_text report.old) (own_text report.new)) }
     ensures ready { (given : ℕ) → IsReady P.fits P.within P.ticks given auditor.old → IfOk result (λ right. OnTrue right (IsReady P.fits P.within P.ticks given auditor.new)) }
     ensures advances { IfOk result (λ _. Advances report.old report.new) }
@@ -222,7 +222,7 @@ pub(crate) fn ticks<P: Whole>(
     ticks: u32,
 ) -> Result<bool, NoMemory>
     requires ready { IsReady P.fits P.within P.ticks 0 auditor.old }
-    ensures ticks { (t : P.Table) (p : Place P.State P.Call) → Stands P.agrees P.setting P.table P.stands t auditor.old p → IsServed (P.setting t) p.moment →
+    ensures ticks { (t : P.Table) (p : AuditState P.State P.Call) → Stands P.agrees P.setting P.table P.stands t auditor.old p → IsServed (P.setting t) p.moment →
         IfOk result (λ right. Takes right (spec.PrintsTicks (P.setting t) p line ticks) (Stands P.agrees P.setting P.table P.stands t auditor.new) report.old.number (own_text report.old) (own_text report.new)) }
     ensures ready { (given : ℕ) → IsReady P.fits P.within P.ticks given auditor.old → IfOk result (λ right. OnTrue right (IsReady P.fits P.within P.ticks given auditor.new)) }
     ensures on { IfOk result (λ _. Advances report.old report.new) }
@@ -251,10 +251,10 @@ pub(crate) fn show<P: Whole>(
     requires valid { P.valid configuration.now }
     requires table { P.table auditor.old.parts ≡ P.table_of configuration.now }
     requires number { report.old.number ≡ line }
-    ensures show { (t : P.Table) (p : Place P.State P.Call) → Stands P.agrees P.setting P.table P.stands t auditor.old p → IsServed (P.setting t) p.moment →
+    ensures show { (t : P.Table) (p : AuditState P.State P.Call) → Stands P.agrees P.setting P.table P.stands t auditor.old p → IsServed (P.setting t) p.moment →
         IfOk result (λ right. Takes right (spec.PrintsShow (P.setting t) (P.showing configuration.now) p line what) (Stands P.agrees P.setting P.table P.stands t auditor.new) report.old.number (own_text report.old) (own_text report.new)) }
     ensures ready { (given : ℕ) → IsReady P.fits P.within P.ticks given auditor.old → IfOk result (λ right. OnTrue right (IsReady P.fits P.within P.ticks given auditor.new)) }
-    ensures on { (t : P.Table) (p : Place P.State P.Call) → Stands P.agrees P.setting P.table P.stands t auditor.old p → IfOk result (λ _. Advances report.old report.new) }
+    ensures on { (t : P.Table) (p : AuditState P.State P.Call) → Stands P.agrees P.setting P.table P.stands t auditor.old p → IfOk result (λ _. Advances report.old report.new) }
 {
     let none = auditor.frames.depth() == 0;
     if !none {

@@ -1,7 +1,7 @@
 ghost use Rattle.std.specs.Prelude.{◌≡◌, ◌+◌, ℕ, IfOk};
 ghost use Rattle.std.specs.Bool.{OnTrue};
 ghost use Rattle.run_model.specs.Legal.{IsServed};
-ghost use Rattle.report_reading.specs.Blocks.{Place};
+ghost use Rattle.report_reading.specs.Blocks.{AuditState};
 ghost use Rattle.report_text.specs.Unread.{own_text};
 ghost use Rattle.script_runner.specs.Scripts.{words_given};
 ghost use Rattle.script_runner.specs.Standing.{words_by};
@@ -33,10 +33,10 @@ fn obeys<P: Whole>(
     requires table { P.table auditor.old.parts ≡ P.table_of configuration.now }
     requires can { spec.CanObey P.has_service directive.now }
     requires number { report.old.number ≡ directive.now.line }
-    ensures obeys { (t : P.Table) (p : Place P.State P.Call) → Stands P.agrees P.setting P.table P.stands t auditor.old p → IsServed (P.setting t) p.moment →
+    ensures obeys { (t : P.Table) (p : AuditState P.State P.Call) → Stands P.agrees P.setting P.table P.stands t auditor.old p → IsServed (P.setting t) p.moment →
         IfOk result (λ right. Takes right (PrintsItems (P.setting t) P.call_of (P.showing configuration.now) p directive.now) (Stands P.agrees P.setting P.table P.stands t auditor.new) report.old.number (own_text report.old) (own_text report.new)) }
     ensures ready { (given : ℕ) → IsReady P.fits P.within P.ticks (words_by directive.now.order + given) auditor.old → IfOk result (λ right. OnTrue right (IsReady P.fits P.within P.ticks given auditor.new)) }
-    ensures on { (t : P.Table) (p : Place P.State P.Call) → Stands P.agrees P.setting P.table P.stands t auditor.old p → IfOk result (λ _. Advances report.old report.new) }
+    ensures on { (t : P.Table) (p : AuditState P.State P.Call) → Stands P.agrees P.setting P.table P.stands t auditor.old p → IfOk result (λ _. Advances report.old report.new) }
 {
     let line = directive.line;
     match &directive.order {
@@ -71,7 +71,7 @@ fn block<P: Whole>(
     requires valid { P.valid configuration.now }
     requires table { P.table auditor.old.parts ≡ P.table_of configuration.now }
     requires can { spec.CanObey P.has_service directive.now }
-    ensures block { (t : P.Table) (p : Place P.State P.Call) → Stands P.agrees P.setting P.table P.stands t auditor.old p → IsServed (P.setting t) p.moment →
+    ensures block { (t : P.Table) (p : AuditState P.State P.Call) → Stands P.agrees P.setting P.table P.stands t auditor.old p → IsServed (P.setting t) p.moment →
         IfOk result (λ right. spec.BlockRight (P.setting t) P.call_of (P.showing configuration.now) p directive.now (Stands P.agrees P.setting P.table P.stands t auditor.new) report.old report.new right) }
     ensures ready { (given : ℕ) → IsReady P.fits P.within P.ticks (words_by directive.now.order + given) auditor.old → IfOk result (λ right. OnTrue right (IsReady P.fits P.within P.ticks given auditor.new)) }
 {
@@ -110,7 +110,7 @@ fn judges_on<P: Whole>(
     requires valid { P.valid configuration.now }
     requires stands { spec.StandsServed P.agrees P.setting P.table P.stands (P.table_of configuration.now) auditor.old }
     requires can { spec.CanObeyAll P.has_service script.now }
-    ensures { (p : Place P.State P.Call) → Stands P.agrees P.setting P.table P.stands (P.table_of configuration.now) auditor.old p → IsServed (P.setting (P.table_of configuration.now)) p.moment →
+    ensures { (p : AuditState P.State P.Call) → Stands P.agrees P.setting P.table P.stands (P.table_of configuration.now) auditor.old p → IsServed (P.setting (P.table_of configuration.now)) p.moment →
         IfOk result (λ verdict. Audits (P.setting (P.table_of configuration.now)) P.call_of (P.showing configuration.now) p script.now (report.old.read + 1) (parts_of report.old.left) verdict) }
 {
     for directive in script {
@@ -139,7 +139,7 @@ pub(crate) fn judges<P: Whole>(
     requires stands { spec.StandsSomewhere P.agrees P.setting P.table P.stands (P.table_of configuration.now) auditor.old }
     requires can { spec.CanObeyAll P.has_service script.now }
     requires first { report.old.read ≡ 0 }
-    ensures { (p : Place P.State P.Call) → Stands P.agrees P.setting P.table P.stands (P.table_of configuration.now) auditor.old p →
+    ensures { (p : AuditState P.State P.Call) → Stands P.agrees P.setting P.table P.stands (P.table_of configuration.now) auditor.old p →
         IfOk result (λ verdict. Audits (P.setting (P.table_of configuration.now)) P.call_of (P.showing configuration.now) p script.now 1 (parts_of report.old.left) verdict) }
 {
     if auditor.is_served() {

@@ -9,3 +9,4 @@ mod laws;
 
 pub use entry::{Bench, audit};
 pub use laws::read_scripts_can_be_audited;
+pub use report_auditor::{Whole, tables_are_within};

@@ -18,7 +18,7 @@ use Rattle.audit_frames.specs.StandsFor.{IsBegun, StandsFor}
 use Rattle.audit_frames.specs.declared.terms.Terms.{Terms}
 use Rattle.audit_frames.proofs.StackLaws.{begins}
 use Rattle.mcal_base.specs.facts.Truths.{off_on}
-use Rattle.report_reading.specs.Blocks.{Place}
+use Rattle.report_reading.specs.Blocks.{AuditState}
 use Rattle.report_reading.specs.Steps.{Comes}
 use Rattle.report_auditor.specs.Auditing.{Auditing, Stands, moved_to, purpose_by, purposes_by}
 use Rattle.report_auditor.specs.Deeds.{Judges, Moves, beginning, opening, restarted}
@@ -52,7 +52,7 @@ module _ {Parts Table State Call : Type 0} (agrees : Agreeing Table State) (sett
   stands_begun (Entered l) level terms h = begins (setting t) terms (Entered l) (line_tag (setting t) l) h
 
   -- what is kept of a frame that begins over those that are kept, in a moment that is served
-  pub begun : (a b : Auditing Parts Call) (p : Place State Call) (x : Origin Call) (level : ℕ) (terms : Terms)
+  pub begun : (a b : Auditing Parts Call) (p : AuditState State Call) (x : Origin Call) (level : ℕ) (terms : Terms)
       → Stands agrees setting table stands t a p → AreGoing (setting t) p.moment.opens → IsBegun (setting t) terms (opening (setting t) x level)
       → b.chip ≡ a.chip → b.parts ≡ a.parts → b.outside ≡ a.outside → b.devices ≡ a.devices → b.tally ≡ a.tally → b.seen ≡ a.seen → b.frames ≡ fresh terms ∷ a.frames → b.origins ≡ x ∷ a.origins
       → Stands agrees setting table stands t b (record { moment = after (setting t) p.moment (beginning x level); frames = purpose_by terms.task ∷ p.frames; tally = p.tally })
@@ -74,14 +74,14 @@ module _ {Parts Table State Call : Type 0} (agrees : Agreeing Table State) (sett
       })
 
   -- what is answered of it, where the watchdog's time hasn't ended
-  pub begun_judged : (a b c : Auditing Parts Call) (p : Place State Call) (x : Origin Call) (level : ℕ) (terms : Terms) (right : Bool)
+  pub begun_judged : (a b c : Auditing Parts Call) (p : AuditState State Call) (x : Origin Call) (level : ℕ) (terms : Terms) (right : Bool)
       → Stands agrees setting table stands t a p → IsServed (setting t) p.moment → IsBegun (setting t) terms (opening (setting t) x level) → IsLegalDeed (setting t) p.moment (beginning x level)
       → ((setting t).machine.expires p.moment.world p.moment.state ≡ Some 0 → ⊥)
       → b.chip ≡ a.chip → b.parts ≡ a.parts → b.outside ≡ a.outside → b.devices ≡ a.devices → b.tally ≡ a.tally → b.seen ≡ a.seen → b.frames ≡ fresh terms ∷ a.frames → b.origins ≡ x ∷ a.origins
-      → ((q : Place State Call) → Stands agrees setting table stands t b q → Decides right (IsServed (setting t) q.moment)) → ((q : Place State Call) → Stands agrees setting table stands t b q → Stands agrees setting table stands t c q)
+      → ((q : AuditState State Call) → Stands agrees setting table stands t b q → Decides right (IsServed (setting t) q.moment)) → ((q : AuditState State Call) → Stands agrees setting table stands t b q → Stands agrees setting table stands t c q)
       → Judges right (Comes (setting t) p.moment (beginning x level)) (Stands agrees setting table stands t c (record { moment = after (setting t) p.moment (beginning x level); frames = purpose_by terms.task ∷ p.frames; tally = p.tally }))
   begun_judged a b c p x level terms right s served new legal left chip parts outside devices tally seen frames origins law goes =
-      let q : Place State Call = record { moment = after (setting t) p.moment (beginning x level); frames = purpose_by terms.task ∷ p.frames; tally = p.tally } in
+      let q : AuditState State Call = record { moment = after (setting t) p.moment (beginning x level); frames = purpose_by terms.task ∷ p.frames; tally = p.tally } in
       let kept : Stands agrees setting table stands t b q = begun a b p x level terms s served.going new chip parts outside devices tally seen frames origins in
       judged (setting t) p.moment (beginning x level) right (Stands agrees setting table stands t c q) (begins_in_time x level ((setting t).machine.expires p.moment.world p.moment.state) left) legal (law q kept) (goes q kept)
 
@@ -104,7 +104,7 @@ module _ {Parts Table State Call : Type 0} (agrees : Agreeing Table State) (sett
   -- after the hardware moved, which leaves what it doesn't touch
   pub moved : ((a : Aspect) (x : Table) (chip : Chip) (w : World) (s : State) (order : Order) → is_touched a (by_order order) ≡ false → agrees a x chip w s
       → agrees a x (happened chip order) (world_after w ((setting x).machine.rate s) order) (state_by s ((setting x).machine.happens w s (machines.Moves order))))
-      → (a b : Auditing Parts Call) (p : Place State Call) (order : Order) → Stands agrees setting table stands t a p → Allowed p.moment (machines.Moves order) b
+      → (a b : Auditing Parts Call) (p : AuditState State Call) (order : Order) → Stands agrees setting table stands t a p → Allowed p.moment (machines.Moves order) b
       → table b.parts ≡ table a.parts → b.chip ≡ happened a.chip order → IsWorld b.outside (world_after p.moment.world ((setting t).machine.rate p.moment.state) order)
       → (world_after p.moment.world ((setting t).machine.rate p.moment.state) order).devices ≡ b.chip.devices → b.chip.devices ≡ b.devices
       → b.frames ≡ a.frames → b.origins ≡ a.origins → b.tally ≡ a.tally → b.seen ≡ told_in (by_order order) a.seen
@@ -126,7 +126,7 @@ module _ {Parts Table State Call : Type 0} (agrees : Agreeing Table State) (sett
   }
 
   -- after a reset
-  pub was_reset : (a b : Auditing Parts Call) (p : Place State Call) (reason : Reason) → Stands agrees setting table stands t a p → Allowed p.moment (machines.Restarts reason) b
+  pub was_reset : (a b : Auditing Parts Call) (p : AuditState State Call) (reason : Reason) → Stands agrees setting table stands t a p → Allowed p.moment (machines.Restarts reason) b
       → table b.parts ≡ table a.parts → b.chip ≡ reset_chip a.chip reason → IsWorld b.outside p.moment.world → b.devices ≡ a.devices → b.frames ≡ [] → b.origins ≡ [] → b.tally ≡ a.tally → b.seen ≡ nothing a.seen.used
       → Stands agrees setting table stands t b (restarted (setting t) p reason)
   was_reset a b p reason s allowed same chip world devices frames origins tally seen = record {
@@ -146,21 +146,21 @@ module _ {Parts Table State Call : Type 0} (agrees : Agreeing Table State) (sett
   }
 
   -- what is answered of both, where they are in time
-  pub moved_judged : (b c : Auditing Parts Call) (p : Place State Call) (order : Order) (right : Bool)
+  pub moved_judged : (b c : Auditing Parts Call) (p : AuditState State Call) (order : Order) (right : Bool)
       → InTime {Call = Call} ((setting t).machine.expires p.moment.world p.moment.state) (Happens order) → hardware_held (setting t) p.moment order ≡ None
       → Moves (setting t) p.moment order (Stands agrees setting table stands t b (moved_to (after (setting t) p.moment (Happens order)) p))
-      → ((q : Place State Call) → Stands agrees setting table stands t b q → Decides right (IsServed (setting t) q.moment)) → ((q : Place State Call) → Stands agrees setting table stands t b q → Stands agrees setting table stands t c q)
+      → ((q : AuditState State Call) → Stands agrees setting table stands t b q → Decides right (IsServed (setting t) q.moment)) → ((q : AuditState State Call) → Stands agrees setting table stands t b q → Stands agrees setting table stands t c q)
       → Judges right (Comes (setting t) p.moment (Happens order)) (Stands agrees setting table stands t c (moved_to (after (setting t) p.moment (Happens order)) p))
   moved_judged b c p order right time held moves law goes =
-      let q : Place State Call = moved_to (after (setting t) p.moment (Happens order)) p in
+      let q : AuditState State Call = moved_to (after (setting t) p.moment (Happens order)) p in
       judged (setting t) p.moment (Happens order) right (Stands agrees setting table stands t c q) time (held, moves.0) (law q moves.1) (goes q moves.1)
 
-  pub reset_judged : (a b c : Auditing Parts Call) (p : Place State Call) (reason : Reason) (right : Bool) → Stands agrees setting table stands t a p → Allowed p.moment (machines.Restarts reason) b
+  pub reset_judged : (a b c : Auditing Parts Call) (p : AuditState State Call) (reason : Reason) (right : Bool) → Stands agrees setting table stands t a p → Allowed p.moment (machines.Restarts reason) b
       → InTime {Call = Call} ((setting t).machine.expires p.moment.world p.moment.state) (Resets reason)
       → table b.parts ≡ table a.parts → b.chip ≡ reset_chip a.chip reason → IsWorld b.outside p.moment.world → b.devices ≡ a.devices → b.frames ≡ [] → b.origins ≡ [] → b.tally ≡ a.tally → b.seen ≡ nothing a.seen.used
-      → ((q : Place State Call) → Stands agrees setting table stands t b q → Decides right (IsServed (setting t) q.moment)) → ((q : Place State Call) → Stands agrees setting table stands t b q → Stands agrees setting table stands t c q)
+      → ((q : AuditState State Call) → Stands agrees setting table stands t b q → Decides right (IsServed (setting t) q.moment)) → ((q : AuditState State Call) → Stands agrees setting table stands t b q → Stands agrees setting table stands t c q)
       → Judges right (Comes (setting t) p.moment (Resets reason)) (Stands agrees setting table stands t c (restarted (setting t) p reason))
   reset_judged a b c p reason right s allowed time same chip world devices frames origins tally seen law goes =
-      let q : Place State Call = restarted (setting t) p reason in
+      let q : AuditState State Call = restarted (setting t) p reason in
       let kept : Stands agrees setting table stands t b q = was_reset a b p reason s allowed same chip world devices frames origins tally seen in
       judged (setting t) p.moment (Resets reason) right (Stands agrees setting table stands t c q) time allowed.is (law q kept) (goes q kept)

@@ -20,7 +20,7 @@ use Rattle.audit_frames.specs.StandsFor.{IsTask}
 use Rattle.audit_frames.specs.declared.terms.Task.{Task}
 use Rattle.audit_frames.specs.declared.terms.Task.TheVariants.{Call, Line}
 use Rattle.audit_frames.proofs.StackLaws.{full, holds}
-use Rattle.report_reading.specs.Blocks.{Place}
+use Rattle.report_reading.specs.Blocks.{AuditState}
 use Rattle.report_auditor.specs.Auditing.{Auditing, Stands, purpose_by}
 use Rattle.report_auditor.specs.Deeds.{filled, other_cause}
 use Rattle.report_auditor.specs.Seeing.{Agreeing}
@@ -90,7 +90,7 @@ module _ {State C : Type 0} (g : Setting State C) where
 -- ---- in a place
 
 module _ {Parts Table State Call : Type 0} (agrees : Agreeing Table State) (setting : Table → Setting State Call) (table : Parts → Table) (stands : Parts → State → Type 0)
-    (t : Table) (a : Auditing Parts Call) (p : Place State Call) (s : Stands agrees setting table stands t a p) where
+    (t : Table) (a : Auditing Parts Call) (p : AuditState State Call) (s : Stands agrees setting table stands t a p) where
   masked_is : (masked : Bool) → masked ≡ is_masked a.chip → masked ≡ is_masked p.moment.chip
   masked_is masked e = e ∙ ap is_masked s.chip
 

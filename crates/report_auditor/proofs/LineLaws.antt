@@ -7,8 +7,8 @@ use Rattle.mcal_base.proofs.BitLaws.{has_bit-bits_of, has_bit-bits_of_above, has
 use Rattle.mcal_base.specs.facts.Numbers.{eq_is, eq_from, lt_from}
 use Rattle.mcal_base.specs.facts.Truths.{if_true, off_on}
 use Rattle.audit_frames.specs.Decides.{Decides}
-use Rattle.audit_frames.specs.Masks.{covers, with_bit}
-use Rattle.audit_frames.proofs.MaskLaws.{covers_says, covers_shows, same_bits}
+use Rattle.audit_frames.specs.Masks.{includes, with_bit}
+use Rattle.audit_frames.proofs.MaskLaws.{includes_says, includes_shows, same_bits}
 use Rattle.audit_subject.proofs.LineMasks.{marked}
 use Rattle.audit_whole.specs.Whole.{is_serial_line}
 
@@ -86,17 +86,17 @@ without_line test n found off e = rw (add-one, next test n, off) (omega (arith, 
 
 module _ (test seen : ℕ → Bool) (mask : ℕ) (same : (l : ℕ) → has_bit mask l ≡ seen l) (small : (l : ℕ) → test l ≡ true → l < 32) where
   -- each line of the test is seen
-  pub each_seen : Decides (covers (bits_of test 32) mask) ((l : ℕ) → test l ≡ true → seen l ≡ true)
+  pub each_seen : Decides (includes (bits_of test 32) mask) ((l : ℕ) → test l ≡ true → seen l ≡ true)
   each_seen = record {
-    says = λ e l on. sym (same l) ∙ covers_says (bits_of test 32) mask e l (bit_is test small l ∙ on);
-    shows = λ h. covers_shows (bits_of test 32) mask (λ l on. same l ∙ h l (bit_holds test l on));
+    says = λ e l on. sym (same l) ∙ includes_says (bits_of test 32) mask e l (bit_is test small l ∙ on);
+    shows = λ h. includes_shows (bits_of test 32) mask (λ l on. same l ∙ h l (bit_holds test l on));
   }
 
   -- no other line is seen
-  pub none_else : Decides (covers mask (bits_of test 32)) ((l : ℕ) → test l ≡ false → seen l ≡ false)
+  pub none_else : Decides (includes mask (bits_of test 32)) ((l : ℕ) → test l ≡ false → seen l ≡ false)
   none_else = record {
-    says = λ e l off. not_true (seen l) (λ on. off_on (sym off ∙ bit_holds test l (covers_says mask (bits_of test 32) e l (same l ∙ on))));
-    shows = λ h. covers_shows mask (bits_of test 32) (λ l on. bit_is test small l ∙ not_false (test l) (λ off. off_on (sym (h l off) ∙ (sym (same l) ∙ on))));
+    says = λ e l off. not_true (seen l) (λ on. off_on (sym off ∙ bit_holds test l (includes_says mask (bits_of test 32) e l (same l ∙ on))));
+    shows = λ h. includes_shows mask (bits_of test 32) (λ l on. bit_is test small l ∙ not_false (test l) (λ off. off_on (sym (h l off) ∙ (sym (same l) ∙ on))));
   }
 
   -- exactly these lines are seen

@@ -11,9 +11,9 @@ use Rattle.run_model.specs.Frame.{Open, state_after, state_by}
 use Rattle.run_model.specs.Machine.{Moves}
 use Rattle.run_model.specs.Moment.{Setting}
 use Rattle.run_model.specs.World.{World, world_after}
-use Rattle.report_reading.specs.Blocks.{Place}
+use Rattle.report_reading.specs.Blocks.{AuditState}
 use Rattle.report_auditor.specs.Auditing.{Auditing, Stands, seeing}
-use Rattle.report_auditor.specs.Seeing.{Agreeing, IsSeen, nothing, saw, stepped_in, told_by, told_in, touched_in}
+use Rattle.report_auditor.specs.Seeing.{Agreeing, IsSeen, nothing, saw, stepped_in, touched_if_told, told_in, touched_in}
 use Rattle.audit_whole.specs.Touching.{by_event, by_move, by_order, is_touched}
 use Rattle.audit_whole.specs.declared.aspects.Aspect.{Aspect}
 use Rattle.audit_whole.specs.declared.aspects.Aspect.TheVariants.{Outputs, Pins, Ram, Stamps, Results, Arrays}
@@ -171,7 +171,7 @@ module _ {Table State Call : Type 0} (agrees : Agreeing Table State) (setting : 
       (by_events : (a : Aspect) (x : Table) (chip : Chip) (w : World) (s : State) (o : Open Call) (made : Move) (received : ℕ) (e : Event) → is_touched a (by_event (setting x) o.origin e) ≡ false → agrees a x chip w s
       → agrees a x chip w (state_after (setting x).machine w s o made received (Some e))) where
     pub seen_stepped : (seen : Seen) (chip : Chip) (w : World) (s : State) (o : Open Call) (made : Move) (received : ℕ) (event : Option Event) → IsSeen agrees setting t seen chip w s
-        → IsSeen agrees setting t (stepped_in made (told_by (setting t) o.origin event) seen) (chip_after chip made received) w (state_after (setting t).machine w s o made received event)
+        → IsSeen agrees setting t (stepped_in made (touched_if_told (setting t) o.origin event) seen) (chip_after chip made received) w (state_after (setting t).machine w s o made received event)
     seen_stepped seen chip w s o made received None h = touched (by_move made) seen chip (chip_after chip made received) w s (λ a. by_moves a t chip w s made received) h
     seen_stepped seen chip w s o made received (Some e) h =
         told (by_event (setting t) o.origin e) (touched_in (by_move made) seen) (chip_after chip made received) (chip_after chip made received) w w s (state_after (setting t).machine w s o made received (Some e))
@@ -186,7 +186,7 @@ module _ {Table State Call : Type 0} (agrees : Agreeing Table State) (setting : 
       told (by_order order) seen chip (happened chip order) w (world_after w ((setting t).machine.rate s) order) s (state_by s ((setting t).machine.happens w s (Moves order))) (λ a. law a t chip w s order) h
 
 -- what is kept stands for the same place with what is seen anew
-pub stands_seeing : {Parts Table State Call : Type 0} (agrees : Agreeing Table State) (setting : Table → Setting State Call) (table : Parts → Table) (stands : Parts → State → Type 0) (t : Table) (seen : Seen) (a : Auditing Parts Call) (p : Place State Call)
+pub stands_seeing : {Parts Table State Call : Type 0} (agrees : Agreeing Table State) (setting : Table → Setting State Call) (table : Parts → Table) (stands : Parts → State → Type 0) (t : Table) (seen : Seen) (a : Auditing Parts Call) (p : AuditState State Call)
     → IsSeen agrees setting t seen p.moment.chip p.moment.world p.moment.state → Stands agrees setting table stands t a p → Stands agrees setting table stands t (seeing seen a) p
 stands_seeing agrees setting table stands t seen a p h s = record {
   kept_of = s.kept_of;

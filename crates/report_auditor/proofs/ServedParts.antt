@@ -16,13 +16,13 @@ use Rattle.run_model.specs.World.{World}
 use Rattle.audit_base.specs.Deeds.{Member}
 use Rattle.audit_frames.specs.Decides.{Decides}
 use Rattle.audit_frames.specs.Kept.{Kept}
-use Rattle.audit_frames.specs.Masks.{covers}
+use Rattle.audit_frames.specs.Masks.{includes}
 use Rattle.audit_frames.specs.StackRules.{StandAll, top_goes}
 use Rattle.audit_frames.proofs.Deciding.{equal, valued, worded, yes}
 use Rattle.audit_frames.proofs.StepLaws.{goes}
 use Rattle.audit_subject.specs.Product.{member_of}
 use Rattle.mcal_base.specs.facts.Truths.{and_first, and_second, off_on}
-use Rattle.report_reading.specs.Blocks.{Place}
+use Rattle.report_reading.specs.Blocks.{AuditState}
 use Rattle.report_auditor.specs.Auditing.{Auditing, Stands, below}
 use Rattle.report_auditor.specs.Seeing.{Agreeing, is_open_seen, is_rest_seen, saw}
 use Rattle.audit_whole.specs.Whole.{is_serial_line}
@@ -44,7 +44,7 @@ going_by g (k ∷ ks) (o ∷ os) h rest = worded (λ x. (x, rest)) (λ x. x.0) (
 
 module _ {Parts Table State Call : Type 0} (agrees : Agreeing Table State) (setting : Table → Setting State Call) (table : Parts → Table) (stands : Parts → State → Type 0)
     (member : Table → Member State Call) (member_is : (t : Table) → member_of (setting t) ≡ member t)
-    (t : Table) (a : Auditing Parts Call) (p : Place State Call) (s : Stands agrees setting table stands t a p) where
+    (t : Table) (a : Auditing Parts Call) (p : AuditState State Call) (s : Stands agrees setting table stands t a p) where
   -- the machine that is asked is that of the run, and so are the lines
   pub machine_is : (member (table a.parts)).machine ≡ (setting t).machine
   machine_is = ap (λ x. (member x).machine) s.kept_of ∙ sym (ap (λ k. k.machine) (member_is t))
@@ -130,16 +130,16 @@ module _ {Parts Table State Call : Type 0} (agrees : Agreeing Table State) (sett
     used_small : (l : ℕ) → (setting t).used l ≡ true → l < 32
     used_small l on = few l (ap (λ u. u l) lines_are ∙ on)
 
-    pub all_due : (b : Bool) (due : ℕ) → b ≡ covers due mask → due ≡ bits_of ((setting t).machine.due p.moment.world p.moment.state) 32
+    pub all_due : (b : Bool) (due : ℕ) → b ≡ includes due mask → due ≡ bits_of ((setting t).machine.due p.moment.world p.moment.state) 32
         → Decides b ((l : ℕ) → (setting t).machine.due p.moment.world p.moment.state l ≡ true → is_pending p.moment.chip l ≡ true)
     all_due b due e is =
-        subst (λ x. Decides x ((l : ℕ) → (setting t).machine.due p.moment.world p.moment.state l ≡ true → is_pending p.moment.chip l ≡ true)) (sym (e ∙ ap (λ n. covers n mask) is))
+        subst (λ x. Decides x ((l : ℕ) → (setting t).machine.due p.moment.world p.moment.state l ≡ true → is_pending p.moment.chip l ≡ true)) (sym (e ∙ ap (λ n. includes n mask) is))
         (each_seen ((setting t).machine.due p.moment.world p.moment.state) (is_pending p.moment.chip) mask seen due_small)
 
-    pub none_unused : (b : Bool) (used : ℕ) → b ≡ covers mask used → used ≡ bits_of (setting t).used 32
+    pub none_unused : (b : Bool) (used : ℕ) → b ≡ includes mask used → used ≡ bits_of (setting t).used 32
         → Decides b ((l : ℕ) → (setting t).used l ≡ false → is_pending p.moment.chip l ≡ false)
     none_unused b used e is =
-        subst (λ x. Decides x ((l : ℕ) → (setting t).used l ≡ false → is_pending p.moment.chip l ≡ false)) (sym (e ∙ ap (λ n. covers mask n) is))
+        subst (λ x. Decides x ((l : ℕ) → (setting t).used l ≡ false → is_pending p.moment.chip l ≡ false)) (sym (e ∙ ap (λ n. includes mask n) is))
         (none_else (setting t).used (is_pending p.moment.chip) mask seen used_small)
 
     pub quiet_lines : (due : ℕ) → due ≡ bits_of ((setting t).machine.due p.moment.world p.moment.state) 32

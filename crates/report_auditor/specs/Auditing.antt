@@ -19,7 +19,7 @@ use Rattle.audit_frames.specs.Kept.{Kept}
 use Rattle.audit_frames.specs.StackRules.{StandAll}
 use Rattle.audit_frames.specs.declared.terms.Task.{Task}
 use Rattle.audit_frames.specs.declared.terms.Task.TheVariants.{Call, Line}
-use Rattle.report_reading.specs.Blocks.{Place}
+use Rattle.report_reading.specs.Blocks.{AuditState}
 use Rattle.report_auditor.specs.Seeing.{Agreeing, IsSeen}
 use Rattle.report_auditor.specs.declared.seen.Seen.{Seen}
 
@@ -51,7 +51,7 @@ below [] = []
 below (o ∷ os) = os
 
 -- It stands for a place, with machines under a configuration; the frames below the newest one can go on.
-pub record Stands {Parts Table State Call : Type 0} (agrees : Agreeing Table State) (setting : Table → Setting State Call) (table : Parts → Table) (stands : Parts → State → Type 0) (t : Table) (a : Auditing Parts Call) (p : Place State Call) : Type 0 where
+pub record Stands {Parts Table State Call : Type 0} (agrees : Agreeing Table State) (setting : Table → Setting State Call) (table : Parts → Table) (stands : Parts → State → Type 0) (t : Table) (a : Auditing Parts Call) (p : AuditState State Call) : Type 0 where
   pub kept_of : table a.parts ≡ t
   pub chip : a.chip ≡ p.moment.chip
   pub world : IsWorld a.outside p.moment.world
@@ -86,7 +86,7 @@ StillSeen {Parts} {Table} {State} {Call} agrees setting t before after made rece
     → IsSeen agrees setting t after.seen (chip_after before.chip made received) w (state_after (setting t).machine w s o made received event)
 
 -- the place with another moment
-abbrev pub moved_to : {State Call : Type 0} → Moment State Call → Place State Call → Place State Call
+abbrev pub moved_to : {State Call : Type 0} → Moment State Call → AuditState State Call → AuditState State Call
 moved_to m p = record { moment = m; frames = p.frames; tally = p.tally }
 
 -- ---- what it needs to go on

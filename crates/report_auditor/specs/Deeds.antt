@@ -8,7 +8,7 @@ use Rattle.mcal_base.specs.declared.directive.Reason.{Reason}
 use Rattle.run_model.specs.Frame.{Open, Origin, Called, Entered, opened}
 use Rattle.run_model.specs.Machine as machines
 use Rattle.run_model.specs.Moment.{Moment, Setting, Transition, Begins, Enters, Resets, after, call_tag, line_tag}
-use Rattle.report_reading.specs.Blocks.{Place}
+use Rattle.report_reading.specs.Blocks.{AuditState}
 
 -- A deed is right: it comes, and then what is kept stands for the moment after it. Or it isn't, and doesn't come.
 abbrev pub Judges : (right : Bool) → (Comes After : Type 0) → Type 0
@@ -42,7 +42,7 @@ devices_after devices Detach = devices - 1
 devices_after devices order = devices
 
 -- the place after a reset
-abbrev pub restarted : {State Call : Type 0} → Setting State Call → Place State Call → Reason → Place State Call
+abbrev pub restarted : {State Call : Type 0} → Setting State Call → AuditState State Call → Reason → AuditState State Call
 restarted g p reason = record { moment = after g p.moment (Resets reason); frames = []; tally = p.tally }
 
 -- ---- frames that begin

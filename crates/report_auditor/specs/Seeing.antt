@@ -72,6 +72,6 @@ stepped_in made None seen = touched_in (by_move made) seen
 stepped_in made (Some touched) seen = told_in touched (touched_in (by_move made) seen)
 
 -- what an event touches, where one stands at a move
-abbrev pub told_by : {State Call : Type 0} → Setting State Call → Origin Call → Option Event → Option Touched
-told_by g x None = None
-told_by g x (Some e) = Some (by_event g x e)
+abbrev pub touched_if_told : {State Call : Type 0} → Setting State Call → Origin Call → Option Event → Option Touched
+touched_if_told g x None = None
+touched_if_told g x (Some e) = Some (by_event g x e)

@@ -7,7 +7,7 @@ ghost use Rattle.run_model.specs.Legal.{IsLegalDeed, IsServed};
 ghost use Rattle.run_model.specs.Moment.{after};
 ghost use Rattle.audit_frames.specs.StandsFor.{IsBegun};
 ghost use Rattle.audit_subject.specs.Origins.{origin_of};
-ghost use Rattle.report_reading.specs.Blocks.{Place};
+ghost use Rattle.report_reading.specs.Blocks.{AuditState};
 ghost use Rattle.report_reading.specs.Steps.{Comes};
 ghost use Rattle.report_auditor.specs.Auditing.{IsReady, Stands, purpose_by};
 ghost use Rattle.report_auditor.specs.Deeds.{Judges, beginning, opening};
@@ -34,7 +34,7 @@ impl<P: Whole> Auditor<P> {
     fn begins(&mut self, terms: Terms, origin: Origin<P::Call>) -> Result<bool, NoMemory>
         requires ready { IsReady P.fits P.within P.ticks 0 self.old }
         requires free { length self.old.frames < 8 }
-        ensures comes { (t : P.Table) (p : Place P.State P.Call) (level : ℕ) → Stands P.agrees P.setting P.table P.stands t self.old p → IsServed (P.setting t) p.moment →
+        ensures comes { (t : P.Table) (p : AuditState P.State P.Call) (level : ℕ) → Stands P.agrees P.setting P.table P.stands t self.old p → IsServed (P.setting t) p.moment →
             IsBegun (P.setting t) terms (opening (P.setting t) (origin_of origin) level) →
             IsLegalDeed (P.setting t) p.moment (beginning (origin_of origin) level) →
             IfOk result (λ right. let deed = beginning (origin_of origin) level in
@@ -53,7 +53,7 @@ impl<P: Whole> Auditor<P> {
     /// Why a call that a request asks for is held at a level, where it is.
     pub fn call_held(&self, call: &P::Call, level: u32) -> Option<Held>
         ensures free { result ≡ None → length self.now.frames < 8 }
-        ensures held { (t : P.Table) (p : Place P.State P.Call) → Stands P.agrees P.setting P.table P.stands t self.now p →
+        ensures held { (t : P.Table) (p : AuditState P.State P.Call) → Stands P.agrees P.setting P.table P.stands t self.now p →
             result ≡ call_held (P.setting t) p.moment call.now level }
     {
         let class = self.parts.class(call);
@@ -63,7 +63,7 @@ impl<P: Whole> Auditor<P> {
     /// Why the handler of a line is held, where it is.
     pub fn line_held(&self, line: u32) -> Option<Held>
         ensures free { result ≡ None → length self.now.frames < 8 }
-        ensures held { (t : P.Table) (p : Place P.State P.Call) → Stands P.agrees P.setting P.table P.stands t self.now p →
+        ensures held { (t : P.Table) (p : AuditState P.State P.Call) → Stands P.agrees P.setting P.table P.stands t self.now p →
             result ≡ line_held (P.setting t) p.moment line }
     {
         let level = self.parts.level(line);
@@ -73,7 +73,7 @@ impl<P: Whole> Auditor<P> {
 
     /// What the frame of a call is judged by.
     fn call_terms(&self, call: &P::Call, level: u32) -> Terms
-        ensures { (t : P.Table) (p : Place P.State P.Call) → Stands P.agrees P.setting P.table P.stands t self.now p →
+        ensures { (t : P.Table) (p : AuditState P.State P.Call) → Stands P.agrees P.setting P.table P.stands t self.now p →
             IsBegun (P.setting t) result (opening (P.setting t) (Called call.now) level) }
     {
         call_terms(&self.parts, call, level)
@@ -82,7 +82,7 @@ impl<P: Whole> Auditor<P> {
     /// What the frame of the handler of a line is judged by.
     fn line_terms(&self, line: u32) -> Terms
         requires { line < 64 }
-        ensures { (t : P.Table) (p : Place P.State P.Call) → Stands P.agrees P.setting P.table P.stands t self.now p →
+        ensures { (t : P.Table) (p : AuditState P.State P.Call) → Stands P.agrees P.setting P.table P.stands t self.now p →
             IsBegun (P.setting t) result (opening (P.setting t) (Entered line) 0) }
     {
         line_terms(&self.parts, line)
@@ -92,7 +92,7 @@ impl<P: Whole> Auditor<P> {
     pub fn begins_call(&mut self, call: P::Call, level: u32) -> Result<bool, NoMemory>
         requires ready { IsReady P.fits P.within P.ticks 0 self.old }
         requires free { length self.old.frames < 8 }
-        ensures comes { (t : P.Table) (p : Place P.State P.Call) → Stands P.agrees P.setting P.table P.stands t self.old p → IsServed (P.setting t) p.moment →
+        ensures comes { (t : P.Table) (p : AuditState P.State P.Call) → Stands P.agrees P.setting P.table P.stands t self.old p → IsServed (P.setting t) p.moment →
             call_held (P.setting t) p.moment call level ≡ None →
             IfOk result (λ right. let deed = beginning (Called call) level in
             Judges right (Comes (P.setting t) p.moment deed) (Stands P.agrees P.setting P.table P.stands t self.new
@@ -108,7 +108,7 @@ impl<P: Whole> Auditor<P> {
         requires ready { IsReady P.fits P.within P.ticks 0 self.old }
         requires free { length self.old.frames < 8 }
         requires there { line < 64 }
-        ensures comes { (t : P.Table) (p : Place P.State P.Call) → Stands P.agrees P.setting P.table P.stands t self.old p → IsServed (P.setting t) p.moment →
+        ensures comes { (t : P.Table) (p : AuditState P.State P.Call) → Stands P.agrees P.setting P.table P.stands t self.old p → IsServed (P.setting t) p.moment →
             line_held (P.setting t) p.moment line ≡ None →
             IfOk result (λ right. let deed = beginning (Entered line) 0 in
             Judges right (Comes (P.setting t) p.moment deed) (Stands P.agrees P.setting P.table P.stands t self.new

@@ -10,7 +10,7 @@ ghost use Rattle.run_model.specs.World.{World};
 ghost use Rattle.audit_base.specs.Outside.{IsWorld};
 ghost use Rattle.audit_frames.specs.Decides.{Decides};
 ghost use Rattle.audit_subject.specs.Origins.{origin_of};
-ghost use Rattle.report_reading.specs.Blocks.{Place};
+ghost use Rattle.report_reading.specs.Blocks.{AuditState};
 ghost use Rattle.report_reading.specs.Steps.{Comes};
 ghost use Rattle.script_runner.specs.Standing.{words_by};
 ghost use Rattle.report_auditor.specs.Auditing.{HasTime, IsReady, IsSound, NamesThere, Stands, moved_to};
@@ -119,7 +119,7 @@ impl<P: Whole> Auditor<P> {
     pub fn hardware_held(&self, order: &Order) -> Option<Held>
         requires within { P.within self.now.parts }
         ensures filled { result ≡ None → (c : ℕ) (words : List ℕ) → order.now ≡ Fill c words → c < 16 }
-        ensures held { (t : P.Table) (p : Place P.State P.Call) → Stands P.agrees P.setting P.table P.stands t self.now p →
+        ensures held { (t : P.Table) (p : AuditState P.State P.Call) → Stands P.agrees P.setting P.table P.stands t self.now p →
             result ≡ hardware_held (P.setting t) p.moment order.now }
     {
         match filled(order) {
@@ -132,7 +132,7 @@ impl<P: Whole> Auditor<P> {
     fn fill_held(&self, channel: u32) -> Option<Held>
         requires within { P.within self.now.parts }
         ensures there { result ≡ None → channel < 16 }
-        ensures held { (t : P.Table) (p : Place P.State P.Call) → Stands P.agrees P.setting P.table P.stands t self.now p →
+        ensures held { (t : P.Table) (p : AuditState P.State P.Call) → Stands P.agrees P.setting P.table P.stands t self.now p →
             result ≡ fill_cause (is_masked p.moment.chip) ((P.setting t).fills channel) (is_busy (P.setting t) p.moment.world p.moment.state (origins_of p.moment.opens) channel) }
     {
         let masked = self.bus.masked();
@@ -172,7 +172,7 @@ impl<P: Whole> Auditor<P> {
         requires few { spec.ticks_by directive.now.order < 2 ^ 32 }
         requires rate { (rate ≡ P.ticks self.old.parts) × (rate ≤ 16) }
         requires is { (s : P.State) → P.stands self.old.parts s → rate ≡ (P.member (P.table self.old.parts)).machine.rate s }
-        ensures moved { (t : P.Table) (p : Place P.State P.Call) → Stands P.agrees P.setting P.table P.stands t self.old p →
+        ensures moved { (t : P.Table) (p : AuditState P.State P.Call) → Stands P.agrees P.setting P.table P.stands t self.old p →
             IfOk result (λ _. Moves (P.setting t) p.moment directive.now.order
             (Stands P.agrees P.setting P.table P.stands t self.new (moved_to (after (P.setting t) p.moment (Happens directive.now.order)) p))) }
         ensures sound { (given : ℕ) → IsReady P.fits P.within P.ticks (words_by directive.now.order + given) self.old → IfOk result (λ _. IsSound P.fits P.within given self.new) }
@@ -189,7 +189,7 @@ impl<P: Whole> Auditor<P> {
     pub fn happens(&mut self, directive: &Directive) -> Result<bool, NoMemory>
         requires ready { IsReady P.fits P.within P.ticks (words_by directive.now.order) self.old }
         requires there { NamesThere directive.now.order }
-        ensures comes { (t : P.Table) (p : Place P.State P.Call) → Stands P.agrees P.setting P.table P.stands t self.old p → IsServed (P.setting t) p.moment →
+        ensures comes { (t : P.Table) (p : AuditState P.State P.Call) → Stands P.agrees P.setting P.table P.stands t self.old p → IsServed (P.setting t) p.moment →
             hardware_held (P.setting t) p.moment directive.now.order ≡ None →
             IfOk result (λ right. let deed = Happens directive.now.order in
             Judges right (Comes (P.setting t) p.moment deed) (Stands P.agrees P.setting P.table P.stands t self.new (moved_to (after (P.setting t) p.moment deed) p))) }
@@ -214,7 +214,7 @@ impl<P: Whole> Auditor<P> {
     /// So many ticks of the oscillator come. Answers whether they may now, and the moment after them is served.
     pub fn tick(&mut self, line: u32, ticks: u32) -> Result<bool, NoMemory>
         requires ready { IsReady P.fits P.within P.ticks 0 self.old }
-        ensures comes { (t : P.Table) (p : Place P.State P.Call) → Stands P.agrees P.setting P.table P.stands t self.old p → IsServed (P.setting t) p.moment →
+        ensures comes { (t : P.Table) (p : AuditState P.State P.Call) → Stands P.agrees P.setting P.table P.stands t self.old p → IsServed (P.setting t) p.moment →
             IfOk result (λ right. let deed = Happens (Tick ticks) in
             Judges right (Comes (P.setting t) p.moment deed) (Stands P.agrees P.setting P.table P.stands t self.new (moved_to (after (P.setting t) p.moment deed) p))) }
         ensures ready { (given : ℕ) → IsReady P.fits P.within P.ticks given self.old → IfOk result (λ right. OnTrue right (IsReady P.fits P.within P.ticks given self.new)) }
@@ -239,7 +239,7 @@ impl<P: Whole> Auditor<P> {
     /// The chip is reset, and every frame is dropped. Answers whether it may be now, and the moment after it is served.
     pub fn resets(&mut self, reason: Reason) -> Result<bool, NoMemory>
         requires ready { IsReady P.fits P.within P.ticks 0 self.old }
-        ensures comes { (t : P.Table) (p : Place P.State P.Call) → Stands P.agrees P.setting P.table P.stands t self.old p → IsServed (P.setting t) p.moment →
+        ensures comes { (t : P.Table) (p : AuditState P.State P.Call) → Stands P.agrees P.setting P.table P.stands t self.old p → IsServed (P.setting t) p.moment →
             IfOk result (λ right. Judges right (Comes (P.setting t) p.moment (Resets reason)) (Stands P.agrees P.setting P.table P.stands t self.new (restarted (P.setting t) p reason))) }
         ensures ready { (given : ℕ) → IsReady P.fits P.within P.ticks given self.old → IfOk result (λ right. OnTrue right (IsReady P.fits P.within P.ticks given self.new)) }
     {

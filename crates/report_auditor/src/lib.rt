@@ -13,7 +13,7 @@ mod seen;
 mod served;
 
 pub use asking::{event_of, shows_right, starts_right};
-pub use audit_whole::Whole;
+pub use audit_whole::{Whole, tables_are_within};
 pub use auditor::Auditor;
 pub use chip_rules::{received_right, sends_right};
 pub use seen::Seen;

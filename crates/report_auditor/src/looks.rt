@@ -1,7 +1,7 @@
 ghost use Rattle.std.specs.Prelude.{◌≡◌, ℕ};
 ghost use Rattle.std.specs.Bool.{OnTrue};
 ghost use Rattle.mcal_base.specs.Bits.{bits_of};
-ghost use Rattle.report_reading.specs.Blocks.{Place};
+ghost use Rattle.report_reading.specs.Blocks.{AuditState};
 ghost use Rattle.report_auditor.specs.Auditing.{IsSound, Stands, seeing};
 ghost use Rattle.report_auditor.specs.Seeing.{IsSeen};
 
@@ -17,7 +17,7 @@ impl<P: Whole> Auditor<P> {
     /// The lines that are due.
     pub(crate) fn due(&self) -> u64
         requires fits { P.fits self.now.parts self.now.outside }
-        ensures { (t : P.Table) (p : Place P.State P.Call) → Stands P.agrees P.setting P.table P.stands t self.now p →
+        ensures { (t : P.Table) (p : AuditState P.State P.Call) → Stands P.agrees P.setting P.table P.stands t self.now p →
             result ≡ bits_of ((P.setting t).machine.due p.moment.world p.moment.state) 32 }
     {
         match self.seen.due {
@@ -30,7 +30,7 @@ impl<P: Whole> Auditor<P> {
     fn is_seen(&self, aspect: Aspect) -> bool
         requires fits { P.fits self.now.parts self.now.outside }
         requires within { P.within self.now.parts }
-        ensures { (t : P.Table) (p : Place P.State P.Call) → Stands P.agrees P.setting P.table P.stands t self.now p →
+        ensures { (t : P.Table) (p : AuditState P.State P.Call) → Stands P.agrees P.setting P.table P.stands t self.now p →
             OnTrue result (P.agrees aspect t p.moment.chip p.moment.world p.moment.state) }
     {
         if self.seen.knows(aspect) {
@@ -43,7 +43,7 @@ impl<P: Whole> Auditor<P> {
     fn sees_open(&self) -> Seen
         requires fits { P.fits self.now.parts self.now.outside }
         requires within { P.within self.now.parts }
-        ensures { (t : P.Table) (p : Place P.State P.Call) → Stands P.agrees P.setting P.table P.stands t self.now p →
+        ensures { (t : P.Table) (p : AuditState P.State P.Call) → Stands P.agrees P.setting P.table P.stands t self.now p →
             IsSeen P.agrees P.setting t result p.moment.chip p.moment.world p.moment.state }
     {
         let seen = self.seen;
@@ -67,7 +67,7 @@ impl<P: Whole> Auditor<P> {
     fn sees_all(&self) -> Seen
         requires fits { P.fits self.now.parts self.now.outside }
         requires within { P.within self.now.parts }
-        ensures { (t : P.Table) (p : Place P.State P.Call) → Stands P.agrees P.setting P.table P.stands t self.now p →
+        ensures { (t : P.Table) (p : AuditState P.State P.Call) → Stands P.agrees P.setting P.table P.stands t self.now p →
             IsSeen P.agrees P.setting t result p.moment.chip p.moment.world p.moment.state }
     {
         let seen = self.seen;
@@ -99,7 +99,7 @@ impl<P: Whole> Auditor<P> {
     fn sees(&self) -> Seen
         requires fits { P.fits self.now.parts self.now.outside }
         requires within { P.within self.now.parts }
-        ensures { (t : P.Table) (p : Place P.State P.Call) → Stands P.agrees P.setting P.table P.stands t self.now p →
+        ensures { (t : P.Table) (p : AuditState P.State P.Call) → Stands P.agrees P.setting P.table P.stands t self.now p →
             IsSeen P.agrees P.setting t result p.moment.chip p.moment.world p.moment.state }
     {
         if self.is_at_rest() {
@@ -116,7 +116,7 @@ impl<P: Whole> Auditor<P> {
         requires fits { P.fits self.old.parts self.old.outside }
         requires within { P.within self.old.parts }
         ensures same { self.new ≡ seeing self.new.seen self.old }
-        ensures stands { (t : P.Table) (p : Place P.State P.Call) → Stands P.agrees P.setting P.table P.stands t self.old p → Stands P.agrees P.setting P.table P.stands t self.new p }
+        ensures stands { (t : P.Table) (p : AuditState P.State P.Call) → Stands P.agrees P.setting P.table P.stands t self.old p → Stands P.agrees P.setting P.table P.stands t self.new p }
         ensures sound { (given : ℕ) → IsSound P.fits P.within given self.old → IsSound P.fits P.within given self.new }
     {
         self.seen = self.sees();

@@ -23,8 +23,8 @@ impl<P: Whole> Auditor<P> {
     }
 
     /// What an event of the newest frame touches, where one stands at a move.
-    fn told_by(&self, event: Option<Event>) -> Option<Touched>
-        ensures { (x : frame.Origin P.Call) (xs : List (frame.Origin P.Call)) → self.now.origins ≡ x ∷ xs → result ≡ spec.told_by (P.setting (P.table self.now.parts)) x event }
+    fn touched_if_told(&self, event: Option<Event>) -> Option<Touched>
+        ensures { (x : frame.Origin P.Call) (xs : List (frame.Origin P.Call)) → self.now.origins ≡ x ∷ xs → result ≡ spec.touched_if_told (P.setting (P.table self.now.parts)) x event }
     {
         match event {
             Some(event) => Some(self.touched_by(event)),
@@ -40,7 +40,7 @@ impl<P: Whole> Auditor<P> {
         ensures moved { Replayed self.old self.new made.now received }
         ensures seen { (t : P.Table) → P.table self.old.parts ≡ t → StillSeen P.agrees P.setting t self.old self.new made.now received event }
     {
-        let told = self.told_by(event);
+        let told = self.touched_if_told(event);
         self.seen.steps(made, told);
         self.bus.replay(made, received)
     }

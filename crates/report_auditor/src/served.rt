@@ -8,7 +8,7 @@ ghost use Rattle.run_model.specs.World.{World};
 ghost use Rattle.audit_base.specs.Outside.{IsWorld};
 ghost use Rattle.audit_frames.specs.Decides.{Decides};
 ghost use Rattle.audit_frames.specs.Masks as masks;
-ghost use Rattle.report_reading.specs.Blocks.{Place};
+ghost use Rattle.report_reading.specs.Blocks.{AuditState};
 ghost use Rattle.report_auditor.specs.Auditing.{IsSound, Stands, seeing};
 ghost use Rattle.report_auditor.specs.Serving.{KeepsTime, LinesAgree, OpenRight};
 
@@ -58,8 +58,8 @@ pub fn used_lines<P: Part>(part: &P) -> u64
 }
 
 /// Whether each bit of the first mask is one of the second.
-fn covers(need: u64, have: u64) -> bool
-    ensures { result ≡ masks.covers need have }
+fn includes(need: u64, have: u64) -> bool
+    ensures { result ≡ masks.includes need have }
 {
     need & have == need
 }
@@ -87,7 +87,7 @@ fn units_rest<P: Part>(part: &P, outside: &Outside) -> bool
 impl<P: Whole> Auditor<P> {
     /// Whether time goes on at the machines' rate.
     fn keeps_rate(&self) -> bool
-        ensures right { (t : P.Table) (p : Place P.State P.Call) → Stands P.agrees P.setting P.table P.stands t self.now p →
+        ensures right { (t : P.Table) (p : AuditState P.State P.Call) → Stands P.agrees P.setting P.table P.stands t self.now p →
             Decides result (p.moment.chip.clock.rate ≡ (P.setting t).machine.rate p.moment.state) }
         ensures rate { OnTrue result (self.now.chip.clock.rate ≡ P.ticks self.now.parts) }
     {
@@ -98,7 +98,7 @@ impl<P: Whole> Auditor<P> {
 
     /// Whether it does, and the watchdog has as much of it left as they say.
     fn keeps_time(&self) -> bool
-        ensures time { (t : P.Table) (p : Place P.State P.Call) → Stands P.agrees P.setting P.table P.stands t self.now p →
+        ensures time { (t : P.Table) (p : AuditState P.State P.Call) → Stands P.agrees P.setting P.table P.stands t self.now p →
             Decides result (KeepsTime (P.setting t) p.moment) }
         ensures rate { OnTrue result (self.now.chip.clock.rate ≡ P.ticks self.now.parts) }
     {
@@ -112,20 +112,20 @@ impl<P: Whole> Auditor<P> {
     fn lines_agree(&self, pending: u64) -> bool
         requires fits { P.fits self.now.parts self.now.outside }
         requires pending { (l : ℕ) → has_bit pending l ≡ is_pending self.now.chip l }
-        ensures { (t : P.Table) (p : Place P.State P.Call) → Stands P.agrees P.setting P.table P.stands t self.now p →
+        ensures { (t : P.Table) (p : AuditState P.State P.Call) → Stands P.agrees P.setting P.table P.stands t self.now p →
             Decides result (LinesAgree (P.setting t) p.moment) }
     {
-        if !covers(self.due(), pending) {
+        if !includes(self.due(), pending) {
             return false;
         }
-        covers(pending, self.seen.used)
+        includes(pending, self.seen.used)
     }
 
     /// Whether chip and machines agree in what they do wherever the mask is open, where it is.
     fn is_open_right(&self, pending: u64) -> bool
         requires fits { P.fits self.now.parts self.now.outside }
         requires pending { (l : ℕ) → has_bit pending l ≡ is_pending self.now.chip l }
-        ensures { (t : P.Table) (p : Place P.State P.Call) → Stands P.agrees P.setting P.table P.stands t self.now p →
+        ensures { (t : P.Table) (p : AuditState P.State P.Call) → Stands P.agrees P.setting P.table P.stands t self.now p →
             Decides result (OpenRight (P.setting t) p.moment) }
     {
         if self.bus.masked() {
@@ -145,7 +145,7 @@ impl<P: Whole> Auditor<P> {
     fn has_due_lines(&self, pending: u64) -> bool
         requires fits { P.fits self.now.parts self.now.outside }
         requires pending { (l : ℕ) → has_bit pending l ≡ is_pending self.now.chip l }
-        ensures { (t : P.Table) (p : Place P.State P.Call) → Stands P.agrees P.setting P.table P.stands t self.now p →
+        ensures { (t : P.Table) (p : AuditState P.State P.Call) → Stands P.agrees P.setting P.table P.stands t self.now p →
             Decides result ((l : ℕ) → is_pending p.moment.chip l ≡ (P.setting t).machine.due p.moment.world p.moment.state l) }
     {
         let due = self.due();
@@ -157,7 +157,7 @@ impl<P: Whole> Auditor<P> {
         requires fits { P.fits self.now.parts self.now.outside }
         requires within { P.within self.now.parts }
         requires pending { (l : ℕ) → has_bit pending l ≡ is_pending self.now.chip l }
-        ensures { (t : P.Table) (p : Place P.State P.Call) → Stands P.agrees P.setting P.table P.stands t self.now p →
+        ensures { (t : P.Table) (p : AuditState P.State P.Call) → Stands P.agrees P.setting P.table P.stands t self.now p →
             Decides result (IsQuiet (P.setting t) p.moment) }
     {
         if !units_rest(&self.parts, &self.outside) {
@@ -177,7 +177,7 @@ impl<P: Whole> Auditor<P> {
         requires fits { P.fits self.now.parts self.now.outside }
         requires within { P.within self.now.parts }
         requires pending { (l : ℕ) → has_bit pending l ≡ is_pending self.now.chip l }
-        ensures { (t : P.Table) (p : Place P.State P.Call) → Stands P.agrees P.setting P.table P.stands t self.now p →
+        ensures { (t : P.Table) (p : AuditState P.State P.Call) → Stands P.agrees P.setting P.table P.stands t self.now p →
             Decides result (QuietAtRest (P.setting t) p.moment p.moment.opens) }
     {
         match self.frames.top() {
@@ -188,7 +188,7 @@ impl<P: Whole> Auditor<P> {
 
     /// Whether neither lines nor outputs are asked: the mask is closed, with a frame under way.
     fn is_shut(&self) -> bool
-        ensures { (t : P.Table) (p : Place P.State P.Call) → Stands P.agrees P.setting P.table P.stands t self.now p →
+        ensures { (t : P.Table) (p : AuditState P.State P.Call) → Stands P.agrees P.setting P.table P.stands t self.now p →
             OnTrue result (OpenRight (P.setting t) p.moment × QuietAtRest (P.setting t) p.moment p.moment.opens) }
     {
         if !self.bus.masked() {
@@ -202,7 +202,7 @@ impl<P: Whole> Auditor<P> {
 
     /// Whether each frame can go on within its bounds. Those below the newest one can.
     fn are_going(&self) -> bool
-        ensures { (t : P.Table) (p : Place P.State P.Call) → Stands P.agrees P.setting P.table P.stands t self.now p →
+        ensures { (t : P.Table) (p : AuditState P.State P.Call) → Stands P.agrees P.setting P.table P.stands t self.now p →
             Decides result (AreGoing (P.setting t) p.moment.opens) }
     {
         self.frames.is_going()
@@ -212,7 +212,7 @@ impl<P: Whole> Auditor<P> {
     fn is_right(&self) -> bool
         requires fits { P.fits self.now.parts self.now.outside }
         requires within { P.within self.now.parts }
-        ensures served { (t : P.Table) (p : Place P.State P.Call) → Stands P.agrees P.setting P.table P.stands t self.now p →
+        ensures served { (t : P.Table) (p : AuditState P.State P.Call) → Stands P.agrees P.setting P.table P.stands t self.now p →
             Decides result (IsServed (P.setting t) p.moment) }
         ensures rate { OnTrue result (self.now.chip.clock.rate ≡ P.ticks self.now.parts) }
     {
@@ -237,11 +237,11 @@ impl<P: Whole> Auditor<P> {
     pub fn is_served(&mut self) -> bool
         requires fits { P.fits self.old.parts self.old.outside }
         requires within { P.within self.old.parts }
-        ensures served { (t : P.Table) (p : Place P.State P.Call) → Stands P.agrees P.setting P.table P.stands t self.old p →
+        ensures served { (t : P.Table) (p : AuditState P.State P.Call) → Stands P.agrees P.setting P.table P.stands t self.old p →
             Decides result (IsServed (P.setting t) p.moment) }
         ensures rate { OnTrue result (self.new.chip.clock.rate ≡ P.ticks self.new.parts) }
         ensures same { self.new ≡ seeing self.new.seen self.old }
-        ensures stands { (t : P.Table) (p : Place P.State P.Call) → Stands P.agrees P.setting P.table P.stands t self.old p → Stands P.agrees P.setting P.table P.stands t self.new p }
+        ensures stands { (t : P.Table) (p : AuditState P.State P.Call) → Stands P.agrees P.setting P.table P.stands t self.old p → Stands P.agrees P.setting P.table P.stands t self.new p }
         ensures sound { (given : ℕ) → IsSound P.fits P.within given self.old → IsSound P.fits P.within given self.new }
     {
         self.looks();

@@ -4,7 +4,7 @@ use Rattle.std.specs.Prelude.{Bool, IfOk, Result, Ok, Err}
 use Rattle.mcal_base.specs.declared.config.whole.Config.{Config}
 use Rattle.mcal_base.specs.declared.directive.Directive.{Directive}
 use Rattle.mcal_base.specs.declared.service.Service.{Service}
-use Rattle.mcal_system.specs.Setting.{system_setting, call_of}
+use Rattle.mcal_drivers.specs.Setting.{system_setting, call_of}
 use Rattle.run_model.specs.Moment.{start_moment}
 use Rattle.script_runner.specs.Scripts.{chip_for}
 use Rattle.shown_rows.specs.Shows.{show_rows}

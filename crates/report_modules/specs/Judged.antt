@@ -2,7 +2,7 @@
 use Rattle.std.specs.Prelude.{◌≡◌, ℕ, List}
 use Rattle.mcal_base.specs.declared.config.whole.Config.{Config}
 use Rattle.mcal_base.specs.declared.directive.Directive.{Directive}
-use Rattle.mcal_system.specs.Setting.{system_setting, call_of}
+use Rattle.mcal_drivers.specs.Setting.{system_setting, call_of}
 use Rattle.run_model.specs.Entry.{Entry}
 use Rattle.run_model.specs.Moment.{start_moment}
 use Rattle.script_runner.specs.Scripts.{chip_for}

@@ -16,7 +16,7 @@ use Rattle.mcal_base.specs.declared.directive.Order.TheVariants as orders
 use Rattle.mcal_base.specs.declared.directive.Reason.TheVariants.{PowerOn, Watchdog, Software}
 use Rattle.mcal_base.specs.declared.directive.Request.{Request}
 use Rattle.mcal_base.specs.declared.directive.Shown.{Shown}
-use Rattle.report_reading.specs.Blocks.{Place, block_lines}
+use Rattle.report_reading.specs.Blocks.{AuditState, block_lines}
 use Rattle.report_reading.specs.Reading.{item, steps_of, held_or, ticks_of, items_by, items_of, AreBegun}
 use Rattle.report_reading.proofs.StepsBack.{begins_anew, done_told, all_told, not_held, goes_back}
 use Rattle.run_model.specs.Entry as entry
@@ -146,6 +146,6 @@ module _ {State Call : Type 0} (g : Setting State Call) (call_of : Request → C
   gives_read (orders.Reset Software) items begun h legal = absurd h
   gives_read (orders.Show what) items begun h legal = show_read what m.opens items h
 
-pub reads_back : {State Call : Type 0} (g : Setting State Call) (call_of : Request → Call) (showing : Showing State) (p : Place State Call) (d : Directive) (items : List Entry) →
+pub reads_back : {State Call : Type 0} (g : Setting State Call) (call_of : Request → Call) (showing : Showing State) (p : AuditState State Call) (d : Directive) (items : List Entry) →
     AreBegun p → Gives g call_of p.moment d.line d.order items → IsLegal g p.moment (deeds_in call_of d.order items) → items_of g call_of p.moment d (map told (block_lines g call_of showing p d items)) ≡ items
 reads_back g call_of showing p d items begun h legal = gives_read g call_of p.moment p.frames (shows_from g call_of showing (d ∷ []) p.moment items) d.line d.order items begun h legal

@@ -13,7 +13,7 @@ use Rattle.mcal_base.specs.declared.directive.Order.TheVariants as orders
 use Rattle.mcal_base.specs.declared.directive.Request.{Request}
 use Rattle.mcal_base.specs.declared.directive.Shown.{Shown}
 use Rattle.report_reading.specs.Fits.{OrderFits, PurposeFits}
-use Rattle.report_reading.specs.Reading.{item, held_or, items_by, told_by, told_in}
+use Rattle.report_reading.specs.Reading.{item, held_or, items_by, told_in_line, told_in}
 use Rattle.report_reading.proofs.Back.{gives_read}
 use Rattle.report_reading.proofs.Places.{lines_quiet}
 use Rattle.report_reading.proofs.RowLaws.{NotHeld, shows_freely}
@@ -51,7 +51,7 @@ module _ {State Call : Type 0} (g : Setting State Call) (call_of : Request → C
       subst (λ (xs : List Entry). IsBack (orders.Show what) xs) (sym is) (free (read_of (orders.Show what) (item m n (entry.Happens (orders.Show what)) ∷ [])) (item m n (entry.Happens (orders.Show what)) ∷ []) (shows_freely n numbered (next_rows shows)))
   show_back what (o ∷ os) items is =
       subst (λ (xs : List Entry). IsBack (orders.Show what) xs) (sym is)
-      (subst (λ (t : Option TraceLine). held_or m n (told_by t ++ []) (item m n (entry.Happens (orders.Show what)) ∷ []) ≡ item m n (entry.Stays Frames) ∷ []) (sym (line_again n (Holds Frames) numbered tt)) refl)
+      (subst (λ (t : Option TraceLine). held_or m n (told_in_line t ++ []) (item m n (entry.Happens (orders.Show what)) ∷ []) ≡ item m n (entry.Stays Frames) ∷ []) (sym (line_again n (Holds Frames) numbered tt)) refl)
 
   show_or : (order : Order) (items : List Entry) → Gives g call_of m n order items → (is_show order ≡ false → IsBack order items) → IsBack order items
   show_or (orders.Show what) items gives f = show_back what m.opens items gives

@@ -3,7 +3,7 @@ use Rattle.std.proofs.Common.{◌≡◌, ℕ, List, [], ◌∷◌, ◌++◌, map
 use Rattle.bench_report.specs.Showing.{Showing, shows_from}
 use Rattle.mcal_base.specs.declared.directive.Directive.{Directive}
 use Rattle.mcal_base.specs.declared.directive.Request.{Request}
-use Rattle.report_reading.specs.Blocks.{Place, IsBlock, place_after, block_lines, own_lines, printed}
+use Rattle.report_reading.specs.Blocks.{AuditState, IsBlock, place_after, block_lines, own_lines, printed}
 use Rattle.report_reading.specs.Fits.{DirectiveFits}
 use Rattle.report_reading.specs.Reading.{items_of, told_in, IsPlace}
 use Rattle.report_reading.proofs.LinesBack.{lines_back}
@@ -13,7 +13,7 @@ use Rattle.run_model.specs.Moment.{Setting}
 use Rattle.trace_reader.specs.Reading.{line_with, parts_of}
 
 module _ {State Call : Type 0} (g : Setting State Call) (call_of : Request → Call) (showing : Showing State) where
-  module _ (p : Place State Call) (d : Directive) (block : List ℕ) where
+  module _ (p : AuditState State Call) (d : Directive) (block : List ℕ) where
     read_back : (b : IsBlock g call_of showing p d block) → IsPlace p → DirectiveFits d → b.items ≡ items_of g call_of p.moment d (told_in (own_lines d.line (parts_of block)))
     read_back b place fits =
         let shows = shows_from g call_of showing (d ∷ []) p.moment b.items in

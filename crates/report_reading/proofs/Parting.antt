@@ -15,7 +15,7 @@ use Rattle.mcal_base.specs.declared.directive.Directive.{Directive}
 use Rattle.mcal_base.specs.declared.directive.Order.{Order}
 use Rattle.mcal_base.specs.declared.directive.Order.TheVariants as orders
 use Rattle.mcal_base.specs.declared.directive.Request.{Request}
-use Rattle.report_reading.specs.Blocks.{Place, block_lines, counted, place_after}
+use Rattle.report_reading.specs.Blocks.{AuditState, block_lines, counted, place_after}
 use Rattle.report_reading.proofs.Parted.{AllAbove, own_are, later_are}
 use Rattle.run_model.specs.Entry as entry
 use Rattle.run_model.specs.Entry.{Entry, Said}
@@ -145,10 +145,10 @@ module _ {State Call : Type 0} (g : Setting State Call) (call_of : Request → C
   lines_by frames d ds shows first later = all_numbered d.line (with_done (chapter_lines true d.order frames shows first)) ++ report_lines true (chapter_frames d.order frames first) (chapter_shows shows first) ds later
 
   -- the lines of a report from a place on, with these directives and items
-  abbrev pub lines_from : (script : List Directive) → Place State Call → List Directive → List Entry → List Numbered
+  abbrev pub lines_from : (script : List Directive) → AuditState State Call → List Directive → List Entry → List Numbered
   lines_from script p ds items = report_lines true p.frames (shows_from g call_of showing script p.moment items) ds items
 
-  module _ (script : List Directive) (p : Place State Call) (d : Directive) (first later : List Entry) (own : EachOf d.line any first) (found : order_at script d.line ≡ Some d.order) where
+  module _ (script : List Directive) (p : AuditState State Call) (d : Directive) (first later : List Entry) (own : EachOf d.line any first) (found : order_at script d.line ≡ Some d.order) where
     pub shows_next : chapter_shows (shows_from g call_of showing script p.moment (first ++ later)) first ≡ shows_from g call_of showing script (place_after g call_of showing p d first).moment later
     shows_next = ap (λ (rows : List (List Row)). chapter_shows rows first) (shows_split script d first later p.moment own found) ∙ shows_kept (d ∷ []) first p.moment _
 

@@ -12,7 +12,7 @@ use Rattle.bench_report.specs.declared.rows.RowName.{RowName}
 use Rattle.bench_report.specs.declared.rows.RowName.TheVariants as names
 use Rattle.bench_report.specs.declared.rows.Value.{Value}
 use Rattle.bench_report.specs.declared.rows.Value.TheVariants as values
-use Rattle.report_reading.specs.Reading.{told_by, told_in}
+use Rattle.report_reading.specs.Reading.{told_in_line, told_in}
 use Rattle.report_reading.proofs.Places.{IsPrinted}
 use Rattle.trace_reader.specs.Guess.{words_of, guess, row, long_row, long_name, short_name, shown, is_long, each, value}
 use Rattle.trace_reader.specs.Numbers.{number}
@@ -98,35 +98,35 @@ NotHeld (tells.Held cause ∷ ts) = ⊥
 NotHeld (_ ∷ ts) = Unit {0}
 
 module _ (n : ℕ) (text : List ℕ) where
-  test_tells : (b : Bool) → TellsRow (told_by (if b then Some (record { number = n; told = tells.Shown }) else None))
+  test_tells : (b : Bool) → TellsRow (told_in_line (if b then Some (record { number = n; told = tells.Shown }) else None))
   test_tells true = tt
   test_tells false = tt
 
-  values_tell : (name : RowName) (vs : Option (List Value)) → TellsRow (told_by (told_where n text (option_map (λ vs. Shows (record { name = name; values = vs })) vs)))
+  values_tell : (name : RowName) (vs : Option (List Value)) → TellsRow (told_in_line (told_where n text (option_map (λ vs. Shows (record { name = name; values = vs })) vs)))
   values_tell name None = tt
   values_tell name (Some vs) = test_tells (bytes_eq (line_with n (Shows (record { name = name; values = vs }))) text)
 
-  shown_tells : (name : Option RowName) (words : List (List ℕ)) → TellsRow (told_by (told_where n text (shown name words)))
+  shown_tells : (name : Option RowName) (words : List (List ℕ)) → TellsRow (told_in_line (told_where n text (shown name words)))
   shown_tells None words = tt
   shown_tells (Some name) words = values_tell name (each value words)
 
-  long_tells : (word : List ℕ) (words : List (List ℕ)) → TellsRow (told_by (told_where n text (long_row word words)))
+  long_tells : (word : List ℕ) (words : List (List ℕ)) → TellsRow (told_in_line (told_where n text (long_row word words)))
   long_tells word [] = tt
   long_tells word (first ∷ []) = tt
   long_tells word (first ∷ second ∷ words) = shown_tells (long_name word first second) words
 
-  either_tells : (b : Bool) (one other : Option Line) → TellsRow (told_by (told_where n text one)) → TellsRow (told_by (told_where n text other)) → TellsRow (told_by (told_where n text (if b then one else other)))
+  either_tells : (b : Bool) (one other : Option Line) → TellsRow (told_in_line (told_where n text one)) → TellsRow (told_in_line (told_where n text other)) → TellsRow (told_in_line (told_where n text (if b then one else other)))
   either_tells true one other h k = h
   either_tells false one other h k = k
 
-  row_tells : (word : List ℕ) (words : List (List ℕ)) → TellsRow (told_by (told_where n text (row word words)))
+  row_tells : (word : List ℕ) (words : List (List ℕ)) → TellsRow (told_in_line (told_where n text (row word words)))
   row_tells word [] = tt
   row_tells word (first ∷ words) = either_tells (is_long word) (long_row word (first ∷ words)) (shown (short_name word first) words) (long_tells word (first ∷ words)) (shown_tells (short_name word first) words)
 
   -- a line whose first word is one of a row
-  words_tell : (kind : List ℕ) (words : List (List ℕ)) → IsNumber n → words_of text ≡ decimal n ∷ kind ∷ words → guess (kind ∷ words) ≡ row kind words → TellsRow (told_by (read_line text))
+  words_tell : (kind : List ℕ) (words : List (List ℕ)) → IsNumber n → words_of text ≡ decimal n ∷ kind ∷ words → guess (kind ∷ words) ≡ row kind words → TellsRow (told_in_line (read_line text))
   words_tell kind words h cut begins =
-      subst (λ (o : Option TraceLine). TellsRow (told_by o))
+      subst (λ (o : Option TraceLine). TellsRow (told_in_line o))
       (sym (ap (λ (ws : List (List ℕ)). read_words ws text) cut
       ∙ (ap (λ (k : Option ℕ). read_number k (kind ∷ words) text) (number_again n h)
       ∙ ap (told_where n text) begins)))
@@ -137,13 +137,13 @@ module _ (n : ℕ) (h : IsNumber n) where
   cut : (s : List ℕ) → words_of (decimal n ++ (codes " " ++ s)) ≡ decimal n ∷ words_of s
   cut s = front_word (decimal n) (codes " " ++ s) (no_space n h) refl
 
-  kind_tells : (kind s : List ℕ) → none (λ b. b == 32) kind ≡ true → ((words : List (List ℕ)) → guess (kind ∷ words) ≡ row kind words) → TellsRow (told_by (read_line (decimal n ++ (codes " " ++ (kind ++ (codes " " ++ s))))))
+  kind_tells : (kind s : List ℕ) → none (λ b. b == 32) kind ≡ true → ((words : List (List ℕ)) → guess (kind ∷ words) ≡ row kind words) → TellsRow (told_in_line (read_line (decimal n ++ (codes " " ++ (kind ++ (codes " " ++ s))))))
   kind_tells kind s whole begins =
       words_tell n (decimal n ++ (codes " " ++ (kind ++ (codes " " ++ s)))) kind (words_of s) h
       (cut (kind ++ (codes " " ++ s)) ∙ ap (λ (ws : List (List ℕ)). decimal n ∷ ws) (front_word kind (codes " " ++ s) whole refl))
       (begins (words_of s))
 
-  line_tells : (name : RowName) (vs : List Value) → TellsRow (told_by (read_line (line_with n (Shows (record { name = name; values = vs })))))
+  line_tells : (name : RowName) (vs : List Value) → TellsRow (told_in_line (read_line (line_with n (Shows (record { name = name; values = vs })))))
   line_tells (names.Pin p) vs = kind_tells (codes "pin") _ refl (λ words. refl)
   line_tells (names.Ram p) vs = kind_tells (codes "ram") _ refl (λ words. refl)
   line_tells (names.Wire p) vs = kind_tells (codes "wire") _ refl (λ words. refl)
@@ -163,10 +163,10 @@ module _ (n : ℕ) (h : IsNumber n) where
 
   rows_before : (rest : List Line) → NotHeld (told_in (map (λ line. line_with n line) rest)) → (rows : List Row) → NotHeld (told_in (map (λ line. line_with n line) (map (λ row. Shows row) rows ++ rest)))
   rows_before rest k [] = k
-  rows_before rest k (row ∷ rows) = behind_row (told_by (read_line (line_with n (Shows row)))) (told_in (map (λ line. line_with n line) (map (λ row. Shows row) rows ++ rest))) (line_tells row.name row.values) (rows_before rest k rows)
+  rows_before rest k (row ∷ rows) = behind_row (told_in_line (read_line (line_with n (Shows row)))) (told_in (map (λ line. line_with n line) (map (λ row. Shows row) rows ++ rest))) (line_tells row.name row.values) (rows_before rest k rows)
 
   done_tells : NotHeld (told_in (map (λ line. line_with n line) (Done ∷ [])))
-  done_tells = subst (λ (o : Option TraceLine). NotHeld (told_by o ++ [])) (sym (line_again n Done h tt)) tt
+  done_tells = subst (λ (o : Option TraceLine). NotHeld (told_in_line o ++ [])) (sym (line_again n Done h tt)) tt
 
   rows_or_done : (b : Bool) (rows : List Row) → NotHeld (told_in (map (λ line. line_with n line) (cond b ((map (λ row. Shows row) rows ++ []) ++ Done ∷ []) (map (λ row. Shows row) rows ++ []))))
   rows_or_done true rows = subst (λ (lines : List Line). NotHeld (told_in (map (λ line. line_with n line) lines))) (sym (append_assoc (map (λ row. Shows row) rows) [] (Done ∷ []))) (rows_before (Done ∷ []) done_tells rows)

@@ -10,7 +10,7 @@ use Rattle.bench_report.specs.Lines.{Line, line_text, numbered, end_text}
 use Rattle.bench_report.specs.Numbers.{IsNumber, Each}
 use Rattle.bench_report.specs.declared.tally.Tally.{Tally}
 use Rattle.report_reading.specs.Blocks.{begins_with, own_lines, behind, text_of, printed}
-use Rattle.report_reading.specs.Reading.{told_by, told_in}
+use Rattle.report_reading.specs.Reading.{told_in_line, told_in}
 use Rattle.trace_reader.specs.Numbers.{number}
 use Rattle.trace_reader.specs.Guess.{words_of}
 use Rattle.trace_reader.specs.Reading.{line_with, parts_of}
@@ -170,7 +170,7 @@ behind_are n (line ∷ lines) text stops =
 pub told_again : (n : ℕ) (lines : List Line) → IsNumber n → Each HasLineNumbers lines → told_in (map (λ line. line_with n line) lines) ≡ map told lines
 told_again n [] h k = refl
 told_again n (line ∷ lines) h k =
-    ap (λ (o : Option TraceLine). told_by o ++ told_in (map (λ line. line_with n line) lines)) (line_again n line h k.0)
+    ap (λ (o : Option TraceLine). told_in_line o ++ told_in (map (λ line. line_with n line) lines)) (line_again n line h k.0)
     ∙ ap (λ (ts : List Told). told line ∷ ts) (told_again n lines h k.1)
 
 -- the lines of a directive at the front of a text, and what is behind them

@@ -12,7 +12,7 @@ use Rattle.chip_model.specs.Chip.{Chip}
 use Rattle.mcal_base.specs.declared.directive.Directive.{Directive}
 use Rattle.mcal_base.specs.declared.directive.Request.{Request}
 use Rattle.report_reading.specs.Audits.{Audits, Ends, Unended, Unserved, Next, Refused, AuditsReport, IsReportOf}
-use Rattle.report_reading.specs.Blocks.{Place, IsBlock, place_from, block_lines, place_after, own_lines, behind, text_of, printed}
+use Rattle.report_reading.specs.Blocks.{AuditState, IsBlock, place_from, block_lines, place_after, own_lines, behind, text_of, printed}
 use Rattle.report_reading.specs.Fits.{DirectiveFits}
 use Rattle.report_reading.specs.Reading.{IsPlace, read_report}
 use Rattle.report_reading.specs.declared.verdict.Verdict.{Verdict}
@@ -53,7 +53,7 @@ none_before n = omega arith
 module _ {State Call : Type 0} (g : Setting State Call) (call_of : Request → Call) (showing : Showing State) where
   -- ---- one verdict
 
-  pub answers_once : (script : List Directive) (p : Place State Call) (line : ℕ) (left : List (List ℕ)) {one other : Verdict} → IsPlace p → Each DirectiveFits script →
+  pub answers_once : (script : List Directive) (p : AuditState State Call) (line : ℕ) (left : List (List ℕ)) {one other : Verdict} → IsPlace p → Each DirectiveFits script →
       Audits g call_of showing p script line left one → Audits g call_of showing p script line left other → one ≡ other
   answers_once [] p line left place fits (Ends served end) (Ends served1 end1) = refl
   answers_once [] p line left place fits (Ends served end) (Unended served1 other) = absurd (other end)
@@ -76,14 +76,14 @@ module _ {State Call : Type 0} (g : Setting State Call) (call_of : Request → C
 
   module _ (script : List Directive) where
     -- Items of the directives that are left, as a journal holds them, legal, whose lines and the last one are what is left.
-    record IsRest (p : Place State Call) (ds : List Directive) (left : List (List ℕ)) : Type 0 where
+    record IsRest (p : AuditState State Call) (ds : List Directive) (left : List (List ℕ)) : Type 0 where
       items : List Entry
       fit : Each EntryFits items
       follows : Follows g call_of p.moment ds items
       legal : IsLegal g p.moment (deeds_of call_of script items)
       text : join_with_byte 10 left ≡ lines_text (lines_from g call_of showing script p ds items) ++ end_text (counted_on p.tally (lines_from g call_of showing script p ds items))
 
-    more_rest : (low : ℕ) (p : Place State Call) (d : Directive) (ds : List Directive) (left : List (List ℕ)) (b : IsBlock g call_of showing p d (text_of (own_lines d.line left))) → LinesRise low (d ∷ ds) → Finds g call_of script (d ∷ ds) →
+    more_rest : (low : ℕ) (p : AuditState State Call) (d : Directive) (ds : List Directive) (left : List (List ℕ)) (b : IsBlock g call_of showing p d (text_of (own_lines d.line left))) → LinesRise low (d ∷ ds) → Finds g call_of script (d ∷ ds) →
         IsRest (place_after g call_of showing p d b.items) ds (behind d.line left) → IsRest p (d ∷ ds) left
     more_rest low p d ds left b rise found r =
         let later = place_after g call_of showing p d b.items in
@@ -108,7 +108,7 @@ module _ {State Call : Type 0} (g : Setting State Call) (call_of : Request → C
               ∙ ap (λ (ls : List Numbered). lines_text ls ++ end_text (counted_on p.tally ls)) (sym split)))));
         }
 
-    passed_rest : (ds : List Directive) (low : ℕ) (p : Place State Call) (line : ℕ) (left : List (List ℕ)) (lines : ℕ) {verdict : Verdict} → verdict ≡ Passed lines → LinesRise low ds → Finds g call_of script ds →
+    passed_rest : (ds : List Directive) (low : ℕ) (p : AuditState State Call) (line : ℕ) (left : List (List ℕ)) (lines : ℕ) {verdict : Verdict} → verdict ≡ Passed lines → LinesRise low ds → Finds g call_of script ds →
         Audits g call_of showing p ds line left verdict → IsRest p ds left
     passed_rest [] low p line left lines e rise found (Ends served end) = record {
       items = [];
@@ -144,7 +144,7 @@ module _ {State Call : Type 0} (g : Setting State Call) (call_of : Request → C
   -- ---- the report of a run is passed
 
   module _ (script : List Directive) (tally : Tally) where
-    all_pass : (ds : List Directive) (low : ℕ) (p : Place State Call) (line : ℕ) (items : List Entry) →
+    all_pass : (ds : List Directive) (low : ℕ) (p : AuditState State Call) (line : ℕ) (items : List Entry) →
         Comes g call_of script tally low ds p.moment p.frames (shows_from g call_of showing script p.moment items) items → Follows g call_of p.moment ds items →
         tally ≡ counted_on p.tally (lines_from g call_of showing script p ds items) →
         Audits g call_of showing p ds line (parts_of (left_text g call_of script tally (lines_from g call_of showing script p ds items))) (Passed (line + length (lines_from g call_of showing script p ds items)))

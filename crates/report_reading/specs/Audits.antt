@@ -13,7 +13,7 @@ use Rattle.run_model.specs.Entry.{Entry}
 use Rattle.run_model.specs.Legal.{IsServed}
 use Rattle.run_model.specs.Moment.{Setting, start_moment}
 use Rattle.script_runner.specs.Scripts.{IsRun, LinesRise}
-use Rattle.report_reading.specs.Blocks.{Place, IsBlock, place_from, place_after, own_lines, behind, text_of}
+use Rattle.report_reading.specs.Blocks.{AuditState, IsBlock, place_from, place_after, own_lines, behind, text_of}
 use Rattle.report_reading.specs.Fits.{DirectiveFits}
 use Rattle.report_reading.specs.Reading.{IsPlace, read_report}
 use Rattle.trace_reader.specs.Reading.{parts_of}
@@ -29,20 +29,20 @@ abbrev pub end_fault : Tally → (line : ℕ) → (left : List (List ℕ)) → �
 end_fault tally line left = if bytes_eq (take (length (end_text tally)) (join_with_byte 10 left)) (end_text tally) then line + 1 else line
 
 -- What the audit of the directives that are left answers, from a place and a line on, whose number is from 1.
-pub data Audits {State Call : Type 0} (g : Setting State Call) (call_of : Request → Call) (showing : Showing State) : Place State Call → List Directive → (line : ℕ) → (left : List (List ℕ)) → Verdict → Type 0 where
+pub data Audits {State Call : Type 0} (g : Setting State Call) (call_of : Request → Call) (showing : Showing State) : AuditState State Call → List Directive → (line : ℕ) → (left : List (List ℕ)) → Verdict → Type 0 where
   -- all blocks were read, the last moment is served, and the last line comes alone
-  Ends : {p : Place State Call} {line : ℕ} {left : List (List ℕ)} → IsServed g p.moment → IsEnd p.tally left → Audits g call_of showing p [] line left (Passed line)
+  Ends : {p : AuditState State Call} {line : ℕ} {left : List (List ℕ)} → IsServed g p.moment → IsEnd p.tally left → Audits g call_of showing p [] line left (Passed line)
   -- something else comes
-  Unended : {p : Place State Call} {line : ℕ} {left : List (List ℕ)} → IsServed g p.moment → (IsEnd p.tally left → ⊥) → Audits g call_of showing p [] line left (Fault (end_fault p.tally line left))
+  Unended : {p : AuditState State Call} {line : ℕ} {left : List (List ℕ)} → IsServed g p.moment → (IsEnd p.tally left → ⊥) → Audits g call_of showing p [] line left (Fault (end_fault p.tally line left))
   -- the moment isn't served: after a directive each is
-  Unserved : {p : Place State Call} {line : ℕ} {left : List (List ℕ)} → (IsServed g p.moment → ⊥) → Audits g call_of showing p [] line left (Fault line)
+  Unserved : {p : AuditState State Call} {line : ℕ} {left : List (List ℕ)} → (IsServed g p.moment → ⊥) → Audits g call_of showing p [] line left (Fault line)
   -- the block of the next directive is that of legal items, and so it goes on
-  Next : {p : Place State Call} {d : Directive} {ds : List Directive} {line : ℕ} {left : List (List ℕ)} {v : Verdict}
+  Next : {p : AuditState State Call} {d : Directive} {ds : List Directive} {line : ℕ} {left : List (List ℕ)} {v : Verdict}
       → (b : IsBlock g call_of showing p d (text_of (own_lines d.line left)))
       → Audits g call_of showing (place_after g call_of showing p d b.items) ds (line + length (own_lines d.line left)) (behind d.line left) v
       → Audits g call_of showing p (d ∷ ds) line left v
   -- it is that of none
-  Refused : {p : Place State Call} {d : Directive} {ds : List Directive} {line : ℕ} {left : List (List ℕ)}
+  Refused : {p : AuditState State Call} {d : Directive} {ds : List Directive} {line : ℕ} {left : List (List ℕ)}
       → (IsBlock g call_of showing p d (text_of (own_lines d.line left)) → ⊥)
       → Audits g call_of showing p (d ∷ ds) line left (Fault line)
 
@@ -61,7 +61,7 @@ pub record IsReportOf {State Call : Type 0} (g : Setting State Call) (call_of : 
 -- Two verdicts of what is left of a report are one.
 abbrev pub AnswersOnce : {State Call : Type 0} → Setting State Call → (Request → Call) → Showing State → Type 0
 AnswersOnce {State} {Call} g call_of showing =
-    (p : Place State Call) (script : List Directive) (line : ℕ) (left : List (List ℕ)) (one other : Verdict) → IsPlace p → Each DirectiveFits script
+    (p : AuditState State Call) (script : List Directive) (line : ℕ) (left : List (List ℕ)) (one other : Verdict) → IsPlace p → Each DirectiveFits script
     → Audits g call_of showing p script line left one → Audits g call_of showing p script line left other → one ≡ other
 
 -- A report that is passed is that of a run, whose journal it tells.

@@ -43,13 +43,13 @@ printed number lines = flat_map (λ line. numbered number line) lines
 -- ---- where an audit has come
 
 -- Where it has come: the moment, what the frames were begun for, the topmost first, and what the lines so far count.
-pub record Place (State Call : Type 0) : Type 0 where
+pub record AuditState (State Call : Type 0) : Type 0 where
   pub moment : Moment State Call
   pub frames : List Purpose
   pub tally : Tally
 
 -- at the front of a report
-abbrev pub place_from : {State Call : Type 0} → Moment State Call → Place State Call
+abbrev pub place_from : {State Call : Type 0} → Moment State Call → AuditState State Call
 place_from m = record { moment = m; frames = []; tally = record { calls = 0; handlers = 0; held = 0; errors = 0; notes = 0 } }
 
 -- what lines add to what is counted
@@ -65,11 +65,11 @@ counted t lines = record {
 -- ---- items of a directive
 
 -- the lines that items of a directive print here
-abbrev pub block_lines : {State Call : Type 0} → Setting State Call → (Request → Call) → Showing State → Place State Call → Directive → List Entry → List Line
+abbrev pub block_lines : {State Call : Type 0} → Setting State Call → (Request → Call) → Showing State → AuditState State Call → Directive → List Entry → List Line
 block_lines g call_of showing p d items = with_done (chapter_lines true d.order p.frames (shows_from g call_of showing (d ∷ []) p.moment items) items)
 
 -- Items of a directive, as a journal holds them: those that it asks for, legal, and they print exactly this block.
-pub record IsBlock {State Call : Type 0} (g : Setting State Call) (call_of : Request → Call) (showing : Showing State) (p : Place State Call) (d : Directive) (block : List ℕ) : Type 0 where
+pub record IsBlock {State Call : Type 0} (g : Setting State Call) (call_of : Request → Call) (showing : Showing State) (p : AuditState State Call) (d : Directive) (block : List ℕ) : Type 0 where
   pub items : List Entry
   -- numbers of 32 bits
   pub fits : Each EntryFits items
@@ -78,7 +78,7 @@ pub record IsBlock {State Call : Type 0} (g : Setting State Call) (call_of : Req
   pub prints : printed d.line (block_lines g call_of showing p d items) ≡ block
 
 -- where items of a directive lead
-abbrev pub place_after : {State Call : Type 0} → Setting State Call → (Request → Call) → Showing State → Place State Call → Directive → List Entry → Place State Call
+abbrev pub place_after : {State Call : Type 0} → Setting State Call → (Request → Call) → Showing State → AuditState State Call → Directive → List Entry → AuditState State Call
 place_after g call_of showing p d items = record {
   moment = after_all g p.moment (deeds_in call_of d.order items);
   frames = chapter_frames d.order p.frames items;

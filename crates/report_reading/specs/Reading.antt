@@ -28,7 +28,7 @@ use Rattle.run_model.specs.Script.{beginnings_of}
 use Rattle.run_model.specs.declared.item.Stepped.{Stepped}
 use Rattle.script_runner.specs.Scripts.{IsRun, LinesRise}
 use Rattle.report_reading.specs.Fits.{DirectiveFits, PurposeFits}
-use Rattle.report_reading.specs.Blocks.{Place, IsBlock, place_after, block_lines, own_lines, behind}
+use Rattle.report_reading.specs.Blocks.{AuditState, IsBlock, place_after, block_lines, own_lines, behind}
 use Rattle.trace_reader.specs.Reading.{read_line, parts_of}
 use Rattle.trace_reader.specs.Told.{told}
 use Rattle.trace_reader.specs.declared.told.Mark.{Mark}
@@ -141,12 +141,12 @@ items_of g call_of m d lines = held_or m d.line lines (items_by g call_of m d.li
 -- ---- a report
 
 -- what a line tells, where it is one of a report
-abbrev pub told_by : Option TraceLine → List Told
-told_by None = []
-told_by (Some line) = line.told ∷ []
+abbrev pub told_in_line : Option TraceLine → List Told
+told_in_line None = []
+told_in_line (Some line) = line.told ∷ []
 
 abbrev pub told_in : (lines : List (List ℕ)) → List Told
-told_in lines = flat_map (λ line. told_by (read_line line)) lines
+told_in lines = flat_map (λ line. told_in_line (read_line line)) lines
 
 -- the items that a report tells of a script, directive by directive, from a moment on
 abbrev pub read_from : {State Call : Type 0} → Setting State Call → (Request → Call) → Moment State Call → List Directive → (left : List (List ℕ)) → List Entry
@@ -162,25 +162,25 @@ read_report g call_of first script report = read_from g call_of first script (pa
 -- ---- the laws
 
 -- as many frames are under way as were begun and haven't ended
-abbrev pub AreBegun : {State Call : Type 0} → Place State Call → Type 0
+abbrev pub AreBegun : {State Call : Type 0} → AuditState State Call → Type 0
 AreBegun p = length p.frames ≡ length p.moment.opens
 
 -- Where an audit may have come: so many frames, and those of handlers were begun for lines of 32 bits.
-pub record IsPlace {State Call : Type 0} (p : Place State Call) : Type 0 where
+pub record IsPlace {State Call : Type 0} (p : AuditState State Call) : Type 0 where
   pub begun : AreBegun p
   pub fit : Each PurposeFits p.frames
 
 -- The items of a directive, legal, are those that their lines tell.
 abbrev pub ReadsBack : {State Call : Type 0} → Setting State Call → (Request → Call) → Showing State → Type 0
 ReadsBack {State} {Call} g call_of showing =
-    (p : Place State Call) (d : Directive) (items : List Entry)
+    (p : AuditState State Call) (d : Directive) (items : List Entry)
     → AreBegun p → Gives g call_of p.moment d.line d.order items → IsLegal g p.moment (deeds_in call_of d.order items)
     → items_of g call_of p.moment d (map told (block_lines g call_of showing p d items)) ≡ items
 
 -- So two lists of items with one block are one, and lead to a place where an audit may have come.
 abbrev pub ReadsOnce : {State Call : Type 0} → Setting State Call → (Request → Call) → Showing State → Type 0
 ReadsOnce {State} {Call} g call_of showing =
-    (p : Place State Call) (d : Directive) (block : List ℕ) (one other : IsBlock g call_of showing p d block)
+    (p : AuditState State Call) (d : Directive) (block : List ℕ) (one other : IsBlock g call_of showing p d block)
     → IsPlace p → DirectiveFits d → (one.items ≡ other.items) × IsPlace (place_after g call_of showing p d one.items)
 
 -- The journal of a run is read from its report.

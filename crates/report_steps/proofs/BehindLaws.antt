@@ -6,7 +6,7 @@ use Rattle.mcal_base.specs.declared.directive.Order.TheVariants.{Tick}
 use Rattle.mcal_base.specs.facts.Truths.{off_on}
 use Rattle.run_model.specs.Moment.{Setting, Happens, after}
 use Rattle.run_model.specs.declared.item.Stepped.{Stepped}
-use Rattle.report_reading.specs.Blocks.{Place, printed}
+use Rattle.report_reading.specs.Blocks.{AuditState, printed}
 use Rattle.report_reading.specs.Steps.{Comes, StepComes, AtOnce}
 use Rattle.report_text.specs.Unread.{Unread, after_told, own_text, told_next}
 use Rattle.report_text.proofs.Owning.{reads}
@@ -20,8 +20,8 @@ use Rattle.report_steps.proofs.NextLaws.{legal_top, only_told, text_made}
 use Rattle.report_steps.proofs.StepsAll.{fits_told, same_line}
 use Rattle.report_steps.proofs.WaitLaws.{came_awaited, comes_awaited}
 
-module _ {State Call : Type 0} (g : Setting State Call) (p : Place State Call) (ticks : ℕ) (S : Place State Call → Type 0) (r : Unread) (number : IsNumber r.number) (few : IsNumber (length (waited_to g p ticks).moment.opens)) where
-  abbrev here : Place State Call
+module _ {State Call : Type 0} (g : Setting State Call) (p : AuditState State Call) (ticks : ℕ) (S : AuditState State Call → Type 0) (r : Unread) (number : IsNumber r.number) (few : IsNumber (length (waited_to g p ticks).moment.opens)) where
+  abbrev here : AuditState State Call
   here = waited_to g p ticks
 
   -- the next line is that of no step

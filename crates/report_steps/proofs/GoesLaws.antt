@@ -22,7 +22,7 @@ use Rattle.audit_frames.specs.Told.{step_of}
 use Rattle.audit_frames.specs.declared.terms.Step.{Step}
 use Rattle.audit_frames.proofs.Deciding.{and_join}
 use Rattle.audit_subject.specs.declared.hearing.Heard.{Heard}
-use Rattle.report_reading.specs.Blocks.{Place}
+use Rattle.report_reading.specs.Blocks.{AuditState}
 use Rattle.report_text.specs.Unread.{Unread, own_text}
 use Rattle.trace_reader.specs.declared.told.Step as read
 use Rattle.report_auditor.specs.Auditing.{Auditing, Stands, StillSeen, purposes_by}
@@ -84,24 +84,24 @@ still_from agrees setting table t a a1 a2 b r event h ended e1 e2 kept still =
     (still t (ap (λ y. table y.parts) e2 ∙ (ap (λ y. table y.parts) e1 ∙ kept))))
 
 -- with another one kept that stands where the first one does
-made_to : {State Call : Type 0} (g : Setting State Call) (p : Place State Call) (r : read.Step) (S T : Place State Call → Type 0) (n : ℕ) (text rest : List ℕ) (made : Made)
-    → ((q : Place State Call) → S q → T q) → IsMade g p r S n text rest made → IsMade g p r T n text rest made
+made_to : {State Call : Type 0} (g : Setting State Call) (p : AuditState State Call) (r : read.Step) (S T : AuditState State Call → Type 0) (n : ℕ) (text rest : List ℕ) (made : Made)
+    → ((q : AuditState State Call) → S q → T q) → IsMade g p r S n text rest made → IsMade g p r T n text rest made
 made_to g p r S T n text rest made to it = record { step = it.step; comes = it.comes; is = it.is; text_is = it.text_is; stands = to (stepped_to g p it.step) it.stands; only = it.only }
 
-module _ {Parts Table State Call : Type 0} (agrees : Agreeing Table State) (setting : Table → Setting State Call) (table : Parts → Table) (stands : Parts → State → Type 0) (t : Table) (p : Place State Call) (o : Open Call) (os : List (Open Call))
+module _ {Parts Table State Call : Type 0} (agrees : Agreeing Table State) (setting : Table → Setting State Call) (table : Parts → Table) (stands : Parts → State → Type 0) (t : Table) (p : AuditState State Call) (o : Open Call) (os : List (Open Call))
     (opens : p.moment.opens ≡ o ∷ os) (r : read.Step) (event : Option Event) (at : event_at r ≡ Some event) (now : ComesNow (setting t) p.moment o r) (early : IsEarly (setting t) p.moment)
     (a : Auditing Parts Call) (h : Heard) (heard : IsHeard agrees setting table stands t a p o (step_told r event None) h) where
   top : Top a.frames
   top = top_kept (setting t) a.frames o os (subst (λ ys. StandAll (setting t) a.frames ys) opens heard.frames)
 
   -- a word goes out that isn't the machine's
-  pub wrong_word : (S : Place State Call → Type 0) (n : ℕ) (text rest : List ℕ) → sends_right a.chip h.begins r.made ≡ false → MakesStep (setting t) p r S n text rest None
+  pub wrong_word : (S : AuditState State Call → Type 0) (n : ℕ) (text rest : List ℕ) → sends_right a.chip h.begins r.made ≡ false → MakesStep (setting t) p r S n text rest None
   wrong_word S n text rest off =
       not_sent agrees setting table stands t p o os opens r event at now early a h top.k top.ks top.is heard n text
       (λ x. fails (sends_right a.chip h.begins r.made) (sends a.chip h.begins r.made) off (subst (λ c. SendsRight c (option_map begun_of h.begins) r.made) (sym heard.chip) x))
 
   -- the line of its move doesn't come
-  pub wrong_line : (S : Place State Call → Type 0) (r0 r1 : Unread) (rest : List ℕ) → TakesLines false (move_lines r.made) r0 r1 → MakesStep (setting t) p r S r0.number (own_text r0) rest None
+  pub wrong_line : (S : AuditState State Call → Type 0) (r0 r1 : Unread) (rest : List ℕ) → TakesLines false (move_lines r.made) r0 r1 → MakesStep (setting t) p r S r0.number (own_text r0) rest None
   wrong_line S r0 r1 rest none = not_said agrees setting table stands t p o os opens r event at now early a h top.k top.ks top.is heard r0.number (own_text r0) none
 
   module _ (r0 r1 r2 : Unread) (ended : Bool) (said : TakesLines true (move_lines r.made) r0 r1) (ends : TakesEnd a.frames event h.told ended r1 r2) where
@@ -140,7 +140,7 @@ module _ {Parts Table State Call : Type 0} (agrees : Agreeing Table State) (sett
     right_by x = ap (λ ks. top_right ks x h.told h.polls h.around) top.is
 
     -- the frame may not make it, or its move gave something else
-    pub wrong_move : (S : Place State Call → Type 0) (rest : List ℕ) (b : Auditing Parts Call) → Moves so_far b r asked h false → MakesStep (setting t) p r S r0.number (own_text r0) rest None
+    pub wrong_move : (S : AuditState State Call → Type 0) (rest : List ℕ) (b : Auditing Parts Call) → Moves so_far b r asked h false → MakesStep (setting t) p r S r0.number (own_text r0) rest None
     wrong_move S rest b moves =
         not_moved agrees setting table stands t p o os opens r event at now early a h top.k top.ks top.is heard r0.number (own_text r0) (own_text r1) (own_text r2) ended said.text taken
         (λ right value. off_on (moves.is ∙ and_join (top_right so_far.frames asked h.told h.polls h.around) (value_of so_far.chip r.made == r.value)
@@ -167,14 +167,14 @@ module _ {Parts Table State Call : Type 0} (agrees : Agreeing Table State) (sett
           (sym (right_by asked) ∙ and_first (top_right so_far.frames asked h.told h.polls h.around) (value_of so_far.chip r.made == r.value) both)
           fits still served
 
-      pub made : (S : Place State Call → Type 0) (b_served : Bool) → ((q : Place State Call) → Stands agrees setting table stands t b q → Decides b_served (IsServed (setting t) q.moment)) → b_served ≡ true
-          → ((q : Place State Call) → Stands agrees setting table stands t b q → S q)
+      pub made : (S : AuditState State Call → Type 0) (b_served : Bool) → ((q : AuditState State Call) → Stands agrees setting table stands t b q → Decides b_served (IsServed (setting t) q.moment)) → b_served ≡ true
+          → ((q : AuditState State Call) → Stands agrees setting table stands t b q → S q)
           → MakesStep (setting t) p r S r0.number (own_text r0) (own_text r2) (Some (record { made = r.made; event = event; ended = ended }))
       made S served decides on to =
           made_to (setting t) p r (Stands agrees setting table stands t b) S r0.number (own_text r0) (own_text r2) _ to (made_where (λ kept. (decides (stepped_to (setting t) p whole) kept).says on))
 
       -- the moment after it isn't served
-      pub wrong_moment : (S : Place State Call → Type 0) (b_served : Bool) → ((q : Place State Call) → Stands agrees setting table stands t b q → Decides b_served (IsServed (setting t) q.moment)) → b_served ≡ false
+      pub wrong_moment : (S : AuditState State Call → Type 0) (b_served : Bool) → ((q : AuditState State Call) → Stands agrees setting table stands t b q → Decides b_served (IsServed (setting t) q.moment)) → b_served ≡ false
           → MakesStep (setting t) p r S r0.number (own_text r0) (own_text r2) None
       wrong_moment S served decides off s more comes none is =
           let one = only_one agrees setting table stands t p o os opens r event at now early a h top.k top.ks top.is heard r0.number (own_text r0) (own_text r1) (own_text r2) ended said.text taken s more comes none is in

@@ -13,7 +13,7 @@ use Rattle.audit_frames.specs.StandsFor.{StandsFor}
 use Rattle.audit_subject.specs.Hearings.{Hears, Says}
 use Rattle.audit_subject.specs.Product.{member_of}
 use Rattle.audit_subject.specs.declared.hearing.Heard.{Heard}
-use Rattle.report_reading.specs.Blocks.{Place}
+use Rattle.report_reading.specs.Blocks.{AuditState}
 use Rattle.trace_reader.specs.declared.told.Step as read
 use Rattle.report_auditor.specs.Asking.{StartRight}
 use Rattle.report_auditor.specs.Auditing.{AllCommitted, Auditing, IsSound, Stands}
@@ -51,7 +51,7 @@ still_sound fits within given a parts outside s fit limits same =
 
 module _ {Parts Table State Call : Type 0} (agrees : Agreeing Table State) (setting : Table → Setting State Call) (table : Parts → Table) (stands : Parts → State → Type 0)
     (member : Table → Member State Call) (member_is : (t : Table) → member_of (setting t) ≡ member t)
-    (t : Table) (a : Auditing Parts Call) (p : Place State Call) (s : Stands agrees setting table stands t a p)
+    (t : Table) (a : Auditing Parts Call) (p : AuditState State Call) (s : Stands agrees setting table stands t a p)
     (o : Open Call) (k : Kept) (ks : List Kept) (top : a.frames ≡ k ∷ ks) (stood : StandsFor (setting t) k o) (r : read.Step) (event : Option Event) where
   -- a start is judged by the machine of the run, with the answer that the frame has
   starts : StartRight (member (table a.parts)).machine p.moment.world p.moment.state k.answer event → StartRight (setting t).machine p.moment.world p.moment.state o.acted event

@@ -16,7 +16,7 @@ use Rattle.audit_frames.specs.StandsFor.{StandsFor}
 use Rattle.audit_subject.specs.Hearings.{Hears}
 use Rattle.audit_subject.specs.Product.{member_of}
 use Rattle.audit_subject.specs.declared.hearing.Heard.{Heard}
-use Rattle.report_reading.specs.Blocks.{Place}
+use Rattle.report_reading.specs.Blocks.{AuditState}
 use Rattle.trace_reader.specs.declared.told.Step as read
 use Rattle.report_auditor.specs.Asking.{StartRight}
 use Rattle.report_auditor.specs.Auditing.{AllCommitted, Auditing, HasCommitted, Stands}
@@ -32,7 +32,7 @@ first_committed now (j ∷ ks) k all first = subst (HasCommitted now) (same_some
 
 module _ {Parts Table State Call : Type 0} (agrees : Agreeing Table State) (setting : Table → Setting State Call) (table : Parts → Table) (stands : Parts → State → Type 0)
     (member : Table → Member State Call) (member_is : (t : Table) → member_of (setting t) ≡ member t)
-    (t : Table) (a : Auditing Parts Call) (p : Place State Call) (s : Stands agrees setting table stands t a p)
+    (t : Table) (a : Auditing Parts Call) (p : AuditState State Call) (s : Stands agrees setting table stands t a p)
     (o : Open Call) (os : List (Open Call)) (opens : p.moment.opens ≡ o ∷ os) (r : read.Step) (event : Option Event) where
   all : StandAll (setting t) a.frames (o ∷ os)
   all = subst (λ ys. StandAll (setting t) a.frames ys) opens s.frames

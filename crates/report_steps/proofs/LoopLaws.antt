@@ -17,7 +17,7 @@ use Rattle.run_model.specs.declared.stop_condition.StopCondition.{StopCondition}
 use Rattle.audit_base.specs.declared.outside.Outside.{Outside}
 use Rattle.audit_frames.specs.Kept.{Kept}
 use Rattle.audit_frames.specs.StackRules.{StandAll}
-use Rattle.report_reading.specs.Blocks.{Place, printed}
+use Rattle.report_reading.specs.Blocks.{AuditState, printed}
 use Rattle.report_reading.specs.Steps.{Comes, PrintsSteps, StepComes, WaitComes, LastStep, ResetStep, MoreSteps, RunsOut, is_silent, lines_at}
 use Rattle.report_text.specs.Unread.{Unread, own_text}
 use Rattle.report_auditor.specs.Auditing.{Auditing, IsReady, Stands, moved_to, purpose_by, purposes_by}
@@ -38,7 +38,7 @@ use Rattle.report_steps.proofs.SoFarLaws.{done, front_is, next, not_reset, nothi
 
 -- ---- what comes from here on
 
-module _ {State Call : Type 0} (g : Setting State Call) (reach : StopCondition) (p : Place State Call) (n : ℕ) (text : List ℕ) where
+module _ {State Call : Type 0} (g : Setting State Call) (reach : StopCondition) (p : AuditState State Call) (n : ℕ) (text : List ℕ) where
   -- no step fits the block, and no reset
   pub none_prints : ((s : Stepped) (at : Moment State Call) (waits more : List Line) → FitsStep g p n text s at waits more → ⊥) → ((ticks : ℕ) → FitsReset g p n text ticks → ⊥)
       → (count : ℕ) (silent : Bool) (lines : List Line) (last : Moment State Call) (left : List Purpose) → PrintsSteps g reach count silent p.moment p.frames lines last left → text ≡ printed n lines → ⊥
@@ -65,7 +65,7 @@ module _ {State Call : Type 0} (g : Setting State Call) (reach : StopCondition) 
   only_reset never count silent lines last left (MoreSteps s at waits rest comes resets stops more) e = absurd (never s at waits rest (record { comes = comes; behind = no_end g more; text_is = e }))
   only_reset never count silent lines last left (RunsOut unit ticks waits ends left1 comes) e = refl
 
-module _ {State Call : Type 0} (g : Setting State Call) (reach : StopCondition) (first : Place State Call) (whole : List ℕ) (count : ℕ) (silent : Bool) (p : Place State Call) (S : Place State Call → Type 0) (r r1 : Unread)
+module _ {State Call : Type 0} (g : Setting State Call) (reach : StopCondition) (first : AuditState State Call) (whole : List ℕ) (count : ℕ) (silent : Bool) (p : AuditState State Call) (S : AuditState State Call → Type 0) (r r1 : Unread)
     (so_far : SoFar g reach first r.number whole count silent p (own_text r)) where
   -- nothing right comes
   pub ends_wrong : NoneComes g p r → (rest : List ℕ) → Takes false (PrintsOn g reach 0 true first) S r.number whole rest
@@ -77,7 +77,7 @@ module _ {State Call : Type 0} (g : Setting State Call) (reach : StopCondition) 
   pub ends_reset : ResetCame g p S r r1 → Takes true (PrintsOn g reach 0 true first) S r.number whole (own_text r1)
   ends_reset it =
       let line = Restarts Watchdog (length p.moment.opens) ∷ [] in
-      let there : Place State Call = restarted g (waited_to g p it.ticks) Watchdog in
+      let there : AuditState State Call = restarted g (waited_to g p it.ticks) Watchdog in
       let waits = it.out.waits in
       let comes : WaitComes g p.moment it.out.unit it.ticks = record { busy = waits.busy; unmasked = waits.waits.0; may = waits.waits.1; fits = it.out.fits; comes = it.out.comes } in
       let prints : PrintsOn g reach count silent p line there = record {
@@ -109,7 +109,7 @@ module _ {State Call : Type 0} (g : Setting State Call) (reach : StopCondition) 
       text_is = e;
     })
 
-    pub there : Place State Call
+    pub there : AuditState State Call
     there = stepped_to g (moved_to it.at p) it.step
 
     resets_is : reaching.resets made ≡ resets_chip it.step.made
@@ -144,7 +144,7 @@ module _ {State Call : Type 0} (g : Setting State Call) (reach : StopCondition) 
           (λ left e. taken left (subst (λ k. own_text r1 ≡ printed k (ok_where (silent && reaching.is_silent made)) ++ left) (sym same) (subst (λ b. own_text r1 ≡ printed r.number (ok_where b) ++ left) (sym silent_is) e)))
 
     -- it resets the chip
-    pub stops_reset : (right : Bool) (S1 : Place State Call → Type 0) (rest : List ℕ) → reaching.resets made ≡ true → Takes right (PrintsReset g (stepped_to g (moved_to it.at p) it.step) Software) S1 r.number (own_text r1) rest
+    pub stops_reset : (right : Bool) (S1 : AuditState State Call → Type 0) (rest : List ℕ) → reaching.resets made ≡ true → Takes right (PrintsReset g (stepped_to g (moved_to it.at p) it.step) Software) S1 r.number (own_text r1) rest
         → Takes right (PrintsOn g reach 0 true first) S1 r.number whole rest
     stops_reset true S1 rest on took = was_reset g reach first r.number whole count silent p (own_text r) (own_text r1) so_far it.step it.at it.waits it.comes it.text_is only goes (sym resets_is ∙ on) S1 rest took
     stops_reset false S1 rest on none = not_reset g reach first r.number whole count silent p (own_text r) (own_text r1) so_far it.step it.at it.waits it.comes it.text_is only goes (sym resets_is ∙ on) none
@@ -160,7 +160,7 @@ has_purpose : {State Call : Type 0} (g : Setting State Call) (kept : List Kept) 
 has_purpose g [] o os frames h e = absurd h
 has_purpose g (k ∷ ks) o os frames h e = record { purpose = purpose_by k.terms.task; more = purposes_by ks; is = e }
 
-pub purpose_there : {Parts Table State Call : Type 0} (agrees : Agreeing Table State) (setting : Table → Setting State Call) (table : Parts → Table) (stands : Parts → State → Type 0) (t : Table) (a : Auditing Parts Call) (p : Place State Call) → Stands agrees setting table stands t a p
+pub purpose_there : {Parts Table State Call : Type 0} (agrees : Agreeing Table State) (setting : Table → Setting State Call) (table : Parts → Table) (stands : Parts → State → Type 0) (t : Table) (a : Auditing Parts Call) (p : AuditState State Call) → Stands agrees setting table stands t a p
     → (s : Stepped) (at : Moment State Call) (waits : List Line) → StepComes (setting t) p.moment s at waits → HasPurpose p.frames
 purpose_there agrees setting table stands t a p h s at waits comes =
     let top = top_step (setting t) p.moment s at waits comes in
@@ -169,8 +169,8 @@ purpose_there agrees setting table stands t a p h s at waits comes =
 -- ---- the loop
 
 -- the place that the steps so far lead to
-pub record GoesTo {Parts Table State Call : Type 0} (agrees : Agreeing Table State) (setting : Table → Setting State Call) (table : Parts → Table) (stands : Parts → State → Type 0) (t : Table) (reach : StopCondition) (first : Place State Call) (now : Auditing Parts Call) (before after : Unread) (count : ℕ) (silent : Bool) : Type 0 where
-  pub place : Place State Call
+pub record GoesTo {Parts Table State Call : Type 0} (agrees : Agreeing Table State) (setting : Table → Setting State Call) (table : Parts → Table) (stands : Parts → State → Type 0) (t : Table) (reach : StopCondition) (first : AuditState State Call) (now : Auditing Parts Call) (before after : Unread) (count : ℕ) (silent : Bool) : Type 0 where
+  pub place : AuditState State Call
   pub kept : Stands agrees setting table stands t now place
   pub so_far : SoFar (setting t) reach first before.number (own_text before) count silent place (own_text after)
 
@@ -179,7 +179,7 @@ pub record SoGoes {Parts Table State Call : Type 0} (agrees : Agreeing Table Sta
     (reach : StopCondition) (old now : Auditing Parts Call) (before after : Unread) (count : ℕ) (silent : Bool) : Type 0 where
   pub ready : (given : ℕ) → IsReady fits within ticks given old → IsReady fits within ticks given now
   pub on : Advances before after
-  pub goes : (t : Table) (p : Place State Call) → Stands agrees setting table stands t old p → IsServed (setting t) p.moment → GoesTo agrees setting table stands t reach p now before after count silent
+  pub goes : (t : Table) (p : AuditState State Call) → Stands agrees setting table stands t old p → IsServed (setting t) p.moment → GoesTo agrees setting table stands t reach p now before after count silent
 
 module _ {Parts Table State Call : Type 0} (agrees : Agreeing Table State) (setting : Table → Setting State Call) (table : Parts → Table) (stands : Parts → State → Type 0) (fits : Parts → Outside → Type 0) (within : Parts → Type 0) (ticks : Parts → ℕ)
     (reach : StopCondition) (old : Auditing Parts Call) (before : Unread) where
@@ -192,28 +192,28 @@ module _ {Parts Table State Call : Type 0} (agrees : Agreeing Table State) (sett
 
   module _ (now new : Auditing Parts Call) (after next : Unread) (count : ℕ) (silent : Bool) (so : SoGoes agrees setting table stands fits within ticks reach old now before after count silent) where
     -- the places' number is the block's
-    here : (t : Table) (p : Place State Call) (h : GoesTo agrees setting table stands t reach p now before after count silent) → SoFar (setting t) reach p after.number (own_text before) count silent h.place (own_text after)
+    here : (t : Table) (p : AuditState State Call) (h : GoesTo agrees setting table stands t reach p now before after count silent) → SoFar (setting t) reach p after.number (own_text before) count silent h.place (own_text after)
     here t p h = subst (λ n. SoFar (setting t) reach p n (own_text before) count silent h.place (own_text after)) (sym so.on.number) h.so_far
 
-    back : (right : Bool) (t : Table) (p : Place State Call) (rest : List ℕ) → Takes right (PrintsOn (setting t) reach 0 true p) (Stands agrees setting table stands t new) after.number (own_text before) rest
+    back : (right : Bool) (t : Table) (p : AuditState State Call) (rest : List ℕ) → Takes right (PrintsOn (setting t) reach 0 true p) (Stands agrees setting table stands t new) after.number (own_text before) rest
         → Takes right (PrintsOn (setting t) reach 0 true p) (Stands agrees setting table stands t new) before.number (own_text before) rest
     back right t p rest h = subst (λ n. Takes right (PrintsOn (setting t) reach 0 true p) (Stands agrees setting table stands t new) n (own_text before) rest) so.on.number h
 
-    module _ (came : (t : Table) (p : Place State Call) → Stands agrees setting table stands t now p → IsServed (setting t) p.moment → NoneComes (setting t) p after) where
-      pub wrong : (t : Table) (p : Place State Call) → Stands agrees setting table stands t old p → IsServed (setting t) p.moment → (rest : List ℕ)
+    module _ (came : (t : Table) (p : AuditState State Call) → Stands agrees setting table stands t now p → IsServed (setting t) p.moment → NoneComes (setting t) p after) where
+      pub wrong : (t : Table) (p : AuditState State Call) → Stands agrees setting table stands t old p → IsServed (setting t) p.moment → (rest : List ℕ)
           → Takes false (PrintsOn (setting t) reach 0 true p) (Stands agrees setting table stands t new) before.number (own_text before) rest
       wrong t p kept served rest =
           let h = so.goes t p kept served in
           back false t p rest (ends_wrong (setting t) reach p (own_text before) count silent h.place (Stands agrees setting table stands t new) after next (here t p h) (came t h.place h.kept h.so_far.served) rest)
 
-    module _ (came : (t : Table) (p : Place State Call) → Stands agrees setting table stands t now p → IsServed (setting t) p.moment → ResetCame (setting t) p (Stands agrees setting table stands t new) after next) where
-      pub reset : (t : Table) (p : Place State Call) → Stands agrees setting table stands t old p → IsServed (setting t) p.moment
+    module _ (came : (t : Table) (p : AuditState State Call) → Stands agrees setting table stands t now p → IsServed (setting t) p.moment → ResetCame (setting t) p (Stands agrees setting table stands t new) after next) where
+      pub reset : (t : Table) (p : AuditState State Call) → Stands agrees setting table stands t old p → IsServed (setting t) p.moment
           → Takes true (PrintsOn (setting t) reach 0 true p) (Stands agrees setting table stands t new) before.number (own_text before) (own_text next)
       reset t p kept served =
           let h = so.goes t p kept served in
           back true t p (own_text next) (ends_reset (setting t) reach p (own_text before) count silent h.place (Stands agrees setting table stands t new) after next (here t p h) (came t h.place h.kept h.so_far.served))
 
-    module _ (made : Made) (came : (t : Table) (p : Place State Call) → Stands agrees setting table stands t now p → IsServed (setting t) p.moment → StepCame (setting t) p (Stands agrees setting table stands t new) after next made)
+    module _ (made : Made) (came : (t : Table) (p : AuditState State Call) → Stands agrees setting table stands t now p → IsServed (setting t) p.moment → StepCame (setting t) p (Stands agrees setting table stands t new) after next made)
         (more : ℕ) (one : more ≡ count + 1) (on : Advances after next) where
       -- it goes on
       pub again : reaching.resets made ≡ false → made.ended || reaching.is_reached reach more made ≡ false → ((given : ℕ) → IsReady fits within ticks given now → IsReady fits within ticks given new)
@@ -235,7 +235,7 @@ module _ {Parts Table State Call : Type 0} (agrees : Agreeing Table State) (sett
 
       -- it is the last one
       pub last_one : (right : Bool) (end : Unread) → reaching.resets made ≡ false → made.ended || reaching.is_reached reach more made ≡ true → TakesLines right (ok_where (silent && reaching.is_silent made)) next end
-          → (t : Table) (p : Place State Call) → Stands agrees setting table stands t old p → IsServed (setting t) p.moment
+          → (t : Table) (p : AuditState State Call) → Stands agrees setting table stands t old p → IsServed (setting t) p.moment
           → Takes right (PrintsOn (setting t) reach 0 true p) (Stands agrees setting table stands t new) before.number (own_text before) (own_text end)
       last_one right end off ends taken t p kept served =
           let h = so.goes t p kept served in
@@ -246,30 +246,30 @@ module _ {Parts Table State Call : Type 0} (agrees : Agreeing Table State) (sett
 
       -- it resets the chip, and the line of that is judged
       pub resets_so : (right : Bool) (last : Auditing Parts Call) (end : Unread) → reaching.resets made ≡ true
-          → ((t : Table) (p : Place State Call) → Stands agrees setting table stands t new p → IsServed (setting t) p.moment → Takes right (PrintsReset (setting t) p Software) (Stands agrees setting table stands t last) next.number (own_text next) (own_text end))
-          → (t : Table) (p : Place State Call) → Stands agrees setting table stands t old p → IsServed (setting t) p.moment
+          → ((t : Table) (p : AuditState State Call) → Stands agrees setting table stands t new p → IsServed (setting t) p.moment → Takes right (PrintsReset (setting t) p Software) (Stands agrees setting table stands t last) next.number (own_text next) (own_text end))
+          → (t : Table) (p : AuditState State Call) → Stands agrees setting table stands t old p → IsServed (setting t) p.moment
           → Takes right (PrintsOn (setting t) reach 0 true p) (Stands agrees setting table stands t last) before.number (own_text before) (own_text end)
       resets_so right last end restarts resets t p kept served =
           let h = so.goes t p kept served in
           let it = came t h.place h.kept h.so_far.served in
-          let q : Place State Call = stepped_to (setting t) (moved_to it.at h.place) it.step in
-          let S1 : Place State Call → Type 0 = Stands agrees setting table stands t last in
+          let q : AuditState State Call = stepped_to (setting t) (moved_to it.at h.place) it.step in
+          let S1 : AuditState State Call → Type 0 = Stands agrees setting table stands t last in
           let judged = resets t q it.stands (served_after (setting t) reach p before.number (own_text before) it.comes) in
           subst (λ n. Takes right (PrintsOn (setting t) reach 0 true p) S1 n (own_text before) (own_text end)) so.on.number
           (stops_reset (setting t) reach p (own_text before) count silent h.place (Stands agrees setting table stands t new) after next (here t p h) made it right S1 (own_text end) restarts
           (subst (λ n. Takes right (PrintsReset (setting t) q Software) S1 n (own_text next) (own_text end)) on.number judged))
 
       pub resets_all : {E : Type 0} (r : Result Bool E) (last : Auditing Parts Call) (end : Unread) → reaching.resets made ≡ true
-          → ((t : Table) (p : Place State Call) → Stands agrees setting table stands t new p → IsServed (setting t) p.moment
+          → ((t : Table) (p : AuditState State Call) → Stands agrees setting table stands t new p → IsServed (setting t) p.moment
           → IfOk r (λ right. Takes right (PrintsReset (setting t) p Software) (Stands agrees setting table stands t last) next.number (own_text next) (own_text end)))
-          → (t : Table) (p : Place State Call) → Stands agrees setting table stands t old p → IsServed (setting t) p.moment
+          → (t : Table) (p : AuditState State Call) → Stands agrees setting table stands t old p → IsServed (setting t) p.moment
           → IfOk r (λ right. Takes right (PrintsOn (setting t) reach 0 true p) (Stands agrees setting table stands t last) before.number (own_text before) (own_text end))
       resets_all (Ok right) last end restarts resets t p kept served = resets_so right last end restarts resets t p kept served
       resets_all (Err e) last end restarts resets t p kept served = tt
 
 -- ---- the line of a reset
 
-module _ {State Call : Type 0} (g : Setting State Call) (p : Place State Call) (reason : Reason) (S : Place State Call → Type 0) (r r1 : Unread) (depth : ℕ) (deep : depth ≡ length p.moment.opens) where
+module _ {State Call : Type 0} (g : Setting State Call) (p : AuditState State Call) (reason : Reason) (S : AuditState State Call → Type 0) (r r1 : Unread) (depth : ℕ) (deep : depth ≡ length p.moment.opens) where
   -- it doesn't come
   pub no_line : TakesLine false (Restarts reason depth) r r1 → (rest : List ℕ) → Takes false (PrintsReset g p reason) S r.number (own_text r) rest
   no_line h rest all last prints e =

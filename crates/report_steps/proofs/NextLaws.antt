@@ -11,7 +11,7 @@ use Rattle.run_model.specs.Frame.{Open}
 use Rattle.run_model.specs.Legal.{LegalStep}
 use Rattle.run_model.specs.Moment.{Moment, Setting, Happens, after}
 use Rattle.run_model.specs.declared.item.Stepped.{Stepped}
-use Rattle.report_reading.specs.Blocks.{Place, printed}
+use Rattle.report_reading.specs.Blocks.{AuditState, printed}
 use Rattle.report_reading.specs.Steps.{StepComes, AtOnce, Awaited, lines_at}
 use Rattle.report_text.specs.Unread.{Unread, after_told, own_text, told_next}
 use Rattle.report_text.proofs.Owning.{read_reset, read_wait, reads}
@@ -64,7 +64,7 @@ step_not_reset x s b e f = cc
 same_reset : (x : Option Told) (a b : ℕ) → x ≡ Some (tells.Reset Watchdog a) → x ≡ Some (tells.Reset Watchdog b) → a ≡ b
 same_reset x a b e f = cc
 
-module _ {State Call : Type 0} (g : Setting State Call) (p : Place State Call) (S : Place State Call → Type 0) (r : Unread) (number : IsNumber r.number) (few : IsNumber (length p.moment.opens)) where
+module _ {State Call : Type 0} (g : Setting State Call) (p : AuditState State Call) (S : AuditState State Call → Type 0) (r : Unread) (number : IsNumber r.number) (few : IsNumber (length p.moment.opens)) where
   -- what the first line of a step tells
   pub data Tells : Type 0 where
     TellsStep : (s : Step) → told_next r ≡ Some (tells.Step s) → Tells

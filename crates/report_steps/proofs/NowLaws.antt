@@ -12,7 +12,7 @@ use Rattle.audit_frames.specs.Decides.{Decides}
 use Rattle.audit_frames.specs.Kept.{Kept}
 use Rattle.audit_frames.specs.StandsFor.{StandsFor}
 use Rattle.audit_frames.proofs.Deciding.{both, equal, valued, worded}
-use Rattle.report_reading.specs.Blocks.{Place}
+use Rattle.report_reading.specs.Blocks.{AuditState}
 use Rattle.trace_reader.specs.declared.told.Step.{Step}
 use Rattle.report_auditor.specs.Auditing.{Auditing, Stands}
 use Rattle.report_auditor.specs.ChipRules.{received_right}
@@ -35,7 +35,7 @@ none_of f (y ∷ ys) xs same e = absurd (some_none y e)
 pub at_once : (c : Bool) (told depth deep wait stall : ℕ) → c ≡ (told == depth && wait == 0) → depth ≡ deep → wait ≡ stall → Decides c ((told ≡ deep) × (stall ≡ 0))
 at_once c told depth deep wait stall is same e = valued is (worded (λ h. (h.0 ∙ same, sym e ∙ h.1)) (λ h. (h.0 ∙ sym same, e ∙ h.1)) (both (equal told depth) (equal wait 0)))
 
-module _ {Parts Table State Call : Type 0} (agrees : Agreeing Table State) (setting : Table → Setting State Call) (table : Parts → Table) (stands : Parts → State → Type 0) (t : Table) (a : Auditing Parts Call) (p : Place State Call) (s : Stands agrees setting table stands t a p) where
+module _ {Parts Table State Call : Type 0} (agrees : Agreeing Table State) (setting : Table → Setting State Call) (table : Parts → Table) (stands : Parts → State → Type 0) (t : Table) (a : Auditing Parts Call) (p : AuditState State Call) (s : Stands agrees setting table stands t a p) where
   pub no_frame : (r : Step) → slice_get a.frames 0 ≡ None → Decides false (MayCome (setting t) p.moment p.moment.opens r)
   no_frame r none = none_comes (setting t) p.moment p.moment.opens r (none_kept (setting t) a.frames p.moment.opens s.frames none)
 

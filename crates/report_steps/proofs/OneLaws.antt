@@ -9,7 +9,7 @@ use Rattle.audit_base.specs.Deeds.{Member}
 use Rattle.audit_frames.specs.Decides.{Decides}
 use Rattle.audit_frames.specs.Parts.{IsAllowed}
 use Rattle.audit_subject.specs.Product.{member_of}
-use Rattle.report_reading.specs.Blocks.{Place}
+use Rattle.report_reading.specs.Blocks.{AuditState}
 use Rattle.trace_reader.specs.declared.told.Step as read
 use Rattle.report_auditor.specs.Auditing.{Auditing, Stands}
 use Rattle.report_auditor.specs.Seeing.{Agreeing}
@@ -30,7 +30,7 @@ same_event x a b e f = cc
 none_event : (x : Option (Option Event)) (a : Option Event) → x ≡ None → x ≡ Some a → ⊥
 none_event x a e f = cc
 
-module _ {State Call : Type 0} (g : Setting State Call) (p : Place State Call) (r : read.Step) (x : Stepped) (comes : ComesTold g p r x) where
+module _ {State Call : Type 0} (g : Setting State Call) (p : AuditState State Call) (r : read.Step) (x : Stepped) (comes : ComesTold g p r x) where
   pub may : MayCome g p.moment p.moment.opens r
   may = may_from g p.moment p.moment.opens r x comes.told comes.comes.legal
 
@@ -57,7 +57,7 @@ now_of g m o os r opens h = subst (λ ys. MayCome g m ys r) opens h
 
 module _ {Parts Table State Call : Type 0} (agrees : Agreeing Table State) (setting : Table → Setting State Call) (table : Parts → Table) (stands : Parts → State → Type 0)
     (member : Table → Member State Call) (member_is : (t : Table) → member_of (setting t) ≡ member t)
-    (t : Table) (a : Auditing Parts Call) (p : Place State Call) (s : Stands agrees setting table stands t a p)
+    (t : Table) (a : Auditing Parts Call) (p : AuditState State Call) (s : Stands agrees setting table stands t a p)
     (b : Bool) (d : Decides b ((member (table a.parts)).machine.expires p.moment.world p.moment.state ≡ Some 0)) where
   same_left : (member (table a.parts)).machine.expires p.moment.world p.moment.state ≡ (setting t).machine.expires p.moment.world p.moment.state
   same_left = ap (λ mac. mac.expires p.moment.world p.moment.state) (machine_is agrees setting table stands member member_is t a p s)

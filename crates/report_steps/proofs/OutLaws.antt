@@ -8,7 +8,7 @@ use Rattle.run_model.specs.Follows.{MayWait}
 use Rattle.run_model.specs.Frame.{Open, Origin}
 use Rattle.run_model.specs.Moment.{Setting, Happens, Resets}
 use Rattle.audit_frames.specs.Decides.{Decides}
-use Rattle.report_reading.specs.Blocks.{Place}
+use Rattle.report_reading.specs.Blocks.{AuditState}
 use Rattle.report_reading.specs.Steps.{Comes}
 use Rattle.report_auditor.specs.Deeds.{Judges, restarted}
 use Rattle.report_steps.specs.Going.{EndsWaiting, IsShort, RunsOut, RunsOutRight, waited_to}
@@ -29,7 +29,7 @@ as_left left h = omega (arith, h)
 number_of : (left : ℕ) → left ≤ 8 → left < 4294967296
 number_of left h = omega (arith, h)
 
-module _ {State Call : Type 0} (g : Setting State Call) (p : Place State Call) (dropped : ℕ) (S : Place State Call → Type 0) where
+module _ {State Call : Type 0} (g : Setting State Call) (p : AuditState State Call) (dropped : ℕ) (S : AuditState State Call → Type 0) where
   -- no time runs
   pub no_time : g.machine.expires p.moment.world p.moment.state ≡ None → RunsOutRight g p dropped S false
   no_time none ticks out = some_none ticks (sym out.left ∙ none)

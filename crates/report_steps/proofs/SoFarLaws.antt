@@ -17,7 +17,7 @@ use Rattle.run_model.specs.Legal.{IsServed}
 use Rattle.run_model.specs.Moment.{Moment, Setting, Steps, Happens, Resets, after}
 use Rattle.run_model.specs.declared.item.Stepped.{Stepped}
 use Rattle.run_model.specs.declared.stop_condition.StopCondition.{StopCondition}
-use Rattle.report_reading.specs.Blocks.{Place, counted, printed}
+use Rattle.report_reading.specs.Blocks.{AuditState, counted, printed}
 use Rattle.report_reading.specs.Steps.{Comes, PrintsSteps, StepComes, WaitComes, AtOnce, Awaited, LastStep, ResetStep, MoreSteps, is_silent, lines_at}
 use Rattle.report_auditor.specs.Auditing.{moved_to}
 use Rattle.report_steps.specs.Going.{GoesBack, PrintsReset, SoFar, ok_where}
@@ -55,7 +55,7 @@ pub none_gone : (frames : List Purpose) (ended : Option Answer) → is_some ende
 none_gone frames None e = refl
 none_gone frames (Some a) e = off_on (sym e)
 
-module _ {State Call : Type 0} (g : Setting State Call) (reach : StopCondition) (first : Place State Call) (number : ℕ) (whole : List ℕ) where
+module _ {State Call : Type 0} (g : Setting State Call) (reach : StopCondition) (first : AuditState State Call) (number : ℕ) (whole : List ℕ) where
   -- before the first one
   pub start : IsServed g first.moment → SoFar g reach first number whole 0 true first whole
   start served = record { served = served; front = []; is = refl; on = λ lines there h. h; back = λ all there h e. record { lines = all; prints = h; text_is = e } }
@@ -64,7 +64,7 @@ module _ {State Call : Type 0} (g : Setting State Call) (reach : StopCondition) 
   served_after (AtOnce fits comes) = comes.served
   served_after (Awaited unit ticks comes is goes awaits fits step) = step.served
 
-  module _ (count : ℕ) (silent : Bool) (p : Place State Call) (text rest : List ℕ) (so_far : SoFar g reach first number whole count silent p text)
+  module _ (count : ℕ) (silent : Bool) (p : AuditState State Call) (text rest : List ℕ) (so_far : SoFar g reach first number whole count silent p text)
       (s : Stepped) (at : Moment State Call) (waits : List Line) (comes : StepComes g p.moment s at waits) (text_is : text ≡ printed number (waits ++ lines_at at p.frames s) ++ rest)
       (only : (s1 : Stepped) (at1 : Moment State Call) (waits1 more : List Line) → StepComes g p.moment s1 at1 waits1 → NoEnd more → text ≡ printed number ((waits1 ++ lines_at at1 p.frames s1) ++ more) → (s1 ≡ s) × (at1 ≡ at) × (waits1 ≡ waits))
       (goes : (unit ticks : ℕ) → WaitComes g p.moment unit ticks → ends_within (wait_on p.moment.chip unit) (g.machine.expires p.moment.world p.moment.state) ≡ true → g.machine.expires p.moment.world p.moment.state ≡ Some ticks
@@ -79,7 +79,7 @@ module _ {State Call : Type 0} (g : Setting State Call) (reach : StopCondition) 
         tally_on : (lines : List Line) → counted (stepped_to g (moved_to at p) s).tally lines ≡ counted p.tally ((waits ++ lines_at at p.frames s) ++ lines)
         tally_on lines = ap (λ t. counted t lines) (sym (step_counted g p.tally p.frames comes)) ∙ sym (counted_on p.tally (waits ++ lines_at at p.frames s) lines)
 
-        one_more : (lines : List Line) (there : Place State Call) → PrintsOn g reach (count + 1) (silent && is_silent (waits ++ lines_at at p.frames s)) (stepped_to g (moved_to at p) s) lines there
+        one_more : (lines : List Line) (there : AuditState State Call) → PrintsOn g reach (count + 1) (silent && is_silent (waits ++ lines_at at p.frames s)) (stepped_to g (moved_to at p) s) lines there
             → PrintsOn g reach count silent p ((waits ++ lines_at at p.frames s) ++ lines) there
         one_more lines there h = record {
           steps = MoreSteps s at waits lines comes no_reset goes_on
@@ -87,7 +87,7 @@ module _ {State Call : Type 0} (g : Setting State Call) (reach : StopCondition) 
           tally = h.tally ∙ tally_on lines;
         }
 
-        one_less : (all : List Line) (there : Place State Call) → PrintsOn g reach count silent p all there → text ≡ printed number all
+        one_less : (all : List Line) (there : AuditState State Call) → PrintsOn g reach count silent p all there → text ≡ printed number all
             → GoesBack g reach number (count + 1) (silent && is_silent (waits ++ lines_at at p.frames s)) (stepped_to g (moved_to at p) s) rest there
         one_less all there h e =
             let more = more_behind g reach number text p.moment p.frames s at waits only goes no_reset goes_on h.steps e in
@@ -126,7 +126,7 @@ module _ {State Call : Type 0} (g : Setting State Call) (reach : StopCondition) 
         }
 
         -- with its ok, where one comes, it is the whole of the block's lines, and nothing is left where they are all
-        pub done : (Stands : Place State Call → Type 0) (left : List ℕ) → rest ≡ printed number (ok_where (silent && is_silent (waits ++ lines_at at p.frames s))) ++ left
+        pub done : (Stands : AuditState State Call → Type 0) (left : List ℕ) → rest ≡ printed number (ok_where (silent && is_silent (waits ++ lines_at at p.frames s))) ++ left
             → Stands (stepped_to g (moved_to at p) s) → Took (PrintsOn g reach 0 true first) Stands number whole left
         done Stands left ok stands =
             let here = (waits ++ lines_at at p.frames s) ++ ok_where (silent && is_silent (waits ++ lines_at at p.frames s)) in
@@ -145,7 +145,7 @@ module _ {State Call : Type 0} (g : Setting State Call) (reach : StopCondition) 
 
         -- and where no ok comes that should, the block has no such lines
         pub undone : ((left : List ℕ) → rest ≡ printed number (ok_where (silent && is_silent (waits ++ lines_at at p.frames s))) ++ left → ⊥)
-            → (all : List Line) (there : Place State Call) → PrintsOn g reach 0 true first all there → whole ≡ printed number all → ⊥
+            → (all : List Line) (there : AuditState State Call) → PrintsOn g reach 0 true first all there → whole ≡ printed number all → ⊥
         undone none all there h e =
             let b = so_far.back all there h e in
             let lines_here = (last_behind g reach number text p.moment p.frames s at waits only goes no_reset stops b.prints.steps b.text_is).is in
@@ -167,7 +167,7 @@ module _ {State Call : Type 0} (g : Setting State Call) (reach : StopCondition) 
         reset_prints restart = record { steps = ResetStep s at waits comes resets restart; tally = reset_tally }
 
         -- with the line of its reset it is the whole of the block's lines
-        pub was_reset : (Stands : Place State Call → Type 0) (left : List ℕ) → Took (PrintsReset g (stepped_to g (moved_to at p) s) Software) Stands number rest left → Took (PrintsOn g reach 0 true first) Stands number whole left
+        pub was_reset : (Stands : AuditState State Call → Type 0) (left : List ℕ) → Took (PrintsReset g (stepped_to g (moved_to at p) s) Software) Stands number rest left → Took (PrintsOn g reach 0 true first) Stands number whole left
         was_reset Stands left took =
             let line = Restarts Software (length (after g at (Steps s)).opens) ∷ [] in
             let all_here = (waits ++ lines_at at p.frames s) ++ line in
@@ -185,8 +185,8 @@ module _ {State Call : Type 0} (g : Setting State Call) (reach : StopCondition) 
             }
 
         -- and where it doesn't come, the block has no such lines
-        pub not_reset : ((ls : List Line) (there : Place State Call) → PrintsReset g (stepped_to g (moved_to at p) s) Software ls there → rest ≡ printed number ls → ⊥)
-            → (all : List Line) (there : Place State Call) → PrintsOn g reach 0 true first all there → whole ≡ printed number all → ⊥
+        pub not_reset : ((ls : List Line) (there : AuditState State Call) → PrintsReset g (stepped_to g (moved_to at p) s) Software ls there → rest ≡ printed number ls → ⊥)
+            → (all : List Line) (there : AuditState State Call) → PrintsOn g reach 0 true first all there → whole ≡ printed number all → ⊥
         not_reset none all there h e =
             let b = so_far.back all there h e in
             let behind = reset_behind g reach number text p.moment p.frames s at waits only goes resets b.prints.steps b.text_is in

@@ -19,7 +19,7 @@ use Rattle.audit_frames.specs.StandsFor.{StandsFor}
 use Rattle.audit_frames.specs.Told.{IsAround, ended_of, step_of}
 use Rattle.audit_frames.specs.declared.terms.Step.{Step}
 use Rattle.audit_subject.specs.declared.hearing.Heard.{Heard}
-use Rattle.report_reading.specs.Blocks.{Place, printed}
+use Rattle.report_reading.specs.Blocks.{AuditState, printed}
 use Rattle.trace_reader.specs.declared.told.Step as read
 use Rattle.report_auditor.specs.Auditing.{Auditing, Stands, StillSeen, purposes_by}
 use Rattle.report_auditor.specs.Seeing.{Agreeing}
@@ -31,7 +31,7 @@ use Rattle.report_steps.proofs.StepMade.{answer_where, ends_is, stands_after}
 use Rattle.report_steps.proofs.StepText.{EndTaken, ends_same, lines_taken}
 use Rattle.report_steps.proofs.ToldLaws.{told_again}
 
-module _ {Parts Table State Call : Type 0} (agrees : Agreeing Table State) (setting : Table → Setting State Call) (table : Parts → Table) (stands : Parts → State → Type 0) (t : Table) (p : Place State Call) (o : Open Call) (os : List (Open Call))
+module _ {Parts Table State Call : Type 0} (agrees : Agreeing Table State) (setting : Table → Setting State Call) (table : Parts → Table) (stands : Parts → State → Type 0) (t : Table) (p : AuditState State Call) (o : Open Call) (os : List (Open Call))
     (opens : p.moment.opens ≡ o ∷ os) (r : read.Step) (event : Option Event) (at : event_at r ≡ Some event) (now : ComesNow (setting t) p.moment o r) (early : (setting t).machine.expires p.moment.world p.moment.state ≡ Some 0 → ⊥)
     (a : Auditing Parts Call) (h : Heard) (k : Kept) (ks : List Kept) (top : a.frames ≡ k ∷ ks) (heard : IsHeard agrees setting table stands t a p o (step_told r event None) h) where
   -- ---- what is known of the newest frame

@@ -27,7 +27,7 @@ use Rattle.audit_frames.specs.declared.terms.Around.{Around}
 use Rattle.audit_frames.specs.declared.terms.Step.{Step}
 use Rattle.audit_subject.specs.declared.hearing.Heard.{Heard}
 use Rattle.run_model.specs.Machine.{Told}
-use Rattle.report_reading.specs.Blocks.{Place, counted}
+use Rattle.report_reading.specs.Blocks.{AuditState, counted}
 use Rattle.trace_reader.specs.declared.told.Step as read
 use Rattle.report_auditor.specs.Auditing.{Auditing, Stands, StillSeen, below, purpose_by, purposes_by}
 use Rattle.report_auditor.specs.Seeing.{Agreeing, IsSeen}
@@ -133,9 +133,9 @@ frames_on : {State Call : Type 0} (g : Setting State Call) (ended : Option Answe
 frames_on g None k1 o1 ks os new all = (new, all)
 frames_on g (Some a) k1 o1 ks os new all = all
 
-module _ {Parts Table State Call : Type 0} (agrees : Agreeing Table State) (setting : Table → Setting State Call) (table : Parts → Table) (stands : Parts → State → Type 0) (t : Table) (p : Place State Call) (o : Open Call) (os : List (Open Call)) where
+module _ {Parts Table State Call : Type 0} (agrees : Agreeing Table State) (setting : Table → Setting State Call) (table : Parts → Table) (stands : Parts → State → Type 0) (t : Table) (p : AuditState State Call) (o : Open Call) (os : List (Open Call)) where
   -- the place after it, where the newest frame is this one
-  abbrev there : Stepped → Place State Call
+  abbrev there : Stepped → AuditState State Call
   there s = record { moment = after_step (setting t) p.moment (o ∷ os) s; frames = frames_after_end p.frames s.ended; tally = counted p.tally (lines_behind p.frames s) }
 
   stands_there : (a b : Auditing Parts Call) (r : read.Step) (e : Option Event) (x : Step) (h : Heard) (k : Kept) (ks : List Kept) (ended : Option Answer)

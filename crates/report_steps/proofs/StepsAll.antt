@@ -8,7 +8,7 @@ use Rattle.run_model.specs.Frame.{Open}
 use Rattle.run_model.specs.Legal.{IsLegalStep, LegalStep}
 use Rattle.run_model.specs.Moment.{Moment, Setting}
 use Rattle.run_model.specs.declared.item.Stepped.{Stepped}
-use Rattle.report_reading.specs.Blocks.{Place, printed}
+use Rattle.report_reading.specs.Blocks.{AuditState, printed}
 use Rattle.report_reading.specs.Steps.{StepComes, AtOnce, Awaited, lines_at}
 use Rattle.report_text.specs.Unread.{Unread, after_told, own_text, told_next}
 use Rattle.report_text.proofs.Owning.{read_step, reads}
@@ -24,7 +24,7 @@ use Rattle.report_steps.proofs.StepJudged.{all_told}
 told_step : (a b : Step) (x : Option Told) → x ≡ Some (tells.Step a) → x ≡ Some (tells.Step b) → b ≡ a
 told_step a b x e f = cc
 
-module _ {State Call : Type 0} (g : Setting State Call) (p : Place State Call) (r : Unread) (s : Step) (number : IsNumber r.number) (few : IsNumber (length p.moment.opens)) (tells_step : told_next r ≡ Some (tells.Step s)) where
+module _ {State Call : Type 0} (g : Setting State Call) (p : AuditState State Call) (r : Unread) (s : Step) (number : IsNumber r.number) (few : IsNumber (length p.moment.opens)) (tells_step : told_next r ≡ Some (tells.Step s)) where
   -- where the block begins with the line of a step that comes at once, it is the line that was read
   pub same_line : (x : Stepped) (rest : List ℕ) → StepFits x → own_text r ≡ numbered r.number (Makes (length p.moment.opens) x.made x.value x.received x.event) ++ rest → told_of (length p.moment.opens) x ≡ s
   same_line x rest fits e =

@@ -14,7 +14,7 @@ use Rattle.run_model.specs.Legal.{IsServed}
 use Rattle.run_model.specs.Moment.{Moment, Setting, Happens, Resets, after}
 use Rattle.run_model.specs.declared.item.Stepped.{Stepped}
 use Rattle.run_model.specs.declared.stop_condition.StopCondition.{StopCondition}
-use Rattle.report_reading.specs.Blocks.{Place, printed}
+use Rattle.report_reading.specs.Blocks.{AuditState, printed}
 use Rattle.report_reading.specs.Steps.{Comes, StepComes, lines_at}
 use Rattle.report_text.specs.Unread.{Unread, own_text}
 use Rattle.trace_reader.specs.declared.told.Step.{Step}
@@ -95,20 +95,20 @@ IsShort None = Unit {0}
 IsShort (Some left) = left ≤ 8
 
 -- a step that waits, behind the line of its wait, with the line that tells it
-abbrev pub waited_to : {State Call : Type 0} → Setting State Call → Place State Call → (ticks : ℕ) → Place State Call
+abbrev pub waited_to : {State Call : Type 0} → Setting State Call → AuditState State Call → (ticks : ℕ) → AuditState State Call
 waited_to g p ticks = moved_to (after g p.moment (Happens (Tick ticks))) p
 
-pub record IsAwaited {State Call : Type 0} (g : Setting State Call) (p : Place State Call) (ticks : ℕ) (s : Stepped) : Type 0 where
+pub record IsAwaited {State Call : Type 0} (g : Setting State Call) (p : AuditState State Call) (ticks : ℕ) (s : Stepped) : Type 0 where
   pub fits : StepFits s
   pub right : WaitsRight g p.moment s.made ticks
   pub comes : StepComes g p.moment s (after g p.moment (Happens (Tick ticks))) (Waits ticks ∷ [])
 
 -- the lines of a step that comes in this place, behind the line of its wait
-abbrev pub step_lines : {State Call : Type 0} → Place State Call → Stepped → List Line
+abbrev pub step_lines : {State Call : Type 0} → AuditState State Call → Stepped → List Line
 step_lines p s = lines_at p.moment p.frames s
 
 -- The step was made behind the line of its wait, or none that fits the block.
-pub record IsMadeAwaited {State Call : Type 0} (g : Setting State Call) (p : Place State Call) (ticks : ℕ) (Stands : Place State Call → Type 0) (number : ℕ) (text rest : List ℕ) (made : Made) : Type 0 where
+pub record IsMadeAwaited {State Call : Type 0} (g : Setting State Call) (p : AuditState State Call) (ticks : ℕ) (Stands : AuditState State Call → Type 0) (number : ℕ) (text rest : List ℕ) (made : Made) : Type 0 where
   pub step : Stepped
   pub awaited : IsAwaited g p ticks step
   pub is : made ≡ made_of step
@@ -116,14 +116,14 @@ pub record IsMadeAwaited {State Call : Type 0} (g : Setting State Call) (p : Pla
   pub stands : Stands (stepped_to g (waited_to g p ticks) step)
   pub only : (s : Stepped) (more : List Line) → IsAwaited g p ticks s → NoEnd more → text ≡ printed number (step_lines (waited_to g p ticks) s ++ more) → s ≡ step
 
-abbrev pub MakesAwaited : {State Call : Type 0} → Setting State Call → Place State Call → (ticks : ℕ) → (Stands : Place State Call → Type 0) → (number : ℕ) → (text rest : List ℕ) → Option Made → Type 0
+abbrev pub MakesAwaited : {State Call : Type 0} → Setting State Call → AuditState State Call → (ticks : ℕ) → (Stands : AuditState State Call → Type 0) → (number : ℕ) → (text rest : List ℕ) → Option Made → Type 0
 MakesAwaited g p ticks Stands number text rest (Some made) = IsMadeAwaited g p ticks Stands number text rest made
 MakesAwaited g p ticks Stands number text rest None = (s : Stepped) (more : List Line) → IsAwaited g p ticks s → NoEnd more → text ≡ printed number (step_lines (waited_to g p ticks) s ++ more) → ⊥
 
 -- ---- the watchdog's reset in a wait
 
 -- It comes in a wait, and drops so many frames.
-pub record RunsOut {State Call : Type 0} (g : Setting State Call) (p : Place State Call) (dropped : ℕ) (ticks : ℕ) : Type 0 where
+pub record RunsOut {State Call : Type 0} (g : Setting State Call) (p : AuditState State Call) (dropped : ℕ) (ticks : ℕ) : Type 0 where
   pub unit : ℕ
   pub waits : EndsWaiting g p.moment unit
   pub left : g.machine.expires p.moment.world p.moment.state ≡ Some ticks
@@ -132,12 +132,12 @@ pub record RunsOut {State Call : Type 0} (g : Setting State Call) (p : Place Sta
   pub comes : Comes g p.moment (Happens (Tick ticks))
   pub resets : Comes g (waited_to g p ticks).moment (Resets Watchdog)
 
-abbrev pub RunsOutRight : {State Call : Type 0} → Setting State Call → Place State Call → (dropped : ℕ) → (Stands : Place State Call → Type 0) → (right : Bool) → Type 0
+abbrev pub RunsOutRight : {State Call : Type 0} → Setting State Call → AuditState State Call → (dropped : ℕ) → (Stands : AuditState State Call → Type 0) → (right : Bool) → Type 0
 RunsOutRight g p dropped Stands true = (ticks : ℕ) × RunsOut g p dropped ticks × Stands (restarted g (waited_to g p ticks) Watchdog)
 RunsOutRight g p dropped Stands false = (ticks : ℕ) → RunsOut g p dropped ticks → ⊥
 
 -- the line of a reset, and the place behind it
-pub record PrintsReset {State Call : Type 0} (g : Setting State Call) (p : Place State Call) (reason : Reason) (lines : List Line) (there : Place State Call) : Type 0 where
+pub record PrintsReset {State Call : Type 0} (g : Setting State Call) (p : AuditState State Call) (reason : Reason) (lines : List Line) (there : AuditState State Call) : Type 0 where
   pub comes : Comes g p.moment (Resets reason)
   pub lines_are : lines ≡ Restarts reason (length p.moment.opens) ∷ []
   pub leads : there ≡ restarted g p reason
@@ -145,18 +145,18 @@ pub record PrintsReset {State Call : Type 0} (g : Setting State Call) (p : Place
 -- ---- what comes next
 
 -- a step comes that fits the block, behind its wait where it waits, and more behind it
-pub record FitsStep {State Call : Type 0} (g : Setting State Call) (p : Place State Call) (number : ℕ) (text : List ℕ) (s : Stepped) (at : Moment State Call) (waits more : List Line) : Type 0 where
+pub record FitsStep {State Call : Type 0} (g : Setting State Call) (p : AuditState State Call) (number : ℕ) (text : List ℕ) (s : Stepped) (at : Moment State Call) (waits more : List Line) : Type 0 where
   pub comes : StepComes g p.moment s at waits
   pub behind : NoEnd more
   pub text_is : text ≡ printed number ((waits ++ lines_at at p.frames s) ++ more)
 
 -- the watchdog's reset comes in its place
-pub record FitsReset {State Call : Type 0} (g : Setting State Call) (p : Place State Call) (number : ℕ) (text : List ℕ) (ticks : ℕ) : Type 0 where
+pub record FitsReset {State Call : Type 0} (g : Setting State Call) (p : AuditState State Call) (number : ℕ) (text : List ℕ) (ticks : ℕ) : Type 0 where
   pub out : RunsOut g p (length p.moment.opens) ticks
   pub text_is : text ≡ printed number (Restarts Watchdog (length p.moment.opens) ∷ [])
 
 -- A step came, and no other fits the block.
-pub record StepCame {State Call : Type 0} (g : Setting State Call) (p : Place State Call) (Stands : Place State Call → Type 0) (before after : Unread) (made : Made) : Type 0 where
+pub record StepCame {State Call : Type 0} (g : Setting State Call) (p : AuditState State Call) (Stands : AuditState State Call → Type 0) (before after : Unread) (made : Made) : Type 0 where
   pub step : Stepped
   pub at : Moment State Call
   pub waits : List Line
@@ -168,7 +168,7 @@ pub record StepCame {State Call : Type 0} (g : Setting State Call) (p : Place St
   pub goes : (ticks : ℕ) → FitsReset g p before.number (own_text before) ticks → ⊥
 
 -- The watchdog's reset came, and no step fits the block.
-pub record ResetCame {State Call : Type 0} (g : Setting State Call) (p : Place State Call) (Stands : Place State Call → Type 0) (before after : Unread) : Type 0 where
+pub record ResetCame {State Call : Type 0} (g : Setting State Call) (p : AuditState State Call) (Stands : AuditState State Call → Type 0) (before after : Unread) : Type 0 where
   pub ticks : ℕ
   pub out : RunsOut g p (length p.moment.opens) ticks
   pub text_is : own_text before ≡ printed before.number (Restarts Watchdog (length p.moment.opens) ∷ []) ++ own_text after
@@ -176,11 +176,11 @@ pub record ResetCame {State Call : Type 0} (g : Setting State Call) (p : Place S
   pub never : (s : Stepped) (at : Moment State Call) (waits more : List Line) → FitsStep g p before.number (own_text before) s at waits more → ⊥
 
 -- Neither fits it.
-pub record NoneComes {State Call : Type 0} (g : Setting State Call) (p : Place State Call) (before : Unread) : Type 0 where
+pub record NoneComes {State Call : Type 0} (g : Setting State Call) (p : AuditState State Call) (before : Unread) : Type 0 where
   pub never : (s : Stepped) (at : Moment State Call) (waits more : List Line) → FitsStep g p before.number (own_text before) s at waits more → ⊥
   pub goes : (ticks : ℕ) → FitsReset g p before.number (own_text before) ticks → ⊥
 
-abbrev pub ComesNext : {State Call : Type 0} → Setting State Call → Place State Call → (Stands : Place State Call → Type 0) → (before after : Unread) → Came → Type 0
+abbrev pub ComesNext : {State Call : Type 0} → Setting State Call → AuditState State Call → (Stands : AuditState State Call → Type 0) → (before after : Unread) → Came → Type 0
 ComesNext g p Stands before after came.Wrong = NoneComes g p before
 ComesNext g p Stands before after (came.Step made) = StepCame g p Stands before after made
 ComesNext g p Stands before after came.Reset = ResetCame g p Stands before after
@@ -192,15 +192,15 @@ abbrev pub ok_where : (silent : Bool) → List Line
 ok_where silent = cond silent (Done ∷ []) []
 
 -- such lines are the text
-pub record GoesBack {State Call : Type 0} (g : Setting State Call) (reach : StopCondition) (number count : ℕ) (silent : Bool) (p : Place State Call) (text : List ℕ) (there : Place State Call) : Type 0 where
+pub record GoesBack {State Call : Type 0} (g : Setting State Call) (reach : StopCondition) (number count : ℕ) (silent : Bool) (p : AuditState State Call) (text : List ℕ) (there : AuditState State Call) : Type 0 where
   pub lines : List Line
   pub prints : PrintsOn g reach count silent p lines there
   pub text_is : text ≡ printed number lines
 
 -- So many steps were made from a place on, and lead to this one: what comes from here on came from there, with the lines in front.
-pub record SoFar {State Call : Type 0} (g : Setting State Call) (reach : StopCondition) (first : Place State Call) (number : ℕ) (whole : List ℕ) (count : ℕ) (silent : Bool) (p : Place State Call) (text : List ℕ) : Type 0 where
+pub record SoFar {State Call : Type 0} (g : Setting State Call) (reach : StopCondition) (first : AuditState State Call) (number : ℕ) (whole : List ℕ) (count : ℕ) (silent : Bool) (p : AuditState State Call) (text : List ℕ) : Type 0 where
   pub served : IsServed g p.moment
   pub front : List Line
   pub is : whole ≡ printed number front ++ text
-  pub on : (lines : List Line) (there : Place State Call) → PrintsOn g reach count silent p lines there → PrintsOn g reach 0 true first (front ++ lines) there
-  pub back : (all : List Line) (there : Place State Call) → PrintsOn g reach 0 true first all there → whole ≡ printed number all → GoesBack g reach number count silent p text there
+  pub on : (lines : List Line) (there : AuditState State Call) → PrintsOn g reach count silent p lines there → PrintsOn g reach 0 true first (front ++ lines) there
+  pub back : (all : List Line) (there : AuditState State Call) → PrintsOn g reach 0 true first all there → whole ≡ printed number all → GoesBack g reach number count silent p text there

@@ -25,7 +25,7 @@ use Rattle.audit_frames.specs.declared.terms.Task.{Task}
 use Rattle.audit_frames.specs.declared.terms.Task.TheVariants as tasks
 use Rattle.audit_subject.specs.Hearings.{Says}
 use Rattle.audit_subject.specs.declared.hearing.Heard.{Heard}
-use Rattle.report_reading.specs.Blocks.{Place, counted, printed}
+use Rattle.report_reading.specs.Blocks.{AuditState, counted, printed}
 use Rattle.report_reading.specs.Reading.{event_of}
 use Rattle.report_text.specs.Unread.{Unread, own_text}
 use Rattle.trace_reader.specs.declared.told.Mark.{Mark}
@@ -80,7 +80,7 @@ asked_by [] = 0
 asked_by (k ∷ ks) = k.terms.asked
 
 -- The machines were told the event of a step in this place, and all else is as it was.
-pub record IsHeard {Parts Table State Call : Type 0} (agrees : Agreeing Table State) (setting : Table → Setting State Call) (table : Parts → Table) (stands : Parts → State → Type 0) (t : Table) (a : Auditing Parts Call) (p : Place State Call) (o : Open Call) (s : Stepped) (heard : Heard) : Type 0 where
+pub record IsHeard {Parts Table State Call : Type 0} (agrees : Agreeing Table State) (setting : Table → Setting State Call) (table : Parts → Table) (stands : Parts → State → Type 0) (t : Table) (a : Auditing Parts Call) (p : AuditState State Call) (o : Open Call) (s : Stepped) (heard : Heard) : Type 0 where
   pub kept_of : table a.parts ≡ t
   pub chip : a.chip ≡ p.moment.chip
   pub world : IsWorld a.outside p.moment.world
@@ -96,7 +96,7 @@ pub record IsHeard {Parts Table State Call : Type 0} (agrees : Agreeing Table St
   pub says : Says (setting t) (stands a.parts) p.moment o s (asked_by a.frames) heard
 
 -- so they were told it, or they don't allow it
-abbrev pub HearsStep : {Parts Table State Call : Type 0} → Agreeing Table State → (Table → Setting State Call) → (Parts → Table) → (Parts → State → Type 0) → Table → Auditing Parts Call → Place State Call → Open Call → Stepped → Option Heard → Type 0
+abbrev pub HearsStep : {Parts Table State Call : Type 0} → Agreeing Table State → (Table → Setting State Call) → (Parts → Table) → (Parts → State → Type 0) → Table → Auditing Parts Call → AuditState State Call → Open Call → Stepped → Option Heard → Type 0
 HearsStep agrees setting table stands t a p o s (Some heard) = IsHeard agrees setting table stands t a p o s heard
 HearsStep agrees setting table stands t a p o s None = IsAllowed (setting t) p.moment o s s.event → ⊥
 

@@ -6,7 +6,7 @@ use Rattle.bench_report.specs.Report.{end_lines, frames_after_end, move_lines}
 use Rattle.bench_report.specs.declared.frames.Purpose.{Purpose}
 use Rattle.run_model.specs.Moment.{Setting, Steps, after}
 use Rattle.run_model.specs.declared.item.Stepped.{Stepped}
-use Rattle.report_reading.specs.Blocks.{Place, counted, printed}
+use Rattle.report_reading.specs.Blocks.{AuditState, counted, printed}
 use Rattle.report_reading.specs.Steps.{Comes}
 use Rattle.trace_reader.specs.Told.{given, incoming, mark_of}
 use Rattle.trace_reader.specs.declared.told.Step.{Step}
@@ -33,7 +33,7 @@ NoEnd [] = Unit {0}
 NoEnd (l ∷ ls) = moves_on l ≡ true
 
 -- the place after a step
-abbrev pub stepped_to : {State Call : Type 0} → Setting State Call → Place State Call → Stepped → Place State Call
+abbrev pub stepped_to : {State Call : Type 0} → Setting State Call → AuditState State Call → Stepped → AuditState State Call
 stepped_to g p s = record { moment = after g p.moment (Steps s); frames = frames_after_end p.frames s.ended; tally = counted p.tally (lines_behind p.frames s) }
 
 -- a step as it is kept
@@ -41,13 +41,13 @@ abbrev pub made_of : Stepped → Made
 made_of s = record { made = s.made; event = s.event; ended = is_some s.ended }
 
 -- The step that a line tells comes, with numbers of 32 bits.
-pub record ComesTold {State Call : Type 0} (g : Setting State Call) (p : Place State Call) (read : Step) (s : Stepped) : Type 0 where
+pub record ComesTold {State Call : Type 0} (g : Setting State Call) (p : AuditState State Call) (read : Step) (s : Stepped) : Type 0 where
   pub told : told_of (length p.moment.opens) s ≡ read
   pub fits : StepFits s
   pub comes : Comes g p.moment (Steps s)
 
 -- The step was made, and the lines behind its own were taken; no other one fits the block.
-pub record IsMade {State Call : Type 0} (g : Setting State Call) (p : Place State Call) (read : Step) (Stands : Place State Call → Type 0) (number : ℕ) (text rest : List ℕ) (made : Made) : Type 0 where
+pub record IsMade {State Call : Type 0} (g : Setting State Call) (p : AuditState State Call) (read : Step) (Stands : AuditState State Call → Type 0) (number : ℕ) (text rest : List ℕ) (made : Made) : Type 0 where
   pub step : Stepped
   pub comes : ComesTold g p read step
   pub is : made ≡ made_of step
@@ -56,6 +56,6 @@ pub record IsMade {State Call : Type 0} (g : Setting State Call) (p : Place Stat
   pub only : (s : Stepped) (more : List Line) → ComesTold g p read s → NoEnd more → text ≡ printed number (lines_behind p.frames s ++ more) → s ≡ step
 
 -- So it was made, or no step fits the block.
-abbrev pub MakesStep : {State Call : Type 0} → Setting State Call → Place State Call → Step → (Stands : Place State Call → Type 0) → (number : ℕ) → (text rest : List ℕ) → Option Made → Type 0
+abbrev pub MakesStep : {State Call : Type 0} → Setting State Call → AuditState State Call → Step → (Stands : AuditState State Call → Type 0) → (number : ℕ) → (text rest : List ℕ) → Option Made → Type 0
 MakesStep g p read Stands number text rest (Some made) = IsMade g p read Stands number text rest made
 MakesStep g p read Stands number text rest None = (s : Stepped) (more : List Line) → ComesTold g p read s → NoEnd more → text ≡ printed number (lines_behind p.frames s ++ more) → ⊥

@@ -3,7 +3,7 @@ ghost use Rattle.std.specs.Bool.{OnTrue};
 ghost use Rattle.run_model.specs.Follows.{ends_within};
 ghost use Rattle.run_model.specs.Legal.{IsServed};
 ghost use Rattle.audit_frames.specs.Decides.{Decides};
-ghost use Rattle.report_reading.specs.Blocks.{Place};
+ghost use Rattle.report_reading.specs.Blocks.{AuditState};
 ghost use Rattle.report_text.specs.Unread.{own_text};
 ghost use Rattle.report_auditor.specs.Auditing.{IsReady, Stands};
 ghost use Rattle.report_steps.specs.Going as spec;
@@ -75,7 +75,7 @@ fn unit_of(made: &Move) -> Option<u32>
 
 /// Whether the newest frame may wait for a unit, which it may with the mask open.
 fn waits_on<P: Whole>(auditor: &Auditor<P>, unit: u32) -> bool
-    ensures { (t : P.Table) (p : Place P.State P.Call) → Stands P.agrees P.setting P.table P.stands t auditor.now p →
+    ensures { (t : P.Table) (p : AuditState P.State P.Call) → Stands P.agrees P.setting P.table P.stands t auditor.now p →
         Decides result (spec.WaitsOn (P.setting t) p.moment unit) }
 {
     let Some(origin) = auditor.origins.as_slice().first() else {
@@ -89,7 +89,7 @@ fn waits_on<P: Whole>(auditor: &Auditor<P>, unit: u32) -> bool
 
 /// Whether it may wait with a move.
 fn may_wait<P: Whole>(auditor: &Auditor<P>, made: &Move) -> bool
-    ensures { (t : P.Table) (p : Place P.State P.Call) → Stands P.agrees P.setting P.table P.stands t auditor.now p →
+    ensures { (t : P.Table) (p : AuditState P.State P.Call) → Stands P.agrees P.setting P.table P.stands t auditor.now p →
         Decides result (spec.WaitsOpen (P.setting t) p.moment made.now) }
 {
     match unit_of(made) {
@@ -100,7 +100,7 @@ fn may_wait<P: Whole>(auditor: &Auditor<P>, made: &Move) -> bool
 
 /// Whether the watchdog's time ends within so many ticks.
 fn ends_within<P: Whole>(auditor: &Auditor<P>, ticks: u64) -> bool
-    ensures { (t : P.Table) (p : Place P.State P.Call) → Stands P.agrees P.setting P.table P.stands t auditor.now p →
+    ensures { (t : P.Table) (p : AuditState P.State P.Call) → Stands P.agrees P.setting P.table P.stands t auditor.now p →
         result ≡ ends_within ticks ((P.setting t).machine.expires p.moment.world p.moment.state) }
 {
     match auditor.parts.expires(&auditor.outside) {
@@ -111,9 +111,9 @@ fn ends_within<P: Whole>(auditor: &Auditor<P>, ticks: u64) -> bool
 
 /// Whether the newest frame may wait for a unit, and the watchdog's time ends in that wait.
 fn ends_in_a_wait<P: Whole>(auditor: &Auditor<P>, unit: u32) -> bool
-    ensures ends { (t : P.Table) (p : Place P.State P.Call) → Stands P.agrees P.setting P.table P.stands t auditor.now p →
+    ensures ends { (t : P.Table) (p : AuditState P.State P.Call) → Stands P.agrees P.setting P.table P.stands t auditor.now p →
         Decides result (spec.EndsWaiting (P.setting t) p.moment unit) }
-    ensures few { result ≡ true → (t : P.Table) (p : Place P.State P.Call) → Stands P.agrees P.setting P.table P.stands t auditor.now p →
+    ensures few { result ≡ true → (t : P.Table) (p : AuditState P.State P.Call) → Stands P.agrees P.setting P.table P.stands t auditor.now p →
         spec.IsShort ((P.setting t).machine.expires p.moment.world p.moment.state) }
 {
     let made = Move::Read(Reg::SerialWait(unit));
@@ -129,9 +129,9 @@ fn ends_in_a_wait<P: Whole>(auditor: &Auditor<P>, unit: u32) -> bool
 
 /// Whether it does so for one of the two units.
 fn ends_waiting<P: Whole>(auditor: &Auditor<P>) -> bool
-    ensures ends { (t : P.Table) (p : Place P.State P.Call) → Stands P.agrees P.setting P.table P.stands t auditor.now p →
+    ensures ends { (t : P.Table) (p : AuditState P.State P.Call) → Stands P.agrees P.setting P.table P.stands t auditor.now p →
         Decides result ((unit : ℕ) × (unit < 2) × spec.EndsWaiting (P.setting t) p.moment unit) }
-    ensures few { result ≡ true → (t : P.Table) (p : Place P.State P.Call) → Stands P.agrees P.setting P.table P.stands t auditor.now p →
+    ensures few { result ≡ true → (t : P.Table) (p : AuditState P.State P.Call) → Stands P.agrees P.setting P.table P.stands t auditor.now p →
         spec.IsShort ((P.setting t).machine.expires p.moment.world p.moment.state) }
 {
     if ends_in_a_wait(auditor, 0) {
@@ -148,7 +148,7 @@ fn comes<P: Whole>(
     heard: &mut Heard,
 ) -> Result<Came, NoMemory>
     requires ready { IsReady P.fits P.within P.ticks 0 auditor.old }
-    ensures comes { (t : P.Table) (p : Place P.State P.Call) → Stands P.agrees P.setting P.table P.stands t auditor.old p → IsServed (P.setting t) p.moment →
+    ensures comes { (t : P.Table) (p : AuditState P.State P.Call) → Stands P.agrees P.setting P.table P.stands t auditor.old p → IsServed (P.setting t) p.moment →
         IfOk result (λ came. MakesStep (P.setting t) p read.now (Stands P.agrees P.setting P.table P.stands t auditor.new) report.old.number (own_text report.old) (own_text report.new) (spec.step_in came)) }
     ensures ready { (given : ℕ) → IsReady P.fits P.within P.ticks given auditor.old → IfOk result (λ came. spec.OnRight came (IsReady P.fits P.within P.ticks given auditor.new)) }
     ensures never { IfOk result (λ came. spec.is_reset came ≡ false) }
@@ -162,7 +162,7 @@ fn comes<P: Whole>(
 
 /// Whether a step may wait so many ticks, which don't pass the end of the watchdog's time.
 fn waits_right<P: Whole>(auditor: &Auditor<P>, step: &Step, ticks: u32) -> bool
-    ensures { (t : P.Table) (p : Place P.State P.Call) → Stands P.agrees P.setting P.table P.stands t auditor.now p →
+    ensures { (t : P.Table) (p : AuditState P.State P.Call) → Stands P.agrees P.setting P.table P.stands t auditor.now p →
         Decides result (spec.WaitsRight (P.setting t) p.moment step.now.made ticks) }
 {
     if ticks == 0 {
@@ -187,7 +187,7 @@ fn waits<P: Whole>(
     heard: &mut Heard,
 ) -> Result<Came, NoMemory>
     requires ready { IsReady P.fits P.within P.ticks 0 auditor.old }
-    ensures waits { (t : P.Table) (p : Place P.State P.Call) → Stands P.agrees P.setting P.table P.stands t auditor.old p → IsServed (P.setting t) p.moment →
+    ensures waits { (t : P.Table) (p : AuditState P.State P.Call) → Stands P.agrees P.setting P.table P.stands t auditor.old p → IsServed (P.setting t) p.moment →
         IfOk result (λ came. spec.MakesAwaited (P.setting t) p ticks (Stands P.agrees P.setting P.table P.stands t auditor.new) report.old.number (own_text report.old) (own_text report.new) (spec.step_in came)) }
     ensures ready { (given : ℕ) → IsReady P.fits P.within P.ticks given auditor.old → IfOk result (λ came. spec.OnRight came (IsReady P.fits P.within P.ticks given auditor.new)) }
     ensures never { IfOk result (λ came. spec.is_reset came ≡ false) }
@@ -212,7 +212,7 @@ fn waits<P: Whole>(
 /// The watchdog's time ends in a wait, and its reset drops so many frames, as its line told.
 fn runs_out<P: Whole>(auditor: &mut Auditor<P>, line: u32, dropped: u32) -> Result<bool, NoMemory>
     requires ready { IsReady P.fits P.within P.ticks 0 auditor.old }
-    ensures out { (t : P.Table) (p : Place P.State P.Call) → Stands P.agrees P.setting P.table P.stands t auditor.old p → IsServed (P.setting t) p.moment →
+    ensures out { (t : P.Table) (p : AuditState P.State P.Call) → Stands P.agrees P.setting P.table P.stands t auditor.old p → IsServed (P.setting t) p.moment →
         IfOk result (λ right. spec.RunsOutRight (P.setting t) p dropped (Stands P.agrees P.setting P.table P.stands t auditor.new) right) }
     ensures ready { (given : ℕ) → IsReady P.fits P.within P.ticks given auditor.old → IfOk result (λ right. OnTrue right (IsReady P.fits P.within P.ticks given auditor.new)) }
 {
@@ -242,7 +242,7 @@ fn step_or_reset<P: Whole>(
     heard: &mut Heard,
 ) -> Result<Came, NoMemory>
     requires ready { IsReady P.fits P.within P.ticks 0 auditor.old }
-    ensures came { (t : P.Table) (p : Place P.State P.Call) → Stands P.agrees P.setting P.table P.stands t auditor.old p → IsServed (P.setting t) p.moment →
+    ensures came { (t : P.Table) (p : AuditState P.State P.Call) → Stands P.agrees P.setting P.table P.stands t auditor.old p → IsServed (P.setting t) p.moment →
         IfOk result (λ came. spec.ComesNext (P.setting t) p (Stands P.agrees P.setting P.table P.stands t auditor.new) report.old report.new came) }
     ensures ready { (given : ℕ) → IsReady P.fits P.within P.ticks given auditor.old → IfOk result (λ came. spec.OnRight came (IsReady P.fits P.within P.ticks given auditor.new)) }
     ensures on { IfOk result (λ _. Advances report.old report.new) }
@@ -273,7 +273,7 @@ pub fn says_reset<P: Whole>(
     reason: Reason,
 ) -> Result<bool, NoMemory>
     requires ready { IsReady P.fits P.within P.ticks 0 auditor.old }
-    ensures resets { (t : P.Table) (p : Place P.State P.Call) → Stands P.agrees P.setting P.table P.stands t auditor.old p → IsServed (P.setting t) p.moment →
+    ensures resets { (t : P.Table) (p : AuditState P.State P.Call) → Stands P.agrees P.setting P.table P.stands t auditor.old p → IsServed (P.setting t) p.moment →
         IfOk result (λ right. Takes right (spec.PrintsReset (P.setting t) p reason) (Stands P.agrees P.setting P.table P.stands t auditor.new) report.old.number (own_text report.old) (own_text report.new)) }
     ensures ready { (given : ℕ) → IsReady P.fits P.within P.ticks given auditor.old → IfOk result (λ right. OnTrue right (IsReady P.fits P.within P.ticks given auditor.new)) }
     ensures on { IfOk result (λ _. Advances report.old report.new) }
@@ -305,7 +305,7 @@ pub fn steps<P: Whole>(
     reach: StopCondition,
 ) -> Result<bool, NoMemory>
     requires ready { IsReady P.fits P.within P.ticks 0 auditor.old }
-    ensures steps { (t : P.Table) (p : Place P.State P.Call) → Stands P.agrees P.setting P.table P.stands t auditor.old p → IsServed (P.setting t) p.moment →
+    ensures steps { (t : P.Table) (p : AuditState P.State P.Call) → Stands P.agrees P.setting P.table P.stands t auditor.old p → IsServed (P.setting t) p.moment →
         IfOk result (λ right. Takes right (PrintsOn (P.setting t) reach 0 true p) (Stands P.agrees P.setting P.table P.stands t auditor.new) report.old.number (own_text report.old) (own_text report.new)) }
     ensures ready { (given : ℕ) → IsReady P.fits P.within P.ticks given auditor.old → IfOk result (λ right. OnTrue right (IsReady P.fits P.within P.ticks given auditor.new)) }
     ensures on { IfOk result (λ _. Advances report.old report.new) }

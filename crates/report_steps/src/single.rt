@@ -12,7 +12,7 @@ ghost use Rattle.audit_frames.specs.Decides.{Decides};
 ghost use Rattle.audit_frames.specs.FrameRules.{answer_after};
 ghost use Rattle.audit_frames.specs.Told.{answer_of};
 ghost use Rattle.audit_subject.specs.Hearings.{heard_in};
-ghost use Rattle.report_reading.specs.Blocks.{Place};
+ghost use Rattle.report_reading.specs.Blocks.{AuditState};
 ghost use Rattle.report_text.specs.Unread.{own_text};
 ghost use Rattle.trace_reader.specs.Trace.{HasLineNumbers};
 ghost use Rattle.report_auditor.specs.Auditing.{HasTime, IsReady, IsSound, Stands, StillSeen, purpose_by};
@@ -77,7 +77,7 @@ fn is_at(told: u32, depth: u32, wait: u64) -> bool
 /// serving comes with its arrays.
 fn may_come<P: Whole>(auditor: &Auditor<P>, read: &Read) -> bool
     requires ready { IsReady P.fits P.within P.ticks 0 auditor.now }
-    ensures right { (t : P.Table) (p : Place P.State P.Call) → Stands P.agrees P.setting P.table P.stands t auditor.now p →
+    ensures right { (t : P.Table) (p : AuditState P.State P.Call) → Stands P.agrees P.setting P.table P.stands t auditor.now p →
         Decides result (spec.MayCome (P.setting t) p.moment p.moment.opens read.now) }
     ensures there { OnTrue result (CanApply read.now.made) }
     ensures frame { OnTrue result (spec.HasTop auditor.now.frames) }
@@ -115,7 +115,7 @@ fn hears<P: Whole>(
     requires ready { IsReady P.fits P.within P.ticks 0 auditor.old }
     requires time { HasTime auditor.old.outside }
     requires there { CanApply read.now.made }
-    ensures hears { (t : P.Table) (p : Place P.State P.Call) (o : Open P.Call) (os : List (Open P.Call)) → Stands P.agrees P.setting P.table P.stands t auditor.old p → p.moment.opens ≡ o ∷ os →
+    ensures hears { (t : P.Table) (p : AuditState P.State P.Call) (o : Open P.Call) (os : List (Open P.Call)) → Stands P.agrees P.setting P.table P.stands t auditor.old p → p.moment.opens ≡ o ∷ os →
         IfOk result (λ allowed. spec.HearsStep P.agrees P.setting P.table P.stands t auditor.new p o (spec.step_told read.now event None) (heard_in allowed heard.new)) }
     ensures sound { IfOk result (λ _. (given : ℕ) → IsReady P.fits P.within P.ticks given auditor.old → IsSound P.fits P.within given auditor.new) }
     ensures now { IfOk result (λ allowed. IfSome (heard_in allowed heard.new) (λ h. h.around.time ≡ auditor.new.outside.time)) }
@@ -277,7 +277,7 @@ fn goes_on<P: Whole>(
     requires sound { IsSound P.fits P.within 0 auditor.old }
     requires there { CanApply read.now.made }
     requires now { heard.now.around.time ≡ auditor.old.outside.time }
-    ensures makes { (t : P.Table) (p : Place P.State P.Call) (o : Open P.Call) (os : List (Open P.Call)) → p.moment.opens ≡ o ∷ os → spec.ComesNow (P.setting t) p.moment o read.now →
+    ensures makes { (t : P.Table) (p : AuditState P.State P.Call) (o : Open P.Call) (os : List (Open P.Call)) → p.moment.opens ≡ o ∷ os → spec.ComesNow (P.setting t) p.moment o read.now →
         spec.IsEarly (P.setting t) p.moment →
         spec.event_at read.now ≡ Some event → spec.IsHeard P.agrees P.setting P.table P.stands t auditor.old p o (spec.step_told read.now event None) heard.now →
         IfOk result (λ made. MakesStep (P.setting t) p read.now (Stands P.agrees P.setting P.table P.stands t auditor.new) report.old.number (own_text report.old) (own_text report.new) made) }
@@ -321,7 +321,7 @@ pub fn step<P: Whole>(
     heard: &mut Heard,
 ) -> Result<Option<Made>, NoMemory>
     requires ready { IsReady P.fits P.within P.ticks 0 auditor.old }
-    ensures makes { (t : P.Table) (p : Place P.State P.Call) → Stands P.agrees P.setting P.table P.stands t auditor.old p → IsServed (P.setting t) p.moment →
+    ensures makes { (t : P.Table) (p : AuditState P.State P.Call) → Stands P.agrees P.setting P.table P.stands t auditor.old p → IsServed (P.setting t) p.moment →
         IfOk result (λ made. MakesStep (P.setting t) p read.now (Stands P.agrees P.setting P.table P.stands t auditor.new) report.old.number (own_text report.old) (own_text report.new) made) }
     ensures ready { (given : ℕ) → IsReady P.fits P.within P.ticks given auditor.old → IfOk result (λ made. IfSome made (λ _. IsReady P.fits P.within P.ticks given auditor.new)) }
     ensures on { IfOk result (λ _. Advances report.old report.new) }

@@ -17,7 +17,7 @@ use Rattle.trace_reader.proofs.Digits.{number_again, no_space}
 use Rattle.trace_reader.proofs.LineByLine.{line_again}
 use Rattle.trace_reader.proofs.Short.{line_short}
 use Rattle.trace_reader.proofs.Splits.{front_word}
-use Rattle.report_text.specs.Unread.{Unread, own, told_by, told_first, told_next, past_first, after_told}
+use Rattle.report_text.specs.Unread.{Unread, own, told_of_line, told_first, told_next, past_first, after_told}
 use Rattle.report_text.specs.Taken.{Took, IsTold}
 use Rattle.report_text.proofs.Cutting.{own_begins, own_took}
 use Rattle.report_text.proofs.Taking.{comes_is, took_line}
@@ -82,7 +82,7 @@ told_is r t n h = told_case r t (own r) n refl h
 within_most : (k : ℕ) → k ≤ 160 → nat_le k 160 ≡ true
 within_most k h = grind (arith, nat_tests)
 
-by_again : (line : List ℕ) (t : TraceLine) → length line ≤ 160 → read_line line ≡ Some t → told_by line ≡ Some t.told
+by_again : (line : List ℕ) (t : TraceLine) → length line ≤ 160 → read_line line ≡ Some t → told_of_line line ≡ Some t.told
 by_again line t h r = rw (within_most (length line) h, r) refl
 
 pub told_again : (r : Unread) (line : Line) (rest : List ℕ) → IsNumber r.number → HasLineNumbers line → MovesOn line → r.left ≡ numbered r.number line ++ rest → told_next r ≡ Some (told line)

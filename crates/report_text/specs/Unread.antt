@@ -52,12 +52,12 @@ is_empty [] = true
 is_empty (x ∷ xs) = false
 
 -- what a line tells, where it isn't longer than those of steps, waits and resets
-abbrev pub told_by : List ℕ → Option Told
-told_by line = if nat_le (length line) MOST_MOVING then option_map (λ l. l.told) (read_line line) else None
+abbrev pub told_of_line : List ℕ → Option Told
+told_of_line line = if nat_le (length line) MOST_MOVING then option_map (λ l. l.told) (read_line line) else None
 
 abbrev pub told_first : (lines : List (List ℕ)) → Option Told
 told_first [] = None
-told_first (line ∷ lines) = told_by line
+told_first (line ∷ lines) = told_of_line line
 
 -- the next line of the block tells this
 abbrev pub told_next : Unread → Option Told

@@ -9,7 +9,7 @@ use Rattle.run_model.specs.Frame.{state_by}
 use Rattle.run_model.specs.Machine.{Happening, Acts, Serves, Starts, Aborts, Moves, Restarts, Outcome}
 use Rattle.run_model.specs.World.{World}
 use Rattle.spi_machine.proofs.Acts.{act-leaves}
-use Rattle.spi_machine.proofs.Turns.{found}
+use Rattle.spi_machine.proofs.SequenceChanges.{found}
 use Rattle.spi_machine.proofs.WordLaws.{cancel-ends}
 use Rattle.spi_machine.specs.Machine.{spi_machine, acts_by, finds_held}
 use Rattle.spi_machine.specs.Checks.{error_by}
@@ -23,8 +23,8 @@ use Rattle.spi_machine.specs.declared.call.SequenceCall.TheVariants.{AsyncTransm
 use Rattle.spi_machine.specs.declared.table.SpiTable.{SpiTable}
 use Rattle.serial_laws.specs.Ends.{Sequel, IsLeft, Starting, GoingOn, BeingCancelled, EndsAtOnce, EndsCancelled, EndsFailed, EndsOk}
 use Rattle.serial_laws.proofs.Sequels.{happens_sequel, cancel_waits}
-use Rattle.whole_runs.specs.Runs.{Event, AreAllowed, told_by}
-use Rattle.whole_runs.specs.SequenceRuns.{Seen, seen_between, seen_of, begins_by, accepts}
+use Rattle.whole_runs.specs.Runs.{Event, AreAllowed, told_or_nothing}
+use Rattle.whole_runs.specs.SequenceRuns.{SequenceEvent, seen_between, seen_of, begins_by, accepts}
 use Rattle.whole_runs.proofs.SequenceSteps as steps
 use Rattle.whole_runs.proofs.SequenceSteps.{seen, Goes, happens_goes}
 use Rattle.run_laws.specs.Results.{state_of, seen_at, is_cancel, cancels, was_cancelled}
@@ -62,18 +62,18 @@ joined_none q (p ∷ ps) x h =
 -- ---- a request
 
 -- a sequence that is pending after an event and wasn't before was requested there, and isn't cancelled
-record IsNew (q : ℕ) (e : Seen) (p : Pending) : Type 0 where
+record IsNew (q : ℕ) (e : SequenceEvent) (p : Pending) : Type 0 where
   accepted : accepts q e ≡ true
   fresh : p.cancelled ≡ false
 
 no_entry : {A : Type 0} (o : Option Pending) (p : Pending) → o ≡ None → o ≡ Some p → A
 no_entry o p e f = absurd (cc (sym e ∙ f))
 
-new_by : (q : ℕ) (e : Seen) (x p : Pending) (b : Bool) → (x.sequence == q) ≡ b → accepts q e ≡ (x.sequence == q) → x.cancelled ≡ false → cond b (Some x) None ≡ Some p → IsNew q e p
+new_by : (q : ℕ) (e : SequenceEvent) (x p : Pending) (b : Bool) → (x.sequence == q) ≡ b → accepts q e ≡ (x.sequence == q) → x.cancelled ≡ false → cond b (Some x) None ≡ Some p → IsNew q e p
 new_by q e x p false is a c f = absurd (cc f)
 new_by q e x p true is a c f = record { accepted = a ∙ is; fresh = ap (λ (y : Pending). y.cancelled) (sym (some_is x p f)) ∙ c }
 
-new_entry : (d : SpiTable) (e : Seen) (s t : SpiState) (q : ℕ) (p : Pending) → Goes d e s t → find (is_of q) s.pending ≡ None → find (is_of q) t.pending ≡ Some p → IsNew q e p
+new_entry : (d : SpiTable) (e : SequenceEvent) (s t : SpiState) (q : ℕ) (p : Pending) → Goes d e s t → find (is_of q) s.pending ≡ None → find (is_of q) t.pending ≡ Some p → IsNew q e p
 new_entry d e s t q p (steps.Leaves calm reset same results requests told) none is = no_entry _ p (ap (λ ps. find (is_of q) ps) same ∙ none) is
 new_entry d e s t q p (steps.Accepts k had own accept reset free same results requests told) none is =
     new_by q e (requested k (s.requests + 1) had) p (k == q) refl (accept q) refl (sym (joined_none q s.pending (requested k (s.requests + 1) had) none) ∙ (sym (ap (λ ps. find (is_of q) ps) same) ∙ is))
@@ -86,7 +86,7 @@ new_entry d e s t q p (steps.Sends k x sync calm reset same results requests tol
 new_entry d e s t q p (steps.Resetting reset accept same results told) none is = no_entry _ p (ap (λ ps. find (is_of q) ps) same) is
 
 -- no request of a pending sequence is accepted
-not_accepted : (d : SpiTable) (e : Seen) (s t : SpiState) (q : ℕ) (p : Pending) → Goes d e s t → find (is_of q) s.pending ≡ Some p → accepts q e ≡ false
+not_accepted : (d : SpiTable) (e : SequenceEvent) (s t : SpiState) (q : ℕ) (p : Pending) → Goes d e s t → find (is_of q) s.pending ≡ Some p → accepts q e ≡ false
 not_accepted d e s t q p (steps.Leaves calm reset same results requests told) is = calm.accepts q
 not_accepted d e s t q p (steps.Accepts k had own accept reset free same results requests told) is = accept q ∙ by (k == q) refl where
   by : (b : Bool) → (k == q) ≡ b → b ≡ false
@@ -186,7 +186,7 @@ module _ (d : SpiTable) (e : Event Call) (past : List (Event Call)) (out : Outco
   abbrev here : SpiState
   here = state_of d past
 
-  abbrev view : Seen
+  abbrev view : SequenceEvent
   view = seen d e.what here out
 
   goes : Goes d view here out.state
@@ -219,11 +219,11 @@ some_out (Some out) e = (out, refl)
 
 -- the event as it is seen where it is allowed
 pub seen_is : (d : SpiTable) (e : Event Call) (past : List (Event Call)) (out : Outcome SpiState) → (spi_machine d).happens e.world (state_of d past) e.what ≡ Some out → seen_at d e past ≡ seen d e.what (state_of d past) out
-seen_is d e past out made = ap (λ o. seen_between d (state_of d past) (state_by (state_of d past) o) e.what (told_by o) (begins_by o)) made
+seen_is d e past out made = ap (λ o. seen_between d (state_of d past) (state_by (state_of d past) o) e.what (told_or_nothing o) (begins_by o)) made
 
 pub all_marked : (d : SpiTable) (past : List (Event Call)) → AreAllowed (spi_machine d) first_state past → Marked d past (state_of d past)
 all_marked d [] allowed q p is = absurd (cc is)
 all_marked d (e ∷ past) allowed q p is =
     let out = some_out ((spi_machine d).happens e.world (state_of d past) e.what) allowed.0 in
     marked_after d e past out.0 out.1 (all_marked d past allowed.1) q p (ap (λ o. find (is_of q) (state_by (state_of d past) o).pending) (sym out.1) ∙ is)
-    ∙ ap (λ (v : Seen). cond (accepts q v) false (cancels q v || was_cancelled q (seen_of d past))) (sym (seen_is d e past out.0 out.1))
+    ∙ ap (λ (v : SequenceEvent). cond (accepts q v) false (cancels q v || was_cancelled q (seen_of d past))) (sym (seen_is d e past out.0 out.1))

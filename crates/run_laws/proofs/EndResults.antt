@@ -15,7 +15,7 @@ use Rattle.run_model.specs.World.{World}
 use Rattle.spi_machine.proofs.Acts.{act-leaves}
 use Rattle.spi_machine.proofs.Begins.{happens-begins}
 use Rattle.spi_machine.proofs.Idle.{idle-run}
-use Rattle.spi_machine.proofs.Turns.{found}
+use Rattle.spi_machine.proofs.SequenceChanges.{found}
 use Rattle.spi_machine.specs.Checks.{error_by}
 use Rattle.spi_machine.specs.Machine.{spi_machine, acts_by, finds_held, unit_of, run_of}
 use Rattle.spi_machine.specs.Pending as lists
@@ -35,7 +35,7 @@ use Rattle.serial_laws.specs.Ends.{Sequel, IsLeft, Starting, GoingOn, BeingCance
 use Rattle.serial_laws.specs.Faults.{is_unit}
 use Rattle.serial_laws.proofs.Sequels.{happens_comes}
 use Rattle.whole_runs.specs.Runs.{Event, AreAllowed, is_restart, is_of as is_named}
-use Rattle.whole_runs.specs.SequenceRuns.{Seen, seen_of, sequence_of_run, is_pending, is_end, is_reset, ends_job, jobs_ended}
+use Rattle.whole_runs.specs.SequenceRuns.{SequenceEvent, seen_of, sequence_of_run, is_pending, is_end, is_reset, ends_job, jobs_ended}
 use Rattle.whole_runs.proofs.EndsOnce.{run_agrees}
 use Rattle.whole_runs.proofs.JobOrder.{Ordered, ordered_after}
 use Rattle.whole_runs.proofs.SequenceSteps.{seen, happens_goes}
@@ -108,7 +108,7 @@ ordered d (e ∷ past) allowed =
     let after : Ordered (seen d e.what (state_of d past) out.0 ∷ seen_of d past) out.0.state =
     ordered_after d (seen d e.what (state_of d past) out.0) (seen_of d past) (state_of d past) out.0.state (happens_goes d e.world (state_of d past) e.what out.0 out.1) (ordered d past allowed.1) in
     subst (λ (s : SpiState). Ordered (seen_at d e past ∷ seen_of d past) s) (sym (ap (λ o. state_by (state_of d past) o) out.1))
-    (subst (λ (v : Seen). Ordered (v ∷ seen_of d past) out.0.state) (sym (seen_is d e past out.0 out.1)) after)
+    (subst (λ (v : SequenceEvent). Ordered (v ∷ seen_of d past) out.0.state) (sym (seen_is d e past out.0 out.1)) after)
 
 -- ---- an end
 
@@ -162,7 +162,7 @@ module _ (d : SpiTable) (e : Event Call) (past : List (Event Call)) (q : ℕ) (o
       none_some (find (is_of q) here.pending) p (ap (λ (y : SpiState). find (is_of q) y.pending) (sym same) ∙ gone) there
 
   its_cancel : (times : ℕ → ℕ) → e.what ≡ Acts (Sequence q Cancel) times → cancels q (seen_at d e past) ≡ true
-  its_cancel times at = ap (λ (v : Seen). cancels q v) (view_at (Acts (Sequence q Cancel) times) at) ∙ no_error times out.told.error at refl
+  its_cancel times at = ap (λ (v : SequenceEvent). cancels q v) (view_at (Acts (Sequence q Cancel) times) at) ∙ no_error times out.told.error at refl
 
   module _ (line received : ℕ) (r : Run) (at : e.what ≡ Serves line received) (own : EndsWith here q line r) where
     running : run_of here (unit_of line) ≡ Some r
@@ -173,7 +173,7 @@ module _ (d : SpiTable) (e : Event Call) (past : List (Event Call)) (q : ℕ) (o
 
     its_job_ends : ends_job q (seen_at d e past) ≡ true
     its_job_ends =
-        ap (λ (v : Seen). ends_job q v) (view_at (Serves line received) at)
+        ap (λ (v : SequenceEvent). ends_job q v) (view_at (Serves line received) at)
         ∙ (ap (λ o. is_named q (sequence_of_run o) && not (is_some out.begins)) running
         ∙ (ap (λ n. (n == q) && not (is_some out.begins)) own.its ∙ (ap (λ b. b && not (is_some out.begins)) (eq_self q) ∙ ap not over)))
 

@@ -20,8 +20,8 @@ use Rattle.adc_machine.specs.Turns.{AdcState, first_state, group_at, round_at, w
 use Rattle.adc_machine.specs.declared.call.Call.{Call}
 use Rattle.adc_machine.specs.declared.table.AdcTable.{AdcTable}
 use Rattle.adc_machine.specs.declared.table.Group as configured
-use Rattle.whole_runs.specs.GroupRuns.{Seen, seen_between, seen_of, round_group, requesting_group, call_by, is_whole, is_start, is_stop, stops, unit_started, unit_aborted, unit_served, starts_on, aborts_on, serves_on, serves, is_on}
-use Rattle.whole_runs.specs.Runs.{Event, AreAllowed, NoneOf, told_by, is_restart, is_of}
+use Rattle.whole_runs.specs.GroupRuns.{GroupEvent, seen_between, seen_of, round_group, requesting_group, call_by, is_whole, is_start, is_stop, stops, unit_started, unit_aborted, unit_served, starts_on, aborts_on, serves_on, serves, is_on}
+use Rattle.whole_runs.specs.Runs.{Event, AreAllowed, NoneOf, told_or_nothing, is_restart, is_of}
 use Rattle.whole_runs.proofs.GroupServes.{happens_goes}
 use Rattle.whole_runs.proofs.GroupSteps as steps
 use Rattle.whole_runs.proofs.GroupSteps.{seen, WaitGoes, UnitGoes, Goes}
@@ -103,22 +103,22 @@ serving_waits d w s h out u g made serve lt once =
 
 -- ---- a request that no round was served for
 
-none_more : (p : Seen → Bool) (e : Seen) (es : List Seen) → p e ≡ false → NoneOf p es → NoneOf p (e ∷ es)
+none_more : (p : GroupEvent → Bool) (e : GroupEvent) (es : List GroupEvent) → p e ≡ false → NoneOf p es → NoneOf p (e ∷ es)
 none_more p e es h none = or_from (p e) (list_any p es) h none
 
-later : (g : ℕ) (e : Seen) (past : List Seen) → stops g e ≡ false → serves g e ≡ false → HasNewRequest g past → HasNewRequest g (e ∷ past)
+later : (g : ℕ) (e : GroupEvent) (past : List GroupEvent) → stops g e ≡ false → serves g e ≡ false → HasNewRequest g past → HasNewRequest g (e ∷ past)
 later g e past calm quiet h = record {
   since = e ∷ h.since;
   request = h.request;
   before = h.before;
-  is = ap (λ (l : List Seen). e ∷ l) h.is;
+  is = ap (λ (l : List GroupEvent). e ∷ l) h.is;
   requested = h.requested;
   unstopped = none_more (stops g) e h.since calm h.unstopped;
   unserved = none_more (serves g) e h.since quiet h.unserved;
 }
 
 -- an abort and a start stop nothing and serve nothing
-abort_calm : (e : Seen) (u g : ℕ) → aborts_on u g e ≡ true → (stops g e ≡ false) × (serves g e ≡ false)
+abort_calm : (e : GroupEvent) (u g : ℕ) → aborts_on u g e ≡ true → (stops g e ≡ false) × (serves g e ≡ false)
 abort_calm e u g on = by_what e.what e.told.error on where
   by_what : (h : Happening Call) (o : Option ErrorName) → (is_of u (unit_aborted h) && is_of g e.group) ≡ true → (((is_restart h || is_whole (call_by h o)) || is_stop g (call_by h o)) ≡ false) × ((is_some (unit_served h) && is_of g e.group) ≡ false)
   by_what (Acts call times) o f = absurd (cc f)
@@ -128,7 +128,7 @@ abort_calm e u g on = by_what e.what e.told.error on where
   by_what (Moves order) o f = absurd (cc f)
   by_what (Restarts reason) o f = absurd (cc f)
 
-start_calm : (e : Seen) (u g : ℕ) → starts_on u g e ≡ true → (stops g e ≡ false) × (serves g e ≡ false)
+start_calm : (e : GroupEvent) (u g : ℕ) → starts_on u g e ≡ true → (stops g e ≡ false) × (serves g e ≡ false)
 start_calm e u g on = by_what e.what e.told.error on where
   by_what : (h : Happening Call) (o : Option ErrorName) → (is_of u (unit_started h) && is_of g e.group) ≡ true → (((is_restart h || is_whole (call_by h o)) || is_stop g (call_by h o)) ≡ false) × ((is_some (unit_served h) && is_of g e.group) ≡ false)
   by_what (Acts call times) o f = absurd (cc f)
@@ -174,15 +174,15 @@ elsewhere_quiet d w s h out u g r true single away there own e =
 -- ---- what the state says
 
 -- a group that isn't continuous and waits or runs has a request that no round was served for
-record OneRound (d : AdcTable) (past : List Seen) (s : AdcState) : Type 0 where
+record OneRound (d : AdcTable) (past : List GroupEvent) (s : AdcState) : Type 0 where
   waits : (g : ℕ) → g < 16 → is_continuous (group_of d g) ≡ false → (q : Request) → (group_at s g).waiting ≡ Some q → HasNewRequest g past
   runs : (g : ℕ) → g < 16 → is_continuous (group_of d g) ≡ false → (u : ℕ) (r : Round) → round_at s u ≡ Some r → r.group ≡ g → HasNewRequest g past
 
-module _ (d : AdcTable) (w : World) (s : AdcState) (h : Happening Call) (out : Outcome AdcState) (past : List Seen) (made : happens d w s h ≡ Some out) (single : Single d s) (before : OneRound d past s) where
-  abbrev view : Seen
+module _ (d : AdcTable) (w : World) (s : AdcState) (h : Happening Call) (out : Outcome AdcState) (past : List GroupEvent) (made : happens d w s h ≡ Some out) (single : Single d s) (before : OneRound d past s) where
+  abbrev view : GroupEvent
   view = seen d w h s out
 
-  abbrev longer : List Seen
+  abbrev longer : List GroupEvent
   longer = view ∷ past
 
   none_waits : {A : Type 0} (o : Option Request) (q : Request) → o ≡ None → o ≡ Some q → A
@@ -231,9 +231,9 @@ first_tells : (d : AdcTable) → Tells d [] first_state
 first_tells d = record { waiting = λ g lt q e. absurd (cc e); running = λ u r e. absurd (cc e); newest = λ g lt values e. absurd (cc e); completed = λ g lt e. absurd (cc e); single = first_single d }
 
 seen_is : (d : AdcTable) (e : Event Call) (past : List (Event Call)) (out : Outcome AdcState) → happens d e.world (state_of d past) e.what ≡ Some out → seen_at d e past ≡ seen d e.world e.what (state_of d past) out
-seen_is d e past out made = ap (λ o. seen_between d (state_of d past) (state_by (state_of d past) o) e (told_by o)) made
+seen_is d e past out made = ap (λ o. seen_between d (state_of d past) (state_by (state_of d past) o) e (told_or_nothing o)) made
 
-abbrev Says : AdcTable → List Seen → AdcState → Type 0
+abbrev Says : AdcTable → List GroupEvent → AdcState → Type 0
 Says d past s = Tells d past s × OneRound d past s
 
 said : (d : AdcTable) (past : List (Event Call)) → AreAllowed (adc_machine d) first_state past → Says d (seen_of d past) (state_of d past)
@@ -244,7 +244,7 @@ said d (e ∷ past) allowed =
     let tells = tells_after d e.world e.what (state_of d past) out.0 (seen_of d past) out.1 (happens_goes d e.world (state_of d past) e.what out.0 out.1) before.0 in
     let one = one_after d e.world (state_of d past) e.what out.0 (seen_of d past) out.1 before.0.single before.1 in
     subst (λ (s : AdcState). Tells d (seen_at d e past ∷ seen_of d past) s × OneRound d (seen_at d e past ∷ seen_of d past) s) (sym (ap (λ o. state_by (state_of d past) o) out.1))
-    (subst (λ (v : Seen). Tells d (v ∷ seen_of d past) out.0.state × OneRound d (v ∷ seen_of d past) out.0.state) (sym (seen_is d e past out.0 out.1)) (tells, one))
+    (subst (λ (v : GroupEvent). Tells d (v ∷ seen_of d past) out.0.state × OneRound d (v ∷ seen_of d past) out.0.state) (sym (seen_is d e past out.0 out.1)) (tells, one))
 
 module _ (d : AdcTable) (e : Event Call) (past : List (Event Call)) (u g : ℕ) (allowed : AreAllowed (adc_machine d) first_state (e ∷ past)) (serve : serves_on u g (seen_at d e past) ≡ true) where
   abbrev here : AdcState
@@ -254,7 +254,7 @@ module _ (d : AdcTable) (e : Event Call) (past : List (Event Call)) (u g : ℕ) 
   made = some_out (happens d e.world here e.what) allowed.0
 
   round_there : Served here u g e.what
-  round_there = served_of d e.world here e.what made.0 u g (ap (λ (v : Seen). serves_on u g v) (sym (seen_is d e past made.0 made.1)) ∙ serve)
+  round_there = served_of d e.world here e.what made.0 u g (ap (λ (v : GroupEvent). serves_on u g v) (sym (seen_is d e past made.0 made.1)) ∙ serve)
 
   one_request : g < 16 → is_continuous (group_of d g) ≡ false → HasNewRequest g (seen_of d past)
   one_request lt once = (said d past allowed.1).1.runs g lt once u round_there.round round_there.there round_there.own

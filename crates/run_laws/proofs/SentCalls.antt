@@ -36,8 +36,8 @@ use Rattle.serial_laws.specs.Faults.{begins_on, is_unit, run_carried}
 use Rattle.serial_laws.proofs.Sendings.{act_plain}
 use Rattle.serial_laws.proofs.SentWords.{acts_carried, sent_frees, sent_on_other, serves_carried, starts_carried}
 use Rattle.serial_laws.proofs.Words.{plain_there, served_begins_on}
-use Rattle.whole_runs.specs.Runs.{Event, AreAllowed, told_by}
-use Rattle.whole_runs.specs.SequenceRuns.{Seen}
+use Rattle.whole_runs.specs.Runs.{Event, AreAllowed, told_or_nothing}
+use Rattle.whole_runs.specs.SequenceRuns.{SequenceEvent}
 use Rattle.whole_runs.proofs.SequenceSteps.{seen}
 use Rattle.run_laws.specs.Results.{begun_at, seen_at, state_of}
 use Rattle.run_laws.specs.Sent.{SentJob, word_in, all_in, begins_for, WordBegins, WordGood, IsStored, IsOver, Sends, Begins, Waits, NextWord, NextJob, SendsAll, WordFailed, EndsSent, AreSent, ends_call}
@@ -197,7 +197,7 @@ module _ (d : SpiTable) (e : Event Call) (past : List (Event Call)) (out : Outco
 
   -- the error that is seen is the outcome's
   calm_is : (q : ℕ) → ends_call q e.what out.told.error ≡ false → ends_call q e.what (seen_at d e past).told.error ≡ false
-  calm_is q calm = ap (λ o. ends_call q e.what (told_by o).error) made ∙ calm
+  calm_is q calm = ap (λ o. ends_call q e.what (told_or_nothing o).error) made ∙ calm
 
   calm_so : (h : Happening Call) → e.what ≡ h → (q : ℕ) → ((o : Option ErrorName) → ends_call q h o ≡ false) → ends_call q e.what out.told.error ≡ false
   calm_so h at q none = ap (λ k. ends_call q k out.told.error) at ∙ none out.told.error
@@ -622,9 +622,9 @@ module _ (d : SpiTable) (e : Event Call) (past : List (Event Call)) (out : Outco
 
   pub ends_sent : EndsSent d q e past
   ends_sent = record {
-    good = λ answer. subst (λ (v : Seen). SendsAll d q e past × (v.has q ≡ SpiSeqOk)) (sym view_is) (says.0 (sym (ap (λ (v : Seen). v.told.answer) view_is) ∙ answer));
-    failed = λ clear answer. subst (λ (v : Seen). WordFailed d (unit_of_sequence d q) e past × (v.has q ≡ SpiSeqFailed)) (sym view_is)
-        (says.1 (sym (ap (λ (v : Seen). v.told.error) view_is) ∙ clear) (sym (ap (λ (v : Seen). v.told.answer) view_is) ∙ answer));
+    good = λ answer. subst (λ (v : SequenceEvent). SendsAll d q e past × (v.has q ≡ SpiSeqOk)) (sym view_is) (says.0 (sym (ap (λ (v : SequenceEvent). v.told.answer) view_is) ∙ answer));
+    failed = λ clear answer. subst (λ (v : SequenceEvent). WordFailed d (unit_of_sequence d q) e past × (v.has q ≡ SpiSeqFailed)) (sym view_is)
+        (says.1 (sym (ap (λ (v : SequenceEvent). v.told.error) view_is) ∙ clear) (sym (ap (λ (v : SequenceEvent). v.told.answer) view_is) ∙ answer));
   }
 
 pub all_sent_so : (d : SpiTable) (past : List (Event Call)) → AreAllowed (spi_machine d) first_state past → AreSent d past

@@ -25,7 +25,7 @@ use Rattle.serial_laws.proofs.Words.{After, word_seen}
 use Rattle.spi_machine.proofs.Numbers.{item-other}
 use Rattle.whole_runs.specs.Runs.{Event, AreAllowed}
 use Rattle.run_laws.specs.Results.{state_of, touches}
-use Rattle.run_laws.proofs.WordStories.{Story, Turns, WordOf, init_alone, never_runs, story_after, unit_is}
+use Rattle.run_laws.proofs.WordStories.{Story, WordTurns, WordOf, init_alone, never_runs, story_after, unit_is}
 
 -- what a call carries out is what its unit does
 for_unit : (off sync : Bool) (o : Option Carrying) (x : Carrying) → (if off || not sync then None else o) ≡ Some x → o ≡ Some x
@@ -54,19 +54,19 @@ none_ready false now None e = refl
 none_ready false now (Some r) e = absurd (cc e)
 
 module _ (d : SpiTable) (w : World) (s : SpiState) (u : ℕ) (sync : is_sync_unit d u ≡ true) (free : run_at s u ≡ None) where
-  stays_turn : (h : Happening Call) (out : Outcome SpiState) → touches u h ≡ false → StaysSent u w s h out.state → Turns u (sends u) w s h out
+  stays_turn : (h : Happening Call) (out : Outcome SpiState) → touches u h ≡ false → StaysSent u w s h out.state → WordTurns u (sends u) w s h out
   stays_turn h out off (inl e) = inr (inl (off, e))
   stays_turn h out off (inr e) = inr (inr (ap run_carried e))
 
-  steps_turn : (h : Happening Call) (out : Outcome SpiState) → (spi_machine d).happens w s h ≡ Some out → touches u h ≡ false → leaves_word u h ≡ true → Turns u (sends u) w s h out
+  steps_turn : (h : Happening Call) (out : Outcome SpiState) → (spi_machine d).happens w s h ≡ Some out → touches u h ≡ false → leaves_word u h ≡ true → WordTurns u (sends u) w s h out
   steps_turn h out made off left = stays_turn h out off (subst (λ t. StaysSent u w s h t) (ap (λ o. state_by s o) made) (step_sent d w s u h left))
 
-  init_turn : (call : Call) (times : ℕ → ℕ) (out : Outcome SpiState) → (spi_machine d).happens w s (Acts call times) ≡ Some out → is_init call ≡ true → Turns u (sends u) w s (Acts call times) out
+  init_turn : (call : Call) (times : ℕ → ℕ) (out : Outcome SpiState) → (spi_machine d).happens w s (Acts call times) ≡ Some out → is_init call ≡ true → WordTurns u (sends u) w s (Acts call times) out
   init_turn call times out made on =
-      subst (λ (t : Outcome SpiState). Turns u (sends u) w s (Acts call times) t) (act_plain d w s call times out (init_alone call on) made)
+      subst (λ (t : Outcome SpiState). WordTurns u (sends u) w s (Acts call times) t) (act_plain d w s call times out (init_alone call on) made)
       (by (init_carried d s u call (error_by d call (is_off s.mode) (finds_held d s call)) on))
     where
-      by : (carried_at (acts_by d s call (error_by d call (is_off s.mode) (finds_held d s call))).state u ≡ carried_at s u) ⊎ (carried_at (acts_by d s call (error_by d call (is_off s.mode) (finds_held d s call))).state u ≡ None) → Turns u (sends u) w s (Acts call times) (acts_by d s call (error_by d call (is_off s.mode) (finds_held d s call)))
+      by : (carried_at (acts_by d s call (error_by d call (is_off s.mode) (finds_held d s call))).state u ≡ carried_at s u) ⊎ (carried_at (acts_by d s call (error_by d call (is_off s.mode) (finds_held d s call))).state u ≡ None) → WordTurns u (sends u) w s (Acts call times) (acts_by d s call (error_by d call (is_off s.mode) (finds_held d s call)))
       by (inl e) = stays_turn (Acts call times) (acts_by d s call (error_by d call (is_off s.mode) (finds_held d s call))) refl (same_sent u w s (acts_by d s call (error_by d call (is_off s.mode) (finds_held d s call))).state (Acts call times) (λ b. refl) e)
       by (inr e) = inr (inr (ap run_carried e))
 
@@ -78,10 +78,10 @@ module _ (d : SpiTable) (w : World) (s : SpiState) (u : ℕ) (sync : is_sync_uni
   sent_on_there v received x true e = e
   sent_on_there v received x false e = e
 
-  sent_turns : (h : Happening Call) (out : Outcome SpiState) (q : Bool) → (spi_machine d).happens w s h ≡ Some out → touches u h ≡ q → Turns u (sends u) w s h out
+  sent_turns : (h : Happening Call) (out : Outcome SpiState) (q : Bool) → (spi_machine d).happens w s h ≡ Some out → touches u h ≡ q → WordTurns u (sends u) w s h out
   sent_turns (Acts call times) out q made t = by (is_init call) refl
     where
-      by : (b : Bool) → is_init call ≡ b → Turns u (sends u) w s (Acts call times) out
+      by : (b : Bool) → is_init call ≡ b → WordTurns u (sends u) w s (Acts call times) out
       by true e = init_turn call times out made e
       by false e = steps_turn (Acts call times) out made refl (not_false (is_init call) e)
   sent_turns (Serves line received) out false made t = steps_turn (Serves line received) out made t (not_false (is_unit u (unit_of line)) t)

@@ -154,8 +154,8 @@ none_seen : (u : ℕ) (w : World) (o : Option Run) (h : Happening Call) (after :
 none_seen u w o h after r e f is = absurd (cc (sym (ap word_seen is) ∙ (f ∙ ap (λ x. After u w (word_seen x) h) e)))
 
 -- what a unit runs, and what an event does to its word: it begins it, leaves it, or frees the unit
-abbrev pub Turns : ℕ → (run : SpiState → Option Run) → World → SpiState → Happening Call → Outcome SpiState → Type 0
-Turns u run w s h out =
+abbrev pub WordTurns : ℕ → (run : SpiState → Option Run) → World → SpiState → Happening Call → Outcome SpiState → Type 0
+WordTurns u run w s h out =
     ((begins_on u out.begins ≡ true) × (word_seen (run out.state) ≡ Some (w.now, received_at h == refused)))
     ⊎ (((touches u h ≡ false) × (word_seen (run out.state) ≡ After u w (word_seen (run s)) h)) ⊎ (run out.state ≡ None))
 
@@ -193,7 +193,7 @@ module _ (d : SpiTable) (u : ℕ) (run : SpiState → Option Run) where
   story_kept e past out r None off was seen is story = absurd (none_seen u e.world (run (state_of d past)) e.what (run out.state) r was seen is)
   story_kept e past out r (Some old) off was seen is story = on e past out r old off (seen ∙ ap (λ x. After u e.world (word_seen x) e.what) was) is (story old was)
 
-  pub story_after : (e : Event Call) (past : List (Event Call)) (out : Outcome SpiState) (r : Run) → (spi_machine d).happens e.world (state_of d past) e.what ≡ Some out → Turns u run e.world (state_of d past) e.what out
+  pub story_after : (e : Event Call) (past : List (Event Call)) (out : Outcome SpiState) (r : Run) → (spi_machine d).happens e.world (state_of d past) e.what ≡ Some out → WordTurns u run e.world (state_of d past) e.what out
       → run out.state ≡ Some r → Story past → WordOf d u (e ∷ past) r
   story_after e past out r made (inl begins) is story = fresh e past out r made begins.0 begins.1 is
   story_after e past out r made (inr (inl kept)) is story = story_kept e past out r (run (state_of d past)) kept.0 refl kept.1 is story
@@ -204,13 +204,13 @@ module _ (d : SpiTable) (u : ℕ) (run : SpiState → Option Run) where
 abbrev pub runs : ℕ → SpiState → Option Run
 runs u s = run_at s u
 
-turns : (d : SpiTable) (w : World) (s : SpiState) (h : Happening Call) (out : Outcome SpiState) (u : ℕ) (q : Bool) → (spi_machine d).happens w s h ≡ Some out → is_sync_unit d u ≡ false → touches u h ≡ q → Turns u (runs u) w s h out
+turns : (d : SpiTable) (w : World) (s : SpiState) (h : Happening Call) (out : Outcome SpiState) (u : ℕ) (q : Bool) → (spi_machine d).happens w s h ≡ Some out → is_sync_unit d u ≡ false → touches u h ≡ q → WordTurns u (runs u) w s h out
 turns d w s h out u true made plain t = by (touched d w s h out u made plain t) where
-  by : Touched u out → Turns u (runs u) w s h out
+  by : Touched u out → WordTurns u (runs u) w s h out
   by (inl begins) = inl (begins, begins_seen d w s h out u made begins plain)
   by (inr free) = inr (inr free)
 turns d w s h out u false made plain t = by (kept d w s h out u made t) where
-  by : Kept u w s h out → Turns u (runs u) w s h out
+  by : Kept u w s h out → WordTurns u (runs u) w s h out
   by (inl seen) = inr (inl (t, seen))
   by (inr free) = inr (inr free)
 

@@ -17,17 +17,17 @@ use Rattle.spi_machine.specs.declared.call.Call.TheVariants.{Sequence}
 use Rattle.spi_machine.specs.declared.call.SequenceCall.TheVariants.{Cancel}
 use Rattle.spi_machine.specs.declared.table.SpiTable.{SpiTable}
 use Rattle.serial_laws.specs.Faults.{begins_on, is_unit}
-use Rattle.whole_runs.specs.Runs.{Event, state_after, told_by, NoneOf}
-use Rattle.whole_runs.specs.SequenceRuns.{Seen, seen_between, seen_of, begins_by, accepts, is_end, ends_job, jobs_ended}
+use Rattle.whole_runs.specs.Runs.{Event, state_after, told_or_nothing, NoneOf}
+use Rattle.whole_runs.specs.SequenceRuns.{SequenceEvent, seen_between, seen_of, begins_by, accepts, is_end, ends_job, jobs_ended}
 
 -- the state after these events, and what the next one is seen to be there
 abbrev pub state_of : SpiTable → List (Event Call) → SpiState
 state_of d past = state_after (spi_machine d) first_state past
 
-abbrev pub seen_at : SpiTable → Event Call → List (Event Call) → Seen
+abbrev pub seen_at : SpiTable → Event Call → List (Event Call) → SequenceEvent
 seen_at d e past =
     let out = (spi_machine d).happens e.world (state_of d past) e.what in
-    seen_between d (state_of d past) (state_of d (e ∷ past)) e.what (told_by out) (begins_by out)
+    seen_between d (state_of d past) (state_of d (e ∷ past)) e.what (told_or_nothing out) (begins_by out)
 
 -- ---- cancels
 
@@ -36,11 +36,11 @@ abbrev pub is_cancel : ℕ → Happening Call → Option ErrorName → Bool
 is_cancel q (Acts (Sequence k Cancel) times) None = k == q
 is_cancel q h error = false
 
-abbrev pub cancels : ℕ → Seen → Bool
+abbrev pub cancels : ℕ → SequenceEvent → Bool
 cancels q e = is_cancel q e.what e.told.error
 
 -- the sequence was cancelled since its last accepted request
-abbrev pub was_cancelled : ℕ → List Seen → Bool
+abbrev pub was_cancelled : ℕ → List SequenceEvent → Bool
 was_cancelled q [] = false
 was_cancelled q (e ∷ past) = cond (accepts q e) false (cancels q e || was_cancelled q past)
 

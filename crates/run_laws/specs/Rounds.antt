@@ -6,32 +6,32 @@ use Rattle.adc_machine.specs.Table.{group_of}
 use Rattle.adc_machine.specs.Turns.{AdcState, first_state}
 use Rattle.adc_machine.specs.declared.call.Call.{Call}
 use Rattle.adc_machine.specs.declared.table.AdcTable.{AdcTable}
-use Rattle.whole_runs.specs.GroupRuns.{Seen, seen_between, seen_of, stops, requests, serves, serves_on}
+use Rattle.whole_runs.specs.GroupRuns.{GroupEvent, seen_between, seen_of, stops, requests, serves, serves_on}
 use Rattle.whole_runs.specs.Rounds.{Stretch, Keeps, inputs_after}
-use Rattle.whole_runs.specs.Runs.{Event, state_after, told_by, NoneOf}
+use Rattle.whole_runs.specs.Runs.{Event, state_after, told_or_nothing, NoneOf}
 
 -- the state after these events, and what the next one is seen to be there
 abbrev pub state_of : AdcTable → List (Event Call) → AdcState
 state_of d past = state_after (adc_machine d) first_state past
 
-abbrev pub seen_at : AdcTable → Event Call → List (Event Call) → Seen
-seen_at d e past = seen_between d (state_of d past) (state_of d (e ∷ past)) e (told_by ((adc_machine d).happens e.world (state_of d past) e.what))
+abbrev pub seen_at : AdcTable → Event Call → List (Event Call) → GroupEvent
+seen_at d e past = seen_between d (state_of d past) (state_of d (e ∷ past)) e (told_or_nothing ((adc_machine d).happens e.world (state_of d past) e.what))
 
 -- A request of the group was made, and since then the group was neither stopped, nor its trigger disabled, nor a round of it served.
-pub record HasNewRequest (g : ℕ) (past : List Seen) : Type 0 where
-  pub since : List Seen
-  pub request : Seen
-  pub before : List Seen
+pub record HasNewRequest (g : ℕ) (past : List GroupEvent) : Type 0 where
+  pub since : List GroupEvent
+  pub request : GroupEvent
+  pub before : List GroupEvent
   pub is : past ≡ since ++ request ∷ before
   pub requested : requests g request ≡ true
   pub unstopped : NoneOf (stops g) since
   pub unserved : NoneOf (serves g) since
 
 -- The round that a serving serves was finished: since its unit started it, 4 ticks have passed for each input after those whose values were kept for it.
-pub record WasFinished (d : AdcTable) (g : ℕ) (serving : Seen) (past : List Seen) : Type 0 where
+pub record WasFinished (d : AdcTable) (g : ℕ) (serving : GroupEvent) (past : List GroupEvent) : Type 0 where
   pub unit : ℕ
-  pub earlier : List Seen
-  pub start : Seen
+  pub earlier : List GroupEvent
+  pub start : GroupEvent
   pub kept : List ℕ
   pub served : serves_on unit g serving ≡ true
   pub stretch : Stretch unit g past earlier start

@@ -19,6 +19,8 @@ what_of-more rests more (kept.Happened hardware) h = refl
 what_of-more rests more kept.Begun h = refl
 what_of-more rests more (kept.Held cause) h = refl
 what_of-more rests more (kept.Stepped made value) h = refl
+what_of-more rests more (kept.Acted made value) h = refl
+what_of-more rests more (kept.Ended made head) h = refl
 what_of-more rests more (kept.SteppedWith made n) h = ap (λ (r : Rest). whats.Stepped (step_with made r.value r)) (rest_at-more rests more n h)
 what_of-more rests more (kept.Reset reason dropped) h = refl
 
@@ -43,6 +45,8 @@ numbered_more n m (kept.Happened hardware) le h = tt
 numbered_more n m kept.Begun le h = tt
 numbered_more n m (kept.Held cause) le h = tt
 numbered_more n m (kept.Stepped made value) le h = tt
+numbered_more n m (kept.Acted made value) le h = tt
+numbered_more n m (kept.Ended made head) le h = tt
 numbered_more n m (kept.SteppedWith made k) le h = omega (arith, le, h)
 numbered_more n m (kept.Reset reason dropped) le h = tt
 

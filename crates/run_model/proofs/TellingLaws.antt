@@ -317,10 +317,10 @@ module _ {Call : Type 0} (call_of : Request → Call) where
         omega (arith, deeds, items, first, rest)
 
 -- The devices after a legal run whose first selects and widths are those of a reset: the journal alone tells of them.
-pub told_by : {State Call : Type 0} (g : Setting State Call) (call_of : Request → Call) (script : List Directive) (m : Moment State Call) (es : List entry.Entry) (old new : List Line) (time : ℕ)
+pub told_along : {State Call : Type 0} (g : Setting State Call) (call_of : Request → Call) (script : List Directive) (m : Moment State Call) (es : List entry.Entry) (old new : List Line) (time : ℕ)
     → m.chip.serials ≡ serials.fresh time → length old ≡ m.chip.devices
     → IsLegal g m (deeds_of call_of script es) → AreTold g m (deeds_of call_of script es) old new → AreToldBy m.chip.devices es old new
-told_by g call_of script m es old new time start there legal told =
+told_along g call_of script m es old new time start there legal told =
     let p = ports_fresh m.chip.devices in
     let h : Holds m.chip p = record { units = λ u lt. subst (λ b. HasPort b p u) (sym start) (fresh time m.chip.devices u lt); devices = refl } in
     let deeds = deeds_of call_of script es in

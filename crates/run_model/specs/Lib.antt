@@ -13,3 +13,4 @@ pub mod Rooms
 pub mod Script
 pub mod Stops
 pub mod World
+pub use Rattle.chip_model.specs.Chip

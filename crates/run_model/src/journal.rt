@@ -4,7 +4,7 @@ ghost use Rattle.run_model.specs.Entry.{Begins, Happens, Stays, Steps, Resets, w
 
 use crate::item::{Hardware, LoggedAnswer, Span, Stepped};
 use crate::items::Items;
-use crate::kept::{JournalLists, KeptWhat, Rest, is_plain};
+use crate::kept::{JournalLists, KeptWhat, Rest, acts_alone, bare_end, is_plain};
 use irq_control::Held;
 use mcal_base::{Answer, Move, Order, Reason};
 use std::alloc::{AllocError, Global};
@@ -230,6 +230,22 @@ impl Journal {
         self.push_step(line, depth, stepped.made, rest);
     }
 
+    /// Notes a step that has something beside its move and its value.
+    fn stepped_more(&mut self, line: u32, depth: u32, stepped: &Stepped)
+        requires room { length self.old.entries < self.old.room }
+        requires words { length self.old.words + length (words_of_answer stepped.now.ended) ≤ self.old.words_room }
+        ensures { self.new ≡ written self.old line depth (Steps stepped.now) (words_of_answer stepped.now.ended) }
+    {
+        if acts_alone(stepped) {
+            self.push(line, depth, KeptWhat::Acted(stepped.made, stepped.value));
+            return;
+        }
+        match bare_end(stepped) {
+            Some(head) => self.push(line, depth, KeptWhat::Ended(stepped.made, head)),
+            None => self.stepped_whole(line, depth, stepped),
+        }
+    }
+
     /// Notes a step.
     pub fn stepped(&mut self, line: u32, depth: u32, stepped: &Stepped)
         requires room { length self.old.entries < self.old.room }
@@ -239,7 +255,7 @@ impl Journal {
         if is_plain(stepped) {
             self.push(line, depth, KeptWhat::Stepped(stepped.made, stepped.value));
         } else {
-            self.stepped_whole(line, depth, stepped);
+            self.stepped_more(line, depth, stepped);
         }
     }
 }

@@ -1,10 +1,10 @@
-ghost use Rattle.std.specs.Prelude.{◌≡◌};
+ghost use Rattle.std.specs.Prelude.{◌≡◌, None, IfSome};
 ghost use Rattle.std.specs.Bool.{OnTrue};
 ghost use Rattle.run_model.specs.Packing as spec;
 
-use crate::item::{Hardware, Item, Logged, LoggedAnswer, Stepped, What};
+use crate::item::{Hardware, Item, Logged, LoggedAnswer, Span, Stepped, What};
 use irq_control::Held;
-use mcal_base::{Event, Move, Reason};
+use mcal_base::{Event, Head, Move, Reason};
 use std::mem::size_of;
 
 /// What few steps have beside their move, with what that gave.
@@ -30,6 +30,33 @@ impl Rest {
             received: 0,
             event: None,
             ended: None,
+        }
+    }
+
+    /// The rest of a step at which the call acts, and that has nothing else.
+    fn act() -> Rest
+        ensures { result ≡ spec.act_rest }
+    {
+        Rest {
+            value: 0,
+            received: 0,
+            event: Some(Event::Act),
+            ended: None,
+        }
+    }
+
+    /// The rest of a step that ends its frame with an answer without numbers, and has nothing else.
+    fn end(head: Head) -> Rest
+        ensures { result ≡ spec.end_rest head }
+    {
+        Rest {
+            value: 0,
+            received: 0,
+            event: None,
+            ended: Some(LoggedAnswer {
+                head,
+                words: Span { at: 0, count: 0 },
+            }),
         }
     }
 
@@ -68,6 +95,10 @@ pub enum KeptWhat {
     Held(Held),
     /// The top frame made a move, which gave this value, and its step has nothing else.
     Stepped(Move, u32),
+    /// The top frame made a move, which gave this value, and the call acted; its step has nothing else.
+    Acted(Move, u32),
+    /// The top frame made a move and ended with an answer without numbers; its step has nothing else.
+    Ended(Move, Head),
     /// The top frame made a move, and its step has the rest of this number.
     SteppedWith(Move, u32),
     /// The chip was reset, and so many frames were dropped.
@@ -79,6 +110,33 @@ pub(crate) fn is_plain(stepped: &Stepped) -> bool
     ensures { OnTrue result (spec.plain_step stepped.now.made stepped.now.value ≡ stepped.now) }
 {
     stepped.received == 0 && stepped.event.is_none() && stepped.ended.is_none()
+}
+
+/// Whether the call acts at a step, which has nothing else beside its move and its value.
+pub(crate) fn acts_alone(stepped: &Stepped) -> bool
+    ensures { OnTrue result (spec.acting_step stepped.now.made stepped.now.value ≡ stepped.now) }
+{
+    stepped.received == 0 && matches!(stepped.event, Some(Event::Act)) && stepped.ended.is_none()
+}
+
+/// Whether a step has nothing beside its move but an answer.
+fn has_but_answer(stepped: &Stepped) -> bool
+    ensures value { OnTrue result (stepped.now.value ≡ 0) }
+    ensures received { OnTrue result (stepped.now.received ≡ 0) }
+    ensures event { OnTrue result (stepped.now.event ≡ None) }
+{
+    stepped.value == 0 && stepped.received == 0 && stepped.event.is_none()
+}
+
+/// What the answer of a step begins with that ends its frame with one without numbers, and has nothing else beside its
+/// move.
+pub(crate) fn bare_end(stepped: &Stepped) -> Option<Head>
+    ensures { IfSome result (λ head. spec.ending_step stepped.now.made head ≡ stepped.now) }
+{
+    match &stepped.ended {
+        Some(answer) if answer.words.len() == 0 && has_but_answer(stepped) => Some(answer.head),
+        _ => None,
+    }
 }
 
 /// An item of a journal, in few bytes.
@@ -102,6 +160,8 @@ impl Kept {
             KeptWhat::Begun => What::Begun,
             KeptWhat::Held(cause) => What::Held(cause),
             KeptWhat::Stepped(made, value) => What::Stepped(Rest::none().step(made, value)),
+            KeptWhat::Acted(made, value) => What::Stepped(Rest::act().step(made, value)),
+            KeptWhat::Ended(made, head) => What::Stepped(Rest::end(head).step(made, 0)),
             KeptWhat::SteppedWith(made, number) => {
                 let rest = Rest::at(rests, number);
                 What::Stepped(rest.step(made, rest.value))

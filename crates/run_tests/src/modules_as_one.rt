@@ -1,4 +1,4 @@
-ghost use Rattle.std.specs.Prelude.{◌≡◌, ◌+◌, ◌<◌, ◌≤◌, ℕ, length};
+ghost use Rattle.std.specs.Prelude.{◌+◌, ◌<◌, ◌≤◌};
 
 use chip_model::Bus;
 use irq_control::Held;
@@ -193,27 +193,35 @@ fn digit(frames: u32) -> u8 {
 }
 
 /// Begins the call at a level.
-fn call(stack: &mut Stack<Bells>, bus: &Bus, level: u32) -> u8
-    ensures { stack.new.steps ≡ stack.old.steps }
-{
+fn call(stack: &mut Stack<Bells>, bus: &Bus, level: u32) -> u8 {
     begun(begin(stack, &Bells, bus, (), level))
 }
 
-/// Begins the handler of a line.
-fn serve(stack: &mut Stack<Bells>, bus: &Bus, line: u32) -> u8
-    ensures { stack.new.steps ≡ stack.old.steps }
-{
-    begun(enter(stack, &Bells, bus, line))
-}
-
 /// Makes a step, and tells its move.
-fn go(stack: &mut Stack<Bells>, bus: &mut Bus, rack: &mut Vec<Box<dyn SerialDevice>>) -> u8
-    requires { stack.old.steps < 1000 }
-    ensures { stack.new.steps ≤ stack.old.steps + 1 }
-{
+fn go(stack: &mut Stack<Bells>, bus: &mut Bus, rack: &mut Vec<Box<dyn SerialDevice>>) -> u8 {
+    if stack.steps() > 1000 {
+        return b'?';
+    }
     match step(stack, bus, rack) {
         Ok(stepped) => sign(&stepped.made),
         Err(held) => cause(held),
+    }
+}
+
+/// Does what a letter says, and tells a letter for what comes of it: `g` makes a step, `s` begins the handler of line 3, `d`
+/// counts the frames, `r` resets the chip, and a digit begins the call at that level.
+fn act(
+    stack: &mut Stack<Bells>,
+    bus: &mut Bus,
+    rack: &mut Vec<Box<dyn SerialDevice>>,
+    letter: u8,
+) -> u8 {
+    match letter {
+        b'g' => go(stack, bus, rack),
+        b's' => begun(enter(stack, &Bells, bus, 3)),
+        b'd' => digit(stack.depth()),
+        b'r' => digit(reset(stack, bus, Reason::Software)),
+        level => call(stack, bus, u32::from(level.saturating_sub(b'0'))),
     }
 }
 
@@ -225,29 +233,12 @@ fn beginnings_and_steps(rt: HostRuntime) {
     ) else {
         panic!(rt; "no memory");
     };
-    let bus = &mut bus;
-    let rack = &mut Vec::new(rt.alloc());
-    let stack = &mut stack;
-    let told = [
-        go(stack, bus, rack),
-        serve(stack, bus, 3),
-        call(stack, bus, 2),
-        digit(stack.depth()),
-        call(stack, bus, 2),
-        call(stack, bus, 3),
-        serve(stack, bus, 3),
-        go(stack, bus, rack),
-        call(stack, bus, 3),
-        go(stack, bus, rack),
-        go(stack, bus, rack),
-        call(stack, bus, 2),
-        call(stack, bus, 1),
-        go(stack, bus, rack),
-        digit(stack.depth()),
-        call(stack, bus, 0),
-        digit(reset(stack, bus, Reason::Software)),
-        go(stack, bus, rack),
-    ];
+    let mut rack = Vec::new(rt.alloc());
+    let acts = *b"gs2d23sg3gg21gd0rg";
+    let mut told = [b' '; 18];
+    for place in 0..18 {
+        told[place] = act(&mut stack, &mut bus, &mut rack, acts[place]);
+    }
     assert_eq!(rt; told, *b"EI.1LRLcMonRLn0.1E");
 }
 

@@ -106,6 +106,19 @@ left-items : (line rest : ℕ) → 0 < rest → ticks_left line rest ≡ (record
 left-items line zero some = absurd (omega (arith, some))
 left-items line (suc n) some = refl
 
+-- the items of ticks through the end of the watchdog's time, where none are left and where some are
+through-none : (line left depth before rest : ℕ) → depth ≡ before → rest ≡ 0 → ticks_through line before left rest ≡ (record { line = line; depth = depth; said = Happens (orders.Tick left) }) ∷ (record { line = line; depth = depth; said = Resets Watchdog depth }) ∷ []
+through-none line left depth before rest same none = ap (ticks_through line before left) none ∙ ap (λ x. ticks_through line x left 0) (sym same)
+
+through-some : (line left depth before alone rest more : ℕ) → depth ≡ before → alone ≡ 0 → 0 < rest → rest ≡ more → ticks_through line before left more ≡ (record { line = line; depth = depth; said = Happens (orders.Tick left) }) ∷ (record { line = line; depth = depth; said = Resets Watchdog depth }) ∷ (record { line = line; depth = alone; said = Happens (orders.Tick rest) }) ∷ []
+through-some line left depth before alone rest more same none some is =
+    let e : Entry = record { line = line; depth = depth; said = Happens (orders.Tick left) } in
+    let f : Entry = record { line = line; depth = depth; said = Resets Watchdog depth } in
+    ap (ticks_through line before left) (sym is)
+    ∙ ap (λ x. ticks_through line x left rest) (sym same)
+    ∙ ap (λ (xs : List Entry). e ∷ f ∷ xs) (left-items line rest some)
+    ∙ ap (λ x. let h : Entry = record { line = line; depth = x; said = Happens (orders.Tick rest) } in e ∷ f ∷ h ∷ []) (sym none)
+
 -- ---- the times stay within their registers
 
 slower : (n rate : ℕ) → rate ≤ 16 → n * rate ≤ 16 * n
@@ -334,9 +347,7 @@ module _ {State Call Frame : Type 0} (d : Driver State Call Frame) (first : Chip
         adds = record {
           items = e ∷ f ∷ [];
           is = down.is;
-          right = subst (λ x. Ticks m line n x (e ∷ f ∷ [])) (sym time) (ticks-past m line n ended (expiry_of chip) (e ∷ f ∷ []) ends
-              (ap (λ x. (record { line = line; depth = x; said = Happens (orders.Tick ended) }) ∷ (record { line = line; depth = x; said = Resets Watchdog x }) ∷ []) depth
-              ∙ ap (λ r. (record { line = line; depth = length m.opens; said = Happens (orders.Tick ended) }) ∷ (record { line = line; depth = length m.opens; said = Resets Watchdog (length m.opens) }) ∷ ticks_left line r) (sym rest)));
+          right = subst (λ x. Ticks m line n x (e ∷ f ∷ [])) (sym time) (ticks-past m line n ended (expiry_of chip) (e ∷ f ∷ []) ends (sym (through-none line ended (length k.frames) (length m.opens) (n - ended) depth rest)));
           leads = sym down.leads;
           stands = down.stands;
         };
@@ -385,11 +396,7 @@ module _ {State Call Frame : Type 0} (d : Driver State Call Frame) (first : Chip
         adds = record {
           items = e ∷ f ∷ h ∷ [];
           is = ap (λ x. x.entries) t.written ∙ ap (λ es. es ++ h ∷ []) down.is ∙ append_assoc before.entries (e ∷ f ∷ []) (h ∷ []);
-          right = subst (λ x. Ticks m line n x (e ∷ f ∷ h ∷ [])) (sym time) (ticks-past m line n ended (expiry_of chip) (e ∷ f ∷ h ∷ []) ends
-              (ap (λ x. (record { line = line; depth = x; said = Happens (orders.Tick ended) }) ∷ (record { line = line; depth = x; said = Resets Watchdog x }) ∷ h ∷ []) depth
-              ∙ ap (λ x. (record { line = line; depth = length m.opens; said = Happens (orders.Tick ended) }) ∷ (record { line = line; depth = length m.opens; said = Resets Watchdog (length m.opens) }) ∷ (record { line = line; depth = x; said = Happens (orders.Tick rest) }) ∷ []) alone
-              ∙ ap (λ xs. (record { line = line; depth = length m.opens; said = Happens (orders.Tick ended) }) ∷ (record { line = line; depth = length m.opens; said = Resets Watchdog (length m.opens) }) ∷ xs) (sym (left-items line rest some))
-              ∙ ap (λ r. (record { line = line; depth = length m.opens; said = Happens (orders.Tick ended) }) ∷ (record { line = line; depth = length m.opens; said = Resets Watchdog (length m.opens) }) ∷ ticks_left line r) rest_is));
+          right = subst (λ x. Ticks m line n x (e ∷ f ∷ h ∷ [])) (sym time) (ticks-past m line n ended (expiry_of chip) (e ∷ f ∷ h ∷ []) ends (sym (through-some line ended (length k.frames) (length m.opens) (length k1.frames) rest (n - ended) depth alone some rest_is)));
           leads = ap (λ x. moment.after d.setting x (moment.Happens (orders.Tick rest))) (sym down.leads) ∙ sym t.leads;
           stands = subst (λ x. IsStanding d first call_of script chip2 x.frames after.entries) (sym same) t.stands;
         };

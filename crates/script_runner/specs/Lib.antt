@@ -1,5 +1,5 @@
+pub mod AlongRun
 pub mod Busy
-pub mod Course
 pub mod Runs
 pub mod Scripts
 pub mod Standing

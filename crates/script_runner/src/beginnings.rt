@@ -7,7 +7,7 @@ ghost use Rattle.run_model.specs.Follows.{call_held, line_held, BeginsOnly, Begi
 ghost use Rattle.run_model.specs.Moment.{Begins, Enters};
 ghost use Rattle.run_model.specs.Script.{order_at, beginnings_of};
 ghost use Rattle.run_model.specs.Stops.{BeginsToStop};
-ghost use Rattle.script_runner.specs.Course.{along};
+ghost use Rattle.script_runner.specs.AlongRun.{along};
 ghost use Rattle.script_runner.specs.Standing.{moment_of, Called, IsStanding, HasRoom, HasTime, Began, StayedOff, ObeyedBy, IsStuck, bounds_of};
 
 use crate::caller::Caller;

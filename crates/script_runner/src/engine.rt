@@ -12,7 +12,7 @@ ghost use Rattle.script_runner.specs.Scripts.{IsScript, IsRun, IsStopped, AllOff
 use crate::caller::Caller;
 use crate::obeying::obey_one;
 use crate::parts::{RunSetup, RunState};
-use crate::sizes::{journal_for, steps_of, words_given};
+use crate::sizes::{journal_for, sizes_of};
 use crate::steps::TooLong;
 use chip_model::Bus;
 use mcal_base::{Config, Directive, NoMemory};
@@ -65,10 +65,11 @@ impl<'s, M: Caller> Engine<'s, M> {
         // No frame has more than 66,656 steps, and every second step has a wait at most.
         ensures small { IfOk result (λ run. run.journal.room ≤ 99987 * length script.now) }
     {
-        let most = u64::from(limit).min(steps_of(&driver, script)) as u32;
+        let asked = sizes_of(&driver, script);
+        let most = u64::from(limit).min(asked.steps) as u32;
         let journal = journal_for(alloc, most, script.len())?;
         let stack = Stack::new(alloc)?;
-        let mut bus = Bus::new(alloc, &config, words_given(script))?;
+        let mut bus = Bus::new(alloc, &config, asked.words)?;
         bus.hang(devices);
         Ok(Engine {
             course: RunSetup {
@@ -190,5 +191,19 @@ impl<'s, M: Caller> Engine<'s, M> {
         ensures { result.now ≡ self.now.config }
     {
         &self.course.config
+    }
+
+    /// The script.
+    pub fn script(&self) -> &'s [Directive]
+        ensures { result.now ≡ self.now.script }
+    {
+        self.course.script
+    }
+
+    /// How many devices hang on the wires of the serial units.
+    pub fn devices(&self) -> usize
+        ensures { result ≡ self.now.devices }
+    {
+        self.course.devices
     }
 }

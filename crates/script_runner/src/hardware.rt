@@ -5,7 +5,7 @@ ghost use Rattle.chip_model.specs.Chip.{now_of, CanHappen};
 ghost use Rattle.mcal_base.specs.declared.directive.Order.{Order};
 ghost use Rattle.mcal_base.specs.declared.directive.Reason.TheVariants.{Software};
 ghost use Rattle.run_model.specs.Legal.{hardware_held};
-ghost use Rattle.script_runner.specs.Course.{along};
+ghost use Rattle.script_runner.specs.AlongRun.{along};
 ghost use Rattle.script_runner.specs.Standing.{moment_of, Called, IsStanding, HasRoom, Obeyed, is_built, is_hardware, may_be_held, filled_by, GivenFits};
 
 use crate::caller::Caller;

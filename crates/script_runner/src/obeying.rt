@@ -5,7 +5,7 @@ ghost use Rattle.mcal_base.specs.declared.directive.Order.{Order};
 ghost use Rattle.run_model.specs.Follows.{Goes};
 ghost use Rattle.run_model.specs.Script.{order_at};
 ghost use Rattle.run_model.specs.Stops.{StopsWithin};
-ghost use Rattle.script_runner.specs.Course.{along};
+ghost use Rattle.script_runner.specs.AlongRun.{along};
 ghost use Rattle.script_runner.specs.Scripts.{is_offered};
 ghost use Rattle.script_runner.specs.Standing.{Called, IsStanding, HasRoom, HasTime, ObeyedBy, Obeyed, IsStuck, Stuck, is_built, makes_no_step, GivenFits};
 

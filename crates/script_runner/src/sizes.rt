@@ -30,21 +30,6 @@ fn steps_by<M: Caller>(driver: &M, order: &Order) -> u32
     }
 }
 
-/// The most steps of all frames that a script may begin.
-pub(crate) fn steps_of<M: Caller>(driver: &M, script: &[Directive]) -> u64
-    requires fits { (M.spec driver.now).fits }
-    requires offered { AllOffered (M.has_service driver.now) script.now }
-    requires few { length script.now ≤ 1100000 }
-    ensures bound { result ≡ script_bound (M.spec driver.now).setting (M.call_of driver.now) script.now }
-    ensures few { result ≤ 66656 * length script.now }
-{
-    let mut most = 0;
-    for directive in script {
-        most += u64::from(steps_by(driver, &directive.order));
-    }
-    most
-}
-
 /// How many words an order brings, at most 64: those that it gives to come in, or that fill an array.
 pub(crate) fn words_by(order: &Order) -> usize
     ensures given { result ≡ words_by order.now }
@@ -67,6 +52,34 @@ pub fn words_given(script: &[Directive]) -> usize
         given += words_by(&directive.order);
     }
     given
+}
+
+/// How much a script asks for.
+#[derive(Clone, Copy)]
+pub(crate) struct Sizes {
+    /// The most steps of all frames that it may begin.
+    pub(crate) steps: u64,
+    /// The words that it brings.
+    pub(crate) words: usize,
+}
+
+/// How much a script asks for, in one walk over it.
+pub(crate) fn sizes_of<M: Caller>(driver: &M, script: &[Directive]) -> Sizes
+    requires fits { (M.spec driver.now).fits }
+    requires offered { AllOffered (M.has_service driver.now) script.now }
+    requires few { length script.now ≤ 1100000 }
+    ensures steps { result.steps ≡ script_bound (M.spec driver.now).setting (M.call_of driver.now) script.now }
+    ensures few_steps { result.steps ≤ 66656 * length script.now }
+    ensures words { result.words ≡ spec.words_given script.now }
+    ensures few_words { result.words ≤ 64 * length script.now }
+{
+    let mut steps = 0;
+    let mut words = 0;
+    for directive in script {
+        steps += u64::from(steps_by(driver, &directive.order));
+        words += words_by(&directive.order);
+    }
+    Sizes { steps, words }
 }
 
 /// A journal with room for a run of so many directives, of at most so many steps: every second of them has a wait at most.

@@ -6,7 +6,7 @@ ghost use Rattle.run_model.specs.Follows as follows;
 ghost use Rattle.run_model.specs.Follows.{GoesOn, is_reached};
 ghost use Rattle.run_model.specs.Frame.{resets_chip};
 ghost use Rattle.run_model.specs.Stops.{GoesToStop};
-ghost use Rattle.script_runner.specs.Course.{along};
+ghost use Rattle.script_runner.specs.AlongRun.{along};
 ghost use Rattle.script_runner.specs.Standing.{Called, IsStanding, HasRoom, HasTime, TookStep, RanOut, Waited, WentFar, IsStuck};
 
 use crate::caller::Caller;

@@ -4,7 +4,7 @@ ghost use Rattle.std.specs.Prelude.{◌≡◌, ◌<◌, ◌≤◌, ◌+◌, leng
 ghost use Rattle.std.specs.Bool.{OnFalse, OnTrue};
 ghost use Rattle.chip_model.specs.Chip.{Chip, CanHappen, expiry_of, stall_of};
 ghost use Rattle.mcal_base.specs.declared.directive.Order.TheVariants.{Tick};
-ghost use Rattle.script_runner.specs.Course.{along};
+ghost use Rattle.script_runner.specs.AlongRun.{along};
 ghost use Rattle.script_runner.specs.Standing.{IsStanding, HasRoom, HasTime, Obeyed, Ticked, RanDown, RanOut, Waited, left_within};
 ghost use Rattle.step_runner.specs.Driver.{EndsBefore};
 ghost use Rattle.step_runner.specs.Kept.{IsLooked};

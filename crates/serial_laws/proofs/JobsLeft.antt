@@ -7,7 +7,7 @@ use Rattle.mcal_base.specs.declared.answer_name.AnswerName.{AnswerName}
 use Rattle.run_model.specs.Frame.{state_by}
 use Rattle.run_model.specs.Machine.{Happening, Serves, Outcome}
 use Rattle.run_model.specs.World.{World}
-use Rattle.spi_machine.proofs.Turns.{found}
+use Rattle.spi_machine.proofs.SequenceChanges.{found}
 use Rattle.spi_machine.specs.Machine.{spi_machine, ready, served, run_of, unit_of}
 use Rattle.spi_machine.specs.Pending.{Pending, is_of, goes_to_next, has_further}
 use Rattle.spi_machine.specs.Promised.{drops}

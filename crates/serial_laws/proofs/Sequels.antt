@@ -16,7 +16,7 @@ use Rattle.run_model.specs.World.{World}
 use Rattle.spi_machine.proofs.Numbers.{item-same, item-other}
 use Rattle.spi_machine.proofs.Runs.{stored-seen, after_last-seen, serve_by}
 use Rattle.spi_machine.proofs.Sending.{EndsSending, act-either, start-either, plain-start, carried-right}
-use Rattle.spi_machine.proofs.Turns.{found}
+use Rattle.spi_machine.proofs.SequenceChanges.{found}
 use Rattle.spi_machine.specs.Checks.{error_by}
 use Rattle.spi_machine.specs.Machine.{spi_machine, acts, acts_by, sent, sent_on, carries_job, sequence_begun, as_requested, sequence_result_by, work, unless_busy, cancelled, cancelled_by, finds_held, accepted, ended, after_last, sequence_after, job_over, result_by, pending_of, served_by, served, unit_of, run_of, ready, started, start_by, next_at, number_of, moved}
 use Rattle.spi_machine.specs.Pending.{Pending, is_of, is_pending, changed, without, starts, goes_to_next, cancels, is_held, shares_job, next_job, end_by, has_further, sequence_result}

@@ -12,5 +12,5 @@ pub mod Services
 pub mod Short
 pub mod ShortServices
 pub mod Sweep
-pub mod Sweeping
+pub mod SweepServices
 pub mod laws

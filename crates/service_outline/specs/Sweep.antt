@@ -4,8 +4,8 @@ use Rattle.mcal_base.specs.declared.moves.Move.{Move}
 use Rattle.mcal_base.specs.declared.moves.Move.TheVariants.{Mask, Unmask}
 use Rattle.service_outline.specs.Done.{goes}
 use Rattle.service_outline.specs.declared.done.BodyTaken.{BodyTaken}
-use Rattle.service_outline.specs.declared.sweep.Place.{Place}
-use Rattle.service_outline.specs.declared.sweep.Place.TheVariants.{Opens, At, Closes, Follows}
+use Rattle.service_outline.specs.declared.sweep.SweepStage.{SweepStage}
+use Rattle.service_outline.specs.declared.sweep.SweepStage.TheVariants.{Opens, At, Closes, Follows}
 use Rattle.service_outline.specs.declared.sweep.Sweep.{Sweep}
 
 -- the place of an object, or what follows the last one
@@ -18,10 +18,10 @@ swept i new old k = if nat_lt k i then new k else old k
 
 -- ---- a sweep with the mask open
 
-abbrev pub place_of : {B : Type 0} → (count i : ℕ) → Place B
+abbrev pub place_of : {B : Type 0} → (count i : ℕ) → SweepStage B
 place_of count i = next_of count (λ j. At j) Closes i
 
-abbrev pub work_at : {S B : Type 0} → (S → ℕ → Move) → (B → Move) → S → Place B → Move
+abbrev pub work_at : {S B : Type 0} → (S → ℕ → Move) → (B → Move) → S → SweepStage B → Move
 work_at move work a Opens = Unmask
 work_at move work a (At i) = move a i
 work_at move work a Closes = Mask
@@ -30,7 +30,7 @@ work_at move work a (Follows k) = work k
 abbrev pub sweep_work : {S B : Type 0} → (S → ℕ → Move) → (B → Move) → Sweep S B → Move
 sweep_work move work p = work_at move work p.objects p.place
 
-abbrev pub takes_at : {S B : Type 0} → (S → ℕ) → (S → B) → (B → ℕ → B × BodyTaken) → S → Place B → ℕ → Place B × BodyTaken
+abbrev pub takes_at : {S B : Type 0} → (S → ℕ) → (S → B) → (B → ℕ → B × BodyTaken) → S → SweepStage B → ℕ → SweepStage B × BodyTaken
 takes_at count after takes a Opens x = (place_of (count a) 0, goes)
 takes_at count after takes a (At i) x = (place_of (count a) (i + 1), goes)
 takes_at count after takes a Closes x = (Follows (after a), goes)

@@ -13,6 +13,6 @@ pub mod ShortServices
 pub mod SimpleMoves
 pub mod StepKinds
 pub mod Steps
-pub mod Sweep
-pub mod Sweeping
+pub mod SweepRight
+pub mod SweepWords
 pub mod Words

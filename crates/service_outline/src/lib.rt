@@ -17,5 +17,5 @@ pub use done::{
     number, numbers, zero_null,
 };
 pub use short::Short;
-pub use sweep::{Objects, Place, Sweep};
+pub use sweep::{Objects, Sweep, SweepStage};
 pub use words::copied;

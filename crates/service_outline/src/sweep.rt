@@ -33,9 +33,9 @@ pub trait Objects: Drop {
         ensures { result ≡ after_of self.now };
 }
 
-/// A place of a sweep.
+/// A stage of a sweep.
 #[derive(Drop)]
-pub enum Place<B> {
+pub enum SweepStage<B> {
     /// It opens the mask.
     Opens,
     /// It makes the move of this object.
@@ -52,7 +52,7 @@ pub struct Sweep<S, B> {
     /// The objects.
     pub objects: S,
     /// Where it stands.
-    pub place: Place<B>,
+    pub place: SweepStage<B>,
 }
 
 impl<S: Objects> Body for Sweep<S, S::After> {
@@ -64,51 +64,51 @@ impl<S: Objects> Body for Sweep<S, S::After> {
 
     fn next(&self) -> Move {
         match &self.place {
-            Place::Opens => Move::Unmask,
-            Place::At(object) => self.objects.at(*object),
-            Place::Closes => Move::Mask,
-            Place::Follows(body) => body.next(),
+            SweepStage::Opens => Move::Unmask,
+            SweepStage::At(object) => self.objects.at(*object),
+            SweepStage::Closes => Move::Mask,
+            SweepStage::Follows(body) => body.next(),
         }
     }
 
     fn took(&mut self, value: u32) -> BodyTaken {
         match &mut self.place {
-            Place::Opens => {
+            SweepStage::Opens => {
                 self.place = first(self.objects.count());
                 goes()
             }
-            Place::At(object) => {
+            SweepStage::At(object) => {
                 let object = *object;
                 self.place = next(self.objects.count(), object);
                 goes()
             }
-            Place::Closes => {
-                self.place = Place::Follows(self.objects.after());
+            SweepStage::Closes => {
+                self.place = SweepStage::Follows(self.objects.after());
                 goes()
             }
-            Place::Follows(body) => body.took(value),
+            SweepStage::Follows(body) => body.took(value),
         }
     }
 }
 
 /// The first place among so many objects.
-fn first<B>(count: u16) -> Place<B>
+fn first<B>(count: u16) -> SweepStage<B>
     ensures { result ≡ spec.place_of count 0 }
 {
     if 0 < count {
-        Place::At(0)
+        SweepStage::At(0)
     } else {
-        Place::Closes
+        SweepStage::Closes
     }
 }
 
 /// The place after an object.
-fn next<B>(count: u16, object: u16) -> Place<B>
+fn next<B>(count: u16, object: u16) -> SweepStage<B>
     ensures { result ≡ spec.place_of count (object + 1) }
 {
     if object < count && object + 1 < count {
-        Place::At(object + 1)
+        SweepStage::At(object + 1)
     } else {
-        Place::Closes
+        SweepStage::Closes
     }
 }

@@ -3,3 +3,4 @@ pub mod Places
 pub mod Shows
 pub mod Wires
 pub mod Words
+pub use Rattle.mcal_drivers.specs.Setting

@@ -190,6 +190,7 @@ pub use Rattle.spi_sequences.specs.laws.{services.SyncSteps.{sync_begins}, servi
 pub use Rattle.spi_sequences.specs.laws.{words.AllSequences.{all_carried, all_cases, all_pending, none_under_way}}
 pub use Rattle.spi_sequences.specs.laws.{words.AllSequences.{shares_unit}, words.WordsToState.{pending_alone}}
 pub use Rattle.spi_sequences.specs.laws.{words.WordsToState.{pending_word}}
+pub use Rattle.spi_sequences.specs.laws.words.Cases.{whether, whether_as}
 pub use Rattle.spi_machine.specs.State.{carries_channel}
 pub use Rattle.spi_starting.specs.Starting.{start_left, start_place}
 pub use Rattle.spi_starting.specs.laws.services.StartAround.{none_owed, owed_left_is, start_calm, start_later}

@@ -10,7 +10,7 @@ use Rattle.run_model.specs.World.{World}
 use Rattle.spi_machine.proofs.Numbers.{item-same}
 use Rattle.spi_machine.proofs.Results.{results-other}
 use Rattle.spi_machine.proofs.Runs.{after_last-seen, serve_by}
-use Rattle.spi_machine.proofs.Turns.{found, pending-changed, pending-without}
+use Rattle.spi_machine.proofs.SequenceChanges.{found, pending-changed, pending-without}
 use Rattle.spi_machine.proofs.WordLaws.{comes_again, comes-once}
 use Rattle.spi_machine.specs.Promised.{EndsJob, NamesJobsOnce, job_ends_as}
 use Rattle.spi_machine.specs.Machine.{spi_machine, after_last, result_by, sequence_after, job_over, served_by, served, unit_of, run_of, ready, pending_of}

@@ -8,5 +8,5 @@ pub mod Results
 pub mod Runs
 pub mod Sending
 pub mod Stored
-pub mod Turns
+pub mod SequenceChanges
 pub mod WordLaws

@@ -14,7 +14,7 @@ use Rattle.spi_machine.proofs.Numbers.{item-same, channel-seen}
 use Rattle.spi_machine.proofs.Results.{results-other, not_later}
 use Rattle.spi_machine.proofs.Runs.{serve_by}
 use Rattle.spi_machine.proofs.Sending.{act-either, start-either}
-use Rattle.spi_machine.proofs.Turns.{found, pending-without}
+use Rattle.spi_machine.proofs.SequenceChanges.{found, pending-without}
 use Rattle.spi_machine.specs.Channels.{ChannelState, untouched, written_from, filled}
 use Rattle.spi_machine.specs.Checks.{error_by}
 use Rattle.spi_machine.specs.Promised.{EndsCancelled, FailsJob, NamesJobsOnce, ends_well, is_init, renews, sends_well, carried_well}

@@ -1,7 +1,7 @@
 -- How the serial driver's frames begin, what bounds them, and what a run of the module is over.
 use Rattle.std.specs.Prelude.{◌≡◌, ◌<◌, Contains, ℕ, ◌+◌, ◌*◌, ◌^◌, ◌%◌, ◌==◌, nat_lt, Bool, true, false, ◌&&◌, ◌||◌, not, if◌then◌else◌, List, [], count_by, sum_by, flat_map, Option, Some, None, is_some, slice_index_or}
 use Rattle.std.specs.List.{enumerate_from, list_any}
-use Rattle.chip_model.specs.Chip.{word_of}
+use Rattle.run_model.specs.Chip.{word_of}
 use Rattle.mcal_base.specs.Layout.{is_within, own_start, place_of, start_of}
 use Rattle.mcal_base.specs.declared.layout.Array.TheVariants.{Source, Destination}
 use Rattle.mcal_base.specs.declared.module_name.ModuleName.{ModuleName}

@@ -155,10 +155,11 @@ pub use Rattle.spi_sequences.specs.laws.words.PendingWords.{stands_owed}
 pub use Rattle.spi_sequences.specs.laws.words.SameWords.{banks_words, going_words, job_small}
 pub use Rattle.spi_sequences.specs.laws.words.SendsKept.{sends_as}
 pub use Rattle.spi_sequences.specs.laws.words.WordsOfModule.{has_channel, of_banks, of_held, of_one, of_set_up}
-pub use Rattle.spi_sequences.specs.laws.words.WordsOfModule.{of_sixteen, own_first, past_the_first}
+pub use Rattle.spi_sequences.specs.laws.words.WordsOfModule.{few_places, of_sixteen, own_first, past_the_first}
 pub use Rattle.spi_sequences.specs.laws.words.WordsToState.{at_contained, going_next, is_below, is_number, is_past}
 pub use Rattle.spi_sequences.specs.laws.words.WordsToState.{next_small, not_true, other_number, running_says}
 pub use Rattle.spi_sequences.specs.laws.words.WordsToState.{same_number}
+pub use Rattle.spi_sequences.specs.laws.words.Cases.{cases, some_or_none, whether, whether_as}
 pub use Rattle.spi_serving.specs.Serving.{asked_word, Footing, IsDone, IsFinding, IsFurther, IsLast, IsServed, IsTaken}
 pub use Rattle.spi_serving.specs.Serving.{serve_fuel, serve_room, unit_run, word_after, word_place}
 pub use Rattle.spi_serving.specs.laws.ToServe.{ToServe}
@@ -177,7 +178,8 @@ pub use Rattle.spi_serving.specs.laws.services.FreedUnit.{other_free, others_dif
 pub use Rattle.spi_serving.specs.laws.services.FurtherBegun.{begun_agrees, IsLike, right_like, WordsAfter}
 pub use Rattle.spi_serving.specs.laws.services.FurtherRight.{OwesWords}
 pub use Rattle.spi_serving.specs.laws.services.ServeAround.{serve_later}
-pub use Rattle.spi_serving.specs.laws.services.ServeBounds.{Fewer, fuel_at, keep_few, less_fuel, less_room, room_at}
+pub use Rattle.spi_serving.specs.laws.services.ServeBounds.{Fewer, fuel_at, less_fuel, less_room, room_at}
+pub use Rattle.spi_sequences.specs.laws.bookkeeping.PendingWritesBounds.{keep_few}
 pub use Rattle.spi_serving.specs.laws.services.ServeDecisions.{asks_load, Decided, find_decides, receive_decides}
 pub use Rattle.spi_serving.specs.laws.services.ServeDecisions.{width_decides}
 pub use Rattle.spi_serving.specs.laws.services.ServeMoves.{serve_may}

@@ -202,3 +202,4 @@ pub use Rattle.spi_sequences.specs.laws.services.StartSteps.{prepare_at, prepare
 pub use Rattle.spi_sequences.specs.laws.services.StartSteps.{start_chooses, start_prepares, start_releases}
 pub use Rattle.spi_sequences.specs.laws.services.UnitSteps.{after_request, after_serve, after_start, unit_over}
 pub use Rattle.spi_sequences.specs.laws.services.UnitSteps.{unit_took}
+pub use Rattle.spi_sequences.specs.laws.words.Cases.{cases, some_or_none, whether, whether_as}

@@ -134,7 +134,9 @@ pub use Rattle.spi_sequences.specs.laws.{words.SequenceDigits.{first_other, firs
 pub use Rattle.spi_sequences.specs.laws.{words.SideWords.{not_first, not_held, not_of_other, not_users, set_up_by}}
 pub use Rattle.spi_sequences.specs.laws.{words.SideWords.{sides_apart, stands_by_store, trio_fits}}
 pub use Rattle.spi_sequences.specs.laws.{words.WordsOfModule.{destination_own, has_channel, IsWordOf, of_banks}}
-pub use Rattle.spi_sequences.specs.laws.{words.WordsOfModule.{of_held, of_one, of_set_up, of_sixteen, own_banks}}
+pub use Rattle.spi_sequences.specs.laws.{words.WordsOfModule.{few_places, of_held, of_one, of_set_up, of_sixteen}}
+pub use Rattle.spi_sequences.specs.laws.{words.WordsOfModule.{own_banks}, words.SequenceDigits.{by_eight}}
+pub use Rattle.spi_sequences.specs.laws.{bookkeeping.PendingWritesBounds.{keep_few}}
 pub use Rattle.spi_sequences.specs.laws.{words.WordsOfModule.{own_first, own_held, own_of, past_the_first, source_own}}
 pub use Rattle.spi_sequences.specs.laws.{words.WordsToState.{any_none, any_some, at_contained, going_free, going_next}}
 pub use Rattle.spi_sequences.specs.laws.{words.WordsToState.{going_run, is_below, is_number, is_past, is_there}}
@@ -152,6 +154,7 @@ pub use Rattle.spi_sequences.specs.{PendingWrites.{owed_left, owed_move, owes_mo
 pub use Rattle.spi_sequences.specs.laws.{services.ServeSteps.{serve_keeps, serve_lets}}
 pub use Rattle.spi_sequences.specs.laws.{words.AllSequences.{none_under_way}}
 pub use Rattle.spi_sequences.specs.laws.services.ServeSteps.{serve_keeps_last}
+pub use Rattle.spi_sequences.specs.laws.words.Cases.{cases, some_or_none, whether, whether_as}
 pub use Rattle.spi_jobs.specs.Parts.{commit_ends}
 pub use Rattle.spi_jobs.specs.declared.banks.Commit.{Commit}
 pub use Rattle.run_model.specs.Machine.{outcome, tells_nothing}

@@ -135,3 +135,4 @@ pub use Rattle.word_shapes.specs.TripleBuffer.{take_left}
 pub use Rattle.spi_sequences.specs.PendingWrites.{owes_move}
 pub use Rattle.spi_sequences.specs.{Going.{ExternalAgrees, InternalAgrees}, Refinement.{AllRight}}
 pub use Rattle.spi_sequences.specs.laws.{words.KeptWords.{banks_view}, words.PendingWords.{banks_held}}
+pub use Rattle.spi_sequences.specs.laws.words.Cases.{cases, whether, whether_as}

@@ -7,16 +7,16 @@ use Rattle.mcal_base.specs.declared.directive.Directive.{Directive}
 use Rattle.mcal_base.specs.declared.directive.Order.{Order}
 use Rattle.bench_sweep.proofs.Differing.{get_more}
 use Rattle.bench_sweep.specs.Places.{at, begins_frame, behind_steps, places, places_by, places_from, when_begun}
-use Rattle.bench_sweep.specs.declared.places.Place.{Place}
+use Rattle.bench_sweep.specs.declared.places.BlockPlace.{BlockPlace}
 use Rattle.bench_sweep.specs.declared.places.Spot.TheVariants.{Before, Begun, Step, Behind}
 use Rattle.sweep_laws.specs.Moments.{AreInOrder, Each, IsAmong, IsBefore, lateness}
 
 -- ---- all are there
 
-in_left : (xs ys : List Place) (p : Place) → IsAmong xs p → IsAmong (xs ++ ys) p
+in_left : (xs ys : List BlockPlace) (p : BlockPlace) → IsAmong xs p → IsAmong (xs ++ ys) p
 in_left xs ys p (i, e) = (i, get_more xs ys i p e)
 
-in_right : (xs ys : List Place) (p : Place) → IsAmong ys p → IsAmong (xs ++ ys) p
+in_right : (xs ys : List BlockPlace) (p : BlockPlace) → IsAmong ys p → IsAmong (xs ++ ys) p
 in_right [] ys p h = h
 in_right (x ∷ xs) ys p h = let r : IsAmong (xs ++ ys) p = in_right xs ys p h in (suc r.0, r.1)
 
@@ -39,7 +39,7 @@ begins_by : (directive : ℕ) (order : Order) (n : ℕ) → 0 < n → begins_fra
 begins_by directive order zero l e = absurd (omega (arith, l))
 begins_by directive order (suc n) l e = begun_by directive (suc n) (begins_frame order) e
 
-in_from : (start : ℕ) (block : List Directive) (steps : List ℕ) (i n : ℕ) (d : Directive) (p : Place) → slice_get block i ≡ Some d → slice_get steps i ≡ Some n → IsAmong (places_by (start + i) d.order n) p → IsAmong (places_from start block steps) p
+in_from : (start : ℕ) (block : List Directive) (steps : List ℕ) (i n : ℕ) (d : Directive) (p : BlockPlace) → slice_get block i ≡ Some d → slice_get steps i ≡ Some n → IsAmong (places_by (start + i) d.order n) p → IsAmong (places_from start block steps) p
 in_from start [] steps i n d p e f h = absurd (cc)
 in_from start (x ∷ xs) [] i n d p e f h = absurd (cc)
 in_from start (x ∷ xs) (m ∷ ms) zero n d p e f h =
@@ -51,7 +51,7 @@ in_from start (x ∷ xs) (m ∷ ms) (suc i) n d p e f h =
     let k : start + suc i ≡ start + 1 + i = omega arith in
     in_right (places_by start x.order m) (places_from (start + 1) xs ms) p (in_from (start + 1) xs ms i n d p e f (rw k at h))
 
-pub among : (block : List Directive) (steps : List ℕ) (i n : ℕ) (d : Directive) (p : Place) → slice_get block i ≡ Some d → slice_get steps i ≡ Some n → IsAmong (places_by i d.order n) p → IsAmong (places block steps) p
+pub among : (block : List Directive) (steps : List ℕ) (i n : ℕ) (d : Directive) (p : BlockPlace) → slice_get block i ≡ Some d → slice_get steps i ≡ Some n → IsAmong (places_by i d.order n) p → IsAmong (places block steps) p
 among block steps i n d p e f h =
     let k : i ≡ 0 + i = omega arith in
     let r : IsAmong (places_from 0 block steps) p = in_from 0 block steps i n d p e f (subst (λ (j : ℕ). IsAmong (places_by j d.order n) p) k h) in
@@ -68,25 +68,25 @@ among_stepped block steps i n k d e f l = among block steps i n d (at i (Step (k
 
 -- ---- in their order
 
-each_append : (P : Place → Type 0) (xs ys : List Place) → Each P xs → Each P ys → Each P (xs ++ ys)
+each_append : (P : BlockPlace → Type 0) (xs ys : List BlockPlace) → Each P xs → Each P ys → Each P (xs ++ ys)
 each_append P [] ys h k = k
 each_append P (x ∷ xs) ys h k = (h.0, each_append P xs ys h.1 k)
 
-each_like : (P Q : Place → Type 0) (xs : List Place) → ((p : Place) → P p → Q p) → Each P xs → Each Q xs
+each_like : (P Q : BlockPlace → Type 0) (xs : List BlockPlace) → ((p : BlockPlace) → P p → Q p) → Each P xs → Each Q xs
 each_like P Q [] f h = tt
 each_like P Q (x ∷ xs) f h = (f x h.0, each_like P Q xs f h.1)
 
 -- one list behind another
-order_append : (xs ys : List Place) → AreInOrder xs → AreInOrder ys → Each (λ x. Each (IsBefore x) ys) xs → AreInOrder (xs ++ ys)
+order_append : (xs ys : List BlockPlace) → AreInOrder xs → AreInOrder ys → Each (λ x. Each (IsBefore x) ys) xs → AreInOrder (xs ++ ys)
 order_append [] ys a b h = b
 order_append (x ∷ xs) ys a b h = (each_append (IsBefore x) xs ys a.0 h.0, order_append xs ys a.1 b h.1)
 
 -- a place by this directive, at most so late
-abbrev IsUpTo : ℕ → ℕ → Place → Type 0
+abbrev IsUpTo : ℕ → ℕ → BlockPlace → Type 0
 IsUpTo directive most p = (p.directive ≡ directive) × (lateness p.spot ≤ most)
 
 -- a place by this directive or a later one
-abbrev IsFrom : ℕ → Place → Type 0
+abbrev IsFrom : ℕ → BlockPlace → Type 0
 IsFrom directive p = directive ≤ p.directive
 
 steps_up_to : (directive n : ℕ) → Each (IsUpTo directive (n + 1)) (behind_steps directive n)
@@ -96,7 +96,7 @@ steps_up_to directive (suc n) =
     (each_like (IsUpTo directive (n + 1)) (IsUpTo directive (suc n + 1)) (behind_steps directive n) (λ p h. (h.0, omega (arith, h.1))) (steps_up_to directive n))
     ((refl, omega arith), tt)
 
-up_to_before : (directive most : ℕ) (q p : Place) → q.directive ≡ directive → most < lateness q.spot → IsUpTo directive most p → IsBefore p q
+up_to_before : (directive most : ℕ) (q p : BlockPlace) → q.directive ≡ directive → most < lateness q.spot → IsUpTo directive most p → IsBefore p q
 up_to_before directive most q p e l h = inr (h.0 ∙ sym e, omega (arith, h.1, l))
 
 steps_in_order : (directive n : ℕ) → AreInOrder (behind_steps directive n)
@@ -143,7 +143,7 @@ from_order start (d ∷ ds) (n ∷ ns) = order_append (places_by start d.order n
     (by_same start d.order n))
 
 -- all of them come behind the place before the block
-abbrev IsLate : Place → Type 0
+abbrev IsLate : BlockPlace → Type 0
 IsLate p = 0 < lateness p.spot
 
 late_all : (directive n : ℕ) → Each IsLate (behind_steps directive n)
@@ -163,7 +163,7 @@ from_late start [] steps = tt
 from_late start (d ∷ ds) [] = tt
 from_late start (d ∷ ds) (n ∷ ns) = each_append IsLate (places_by start d.order n) (places_from (start + 1) ds ns) (by_late start d.order n) (from_late (start + 1) ds ns)
 
-late_before : (p : Place) (directive : ℕ) → p.directive ≡ directive → IsLate p → IsBefore (at 0 Before) p
+late_before : (p : BlockPlace) (directive : ℕ) → p.directive ≡ directive → IsLate p → IsBefore (at 0 Before) p
 late_before p zero e l = inr (sym e, l)
 late_before p (suc n) e l = inl (omega (arith, e))
 

@@ -12,7 +12,7 @@ use Rattle.run_model.specs.Stops.{steps_in}
 use Rattle.mcal_drivers.specs.Setting.{SystemCall, SystemState, call_of, system_setting}
 use Rattle.bench_sweep.specs.Placed.{block_up}
 use Rattle.bench_sweep.specs.Places.{at, places}
-use Rattle.bench_sweep.specs.declared.places.Place.{Place}
+use Rattle.bench_sweep.specs.declared.places.BlockPlace.{BlockPlace}
 use Rattle.bench_sweep.specs.declared.places.Spot.TheVariants.{Begun, Behind}
 use Rattle.sweep_laws.specs.Moments.{IsAmong}
 
@@ -42,7 +42,7 @@ pub record EndsByStep (items : List entry.Entry) : Type 0 where
 
 -- items are those of a block up to one of its places
 pub record StopsAtPlace (config : Config) (m : Moment SystemState SystemCall) (block : List Directive) (steps : List ℕ) (items : List entry.Entry) : Type 0 where
-  pub place : Place
+  pub place : BlockPlace
   pub among : IsAmong (places block steps) place
   pub follows : Follows (system_setting config) call_of m (block_up block place) items
 

@@ -34,13 +34,13 @@ as_text bytes = if utf8_valid_len bytes == length bytes then bytes else []
 abbrev pub asked_on : List ℕ → ℕ → List ℕ
 asked_on script line = as_text (asked_at line script)
 
-abbrev pub told_by : Option Outcome → List Told
-told_by None = []
-told_by (Some outcome) = outcome.told.items
+abbrev pub outcome_items : Option Outcome → List Told
+outcome_items None = []
+outcome_items (Some outcome) = outcome.told.items
 
 -- what the outcome of a number tells
 abbrev pub told_at : List Outcome → ℕ → List Told
-told_at outcomes number = told_by (slice_get outcomes number)
+told_at outcomes number = outcome_items (slice_get outcomes number)
 
 -- the outcome of a number tells this
 abbrev pub tells : List Outcome → ℕ → Told → Bool

@@ -18,7 +18,7 @@ use Rattle.bench_report.specs.Lines.{event_text, incoming_text, move_text}
 use Rattle.bench_report.specs.Limit.{most_bytes}
 use Rattle.bench_top.specs.Runs.{IsStoppedRun, IsWholeRun, report_of}
 use Rattle.script_runner.specs.Scripts.{IsScript}
-use Rattle.sweep_trials.specs.declared.seen.Seen.{Seen}
+use Rattle.sweep_trials.specs.declared.seen.RunSeen.{RunSeen}
 use Rattle.sweep_trials.specs.declared.seen.StepSeen.{StepSeen}
 use Rattle.sweep_trials.specs.declared.stop.Stop.{Stop}
 use Rattle.sweep_trials.specs.declared.stop.Stop.TheVariants as stops
@@ -88,7 +88,7 @@ moves_of journal = filter_map (λ e. move_in e.said) journal
 
 -- this is seen of a script's whole run over a configuration, without devices: its report, its steps, what was held, and, where they were
 -- asked for, the moves of the steps
-pub record IsReportedOn (config : Config) (script : List Directive) (seen : Seen) : Type 0 where
+pub record IsReportedOn (config : Config) (script : List Directive) (seen : RunSeen) : Type 0 where
   pub journal : List Entry
   pub run : IsWholeRun 0 config script journal
   pub report : string_bytes seen.report ≡ report_of 0 false config script journal
@@ -97,7 +97,7 @@ pub record IsReportedOn (config : Config) (script : List Directive) (seen : Seen
   pub moves : (seen.moves.items ≡ []) ⊎ (map string_bytes seen.moves.items ≡ moves_of journal)
 
 -- the same over the configuration of a text
-pub record IsReported (configuration : List ℕ) (script : List Directive) (seen : Seen) : Type 0 where
+pub record IsReported (configuration : List ℕ) (script : List Directive) (seen : RunSeen) : Type 0 where
   pub config : Config
   pub read : record_of configuration ≡ Some config
   pub on : IsReportedOn config script seen

@@ -18,7 +18,7 @@ use mcal_base::{Config, Directive};
 use mcal_config::read_config;
 use serial_devices::SerialDevice;
 use std::alloc::Global;
-use sweep_trials::{Runs, Seen, Stop};
+use sweep_trials::{RunSeen, Runs, Stop};
 
 /// Runs scripts over the modules of a configuration, without devices.
 #[derive(Clone, Copy)]
@@ -54,7 +54,7 @@ fn told(alloc: Global, script: &[Directive], ran: &Ran) -> Result<String, Stop>
 
 /// Runs a script from power on over a configuration.
 #[tactic(auto, using(bench_top::proofs::Scripts::may_ask))]
-fn run_on(alloc: Global, config: Config, script: &[Directive], named: bool) -> Result<Seen, Stop>
+fn run_on(alloc: Global, config: Config, script: &[Directive], named: bool) -> Result<RunSeen, Stop>
     requires valid { IsValid config }
     requires script { IsScript script.now }
     ensures seen { IfOk result (λ seen. IsReportedOn config script.now seen) }
@@ -76,7 +76,7 @@ fn run_on(alloc: Global, config: Config, script: &[Directive], named: bool) -> R
     let moves = moves_named(alloc, &lists, named)?;
     let steps = steps_among(alloc, &lists)?;
     let waiting = waiting_among(alloc, &lists)?;
-    Ok(Seen {
+    Ok(RunSeen {
         steps,
         moves,
         waiting,
@@ -89,7 +89,7 @@ impl Runs for Board<'_> {
 
     ghost at_limit = { λ board script stop. IsAtLimit board.configuration.now script stop };
 
-    fn run(&self, alloc: Global, script: &[Directive], named: bool) -> Result<Seen, Stop> {
+    fn run(&self, alloc: Global, script: &[Directive], named: bool) -> Result<RunSeen, Stop> {
         let text = self.configuration;
         if !may_run(script) {
             return Err(Stop::TooManyDirectives);

@@ -12,7 +12,7 @@ use Rattle.sweep_trials.specs.Grown.{AreGrown, with_call_behind}
 use Rattle.sweep_trials.specs.Grown.AreGrown.{Same, More}
 use Rattle.sweep_trials.specs.declared.reactions.Following.{Following}
 use Rattle.sweep_trials.specs.declared.reactions.Reaction.{Reaction}
-use Rattle.sweep_trials.specs.declared.seen.Seen.{Seen}
+use Rattle.sweep_trials.specs.declared.seen.RunSeen.{RunSeen}
 
 pub lines_count : (ds : List Directive) → length (lines_of ds) ≡ length ds
 lines_count ds = length-map ds (λ (d : Directive). d.line)
@@ -24,7 +24,7 @@ put_behind calls before steps directive made n reaction up on (Ok all) is u o p 
 put_behind calls before steps directive made n reaction up on (Err x) is u o p = tt
 
 -- one call more was put
-pub grows_more : (of_run : List Directive → Seen → Type 0) (f : Following) (first now next : List Directive) (seen : Seen) (put directive made n : ℕ) (steps : List ℕ) → of_run (numbered_from 1 now) seen → (u : IsUnfollowed f now seen.steps.items directive made n steps) → ((x : Reaction) → slice_get f.calls.now n ≡ Some x → next ≡ with_call_behind now steps directive made x.directive) → AreGrown of_run f first put now → AreGrown of_run f first (put + 1) next
+pub grows_more : (of_run : List Directive → RunSeen → Type 0) (f : Following) (first now next : List Directive) (seen : RunSeen) (put directive made n : ℕ) (steps : List ℕ) → of_run (numbered_from 1 now) seen → (u : IsUnfollowed f now seen.steps.items directive made n steps) → ((x : Reaction) → slice_get f.calls.now n ≡ Some x → next ≡ with_call_behind now steps directive made x.directive) → AreGrown of_run f first put now → AreGrown of_run f first (put + 1) next
 grows_more of_run f first now next seen put directive made n steps run u is grown = More put now next grown (record {
   seen = seen;
   run = run;
@@ -40,7 +40,7 @@ no_call : (calls : List Reaction) (n : ℕ) (x : Reaction) → calls ≡ [] → 
 no_call calls n x e g = none-some x (sym (ap (λ (rs : List Reaction). slice_get rs n) e) ∙ g)
 
 -- no call is put where none follows a notice
-pub nothing_put : {of_run : List Directive → Seen → Type 0} {first next : List Directive} {n : ℕ} (f : Following) → f.calls.now ≡ [] → AreGrown of_run f first n next → next ≡ first
+pub nothing_put : {of_run : List Directive → RunSeen → Type 0} {first next : List Directive} {n : ℕ} (f : Following) → f.calls.now ≡ [] → AreGrown of_run f first n next → next ≡ first
 nothing_put f none Same = refl
 nothing_put f none (More m now next grown is) = absurd (no_call f.calls.now is.number is.unfollowed.reaction none is.unfollowed.is)
 
@@ -53,12 +53,12 @@ length_put before steps directive made call l =
     let rest : List Directive = call ∷ (on ++ drop (directive + 1) before) in
     omega (arith, l, length-append (take directive before ++ up) rest, length-append (take directive before) up, length-append on (drop (directive + 1) before), length-take-le directive before (omega (arith, l)), length-drop (directive + 1) before)
 
-grown_length : {of_run : List Directive → Seen → Type 0} {f : Following} {first next : List Directive} {n : ℕ} → AreGrown of_run f first n next → length first ≤ length next
+grown_length : {of_run : List Directive → RunSeen → Type 0} {f : Following} {first next : List Directive} {n : ℕ} → AreGrown of_run f first n next → length first ≤ length next
 grown_length Same = omega arith
 grown_length (More m now next grown is) =
     let longer : length now ≤ length (with_call_behind now is.steps is.directive is.made is.unfollowed.reaction.directive) = length_put now is.steps is.directive is.made is.unfollowed.reaction.directive is.unfollowed.there in
     omega (arith, grown_length grown, longer, ap (λ (ds : List Directive). length ds) is.is)
 
 -- a block that is behind so many directives stays there
-pub block_stays : {of_run : List Directive → Seen → Type 0} {f : Following} (before block start next : List Directive) {n : ℕ} → start ≡ before ++ block → 0 < length block → AreGrown of_run f start n next → length before < length next
+pub block_stays : {of_run : List Directive → RunSeen → Type 0} {f : Following} (before block start next : List Directive) {n : ℕ} → start ≡ before ++ block → 0 < length block → AreGrown of_run f start n next → length before < length next
 block_stays before block start next e some grown = omega (arith, grown_length grown, ap (λ (ds : List Directive). length ds) e, length-append before block, some)

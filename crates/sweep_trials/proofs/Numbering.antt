@@ -8,14 +8,14 @@ use Rattle.sweep_trials.specs.Shown.{IsInnerAt, IsPairAt, IsPairSeen, IsPlaceSee
 use Rattle.sweep_trials.specs.declared.followed.Followed.{Followed}
 use Rattle.sweep_trials.specs.declared.opened.Opened.{Opened}
 use Rattle.sweep_trials.specs.declared.reactions.Following.{Following}
-use Rattle.sweep_trials.specs.declared.seen.Seen.{Seen}
+use Rattle.sweep_trials.specs.declared.seen.RunSeen.{RunSeen}
 
 -- a pair of the first place
-pub pair_first : (of_run : List Directive → Seen → Type 0) (following : Following) (placed : List Directive) (o : Opened) (number : ℕ) → IsPairAt of_run following placed o number 0 number
+pub pair_first : (of_run : List Directive → RunSeen → Type 0) (following : Following) (placed : List Directive) (o : Opened) (number : ℕ) → IsPairAt of_run following placed o number 0 number
 pair_first of_run following placed o number = record { before = []; each = λ i inner g. absurd (cc); count = refl; numbered = omega arith }
 
 -- a pair that is behind those of a first place
-pub pair_on : (of_run : List Directive → Seen → Type 0) (following : Following) (placed : List Directive) (o : Opened) (number first left count : ℕ) (inner : Opened) → IsPairAt of_run following placed o number first left → IsInnerAt of_run following o placed first inner → count ≡ vec_len inner.all → count ≤ left → IsPairAt of_run following placed o number (first + 1) (left - count)
+pub pair_on : (of_run : List Directive → RunSeen → Type 0) (following : Following) (placed : List Directive) (o : Opened) (number first left count : ℕ) (inner : Opened) → IsPairAt of_run following placed o number first left → IsInnerAt of_run following o placed first inner → count ≡ vec_len inner.all → count ≤ left → IsPairAt of_run following placed o number (first + 1) (left - count)
 pair_on of_run following placed o number first left count inner p at c l =
     let all : List Opened = p.before ++ inner ∷ [] in
     record {
@@ -29,11 +29,11 @@ pair_on of_run following placed o number first left count inner p at c l =
     }
 
 -- the run of a place that is there
-pub place_seen : {E : Type 0} (of_run : List Directive → Seen → Type 0) (following : Following) (placed behind : List Directive) (o : Opened) (number : ℕ) (r : Result Followed E) → number < vec_len o.all → IfOk r (λ found. IsSeenAt of_run following placed behind o number found) → IfOk r (IsPlaceSeen of_run following placed behind o number)
+pub place_seen : {E : Type 0} (of_run : List Directive → RunSeen → Type 0) (following : Following) (placed behind : List Directive) (o : Opened) (number : ℕ) (r : Result Followed E) → number < vec_len o.all → IfOk r (λ found. IsSeenAt of_run following placed behind o number found) → IfOk r (IsPlaceSeen of_run following placed behind o number)
 place_seen of_run following placed behind o number (Ok found) there seen = record { there = there; seen = seen }
 place_seen of_run following placed behind o number (Err e) there seen = tt
 
 -- the run of a pair
-pub pair_seen : {E : Type 0} (of_run : List Directive → Seen → Type 0) (following : Following) (placed second behind : List Directive) (o inner : Opened) (number first left : ℕ) (r : Result Followed E) → first < vec_len o.all → IsPairAt of_run following placed o number first left → IsInnerAt of_run following o placed first inner → left < vec_len inner.all → IfOk r (λ found. IsSeenAt of_run following second behind inner left found) → IfOk r (IsPairSeen of_run following placed second behind o number)
+pub pair_seen : {E : Type 0} (of_run : List Directive → RunSeen → Type 0) (following : Following) (placed second behind : List Directive) (o inner : Opened) (number first left : ℕ) (r : Result Followed E) → first < vec_len o.all → IsPairAt of_run following placed o number first left → IsInnerAt of_run following o placed first inner → left < vec_len inner.all → IfOk r (λ found. IsSeenAt of_run following second behind inner left found) → IfOk r (IsPairSeen of_run following placed second behind o number)
 pair_seen of_run following placed second behind o inner number first left (Ok found) there at opened within seen = record { first = first; left = left; there = there; at = at; inner = inner; opened = opened; run = record { there = within; seen = seen } }
 pair_seen of_run following placed second behind o inner number first left (Err e) there at opened within seen = tt

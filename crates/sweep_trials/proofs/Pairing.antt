@@ -10,7 +10,7 @@ use Rattle.bench_sweep.specs.Places.{places}
 use Rattle.bench_sweep.specs.declared.groups.Settled.{Settled}
 use Rattle.bench_sweep.specs.declared.groups.Tried.{Tried}
 use Rattle.bench_sweep.specs.declared.outcomes.Outcome.{Outcome}
-use Rattle.bench_sweep.specs.declared.places.Place.{Place}
+use Rattle.bench_sweep.specs.declared.places.BlockPlace.{BlockPlace}
 use Rattle.sweep_trials.proofs.Stopping.{few_places, inner_more}
 use Rattle.sweep_trials.proofs.Trying.{at_on, tried_on}
 use Rattle.sweep_trials.specs.Pairs.{ArePairs, AreSweptPairs, Behind, IsBehind, IsPairTried, count_pairs, told_from, told_pair, told_pairs}
@@ -20,7 +20,7 @@ use Rattle.sweep_trials.specs.Stops.StopsTwice.{InAll}
 use Rattle.sweep_trials.specs.Trials.{AreKept, AreTried, IsInner}
 use Rattle.sweep_trials.specs.declared.opened.Opened.{Opened}
 use Rattle.sweep_trials.specs.declared.reactions.Following.{Following}
-use Rattle.sweep_trials.specs.declared.seen.Seen.{Seen}
+use Rattle.sweep_trials.specs.declared.seen.RunSeen.{RunSeen}
 use Rattle.sweep_trials.specs.declared.stop.Stop.{Stop}
 use Rattle.sweep_trials.specs.declared.stop.Stop.TheVariants.{TooManyInAll}
 use Rattle.sweep_trials.specs.declared.sweeping.Moment.{Moment}
@@ -65,13 +65,13 @@ length-push : {X : Type 0} (xs : List X) (y : X) → length (xs ++ y ∷ []) ≡
 length-push xs y = omega (arith, length-append xs (y ∷ []))
 
 -- all pairs so far, of which the next one has the number, behind the next first place
-pub record PairsSoFar (of_run : List Directive → Seen → Type 0) (following : Following) (placed second behind : List Directive) (o : Opened) (outcomes : List Outcome) (from : ℕ) (stops : Bool) (moments : List Moment) (settled : List Settled) (skipped number first : ℕ) : Type 0 where
+pub record PairsSoFar (of_run : List Directive → RunSeen → Type 0) (following : Following) (placed second behind : List Directive) (o : Opened) (outcomes : List Outcome) (from : ℕ) (stops : Bool) (moments : List Moment) (settled : List Settled) (skipped number first : ℕ) : Type 0 where
   pub all : List Behind
   pub pairs : ArePairs of_run following placed second behind o outcomes from stops moments settled skipped all
   pub count : length all ≡ first
   pub numbered : count_pairs all ≡ number
 
-pub none_so_far : (of_run : List Directive → Seen → Type 0) (following : Following) (placed second behind : List Directive) (o : Opened) (outcomes : List Outcome) (from : ℕ) (stops : Bool) (moments : List Moment) (settled : List Settled) (skipped : ℕ) → moments ≡ [] → settled ≡ [] → skipped ≡ 0 → PairsSoFar of_run following placed second behind o outcomes from stops moments settled skipped 0 0
+pub none_so_far : (of_run : List Directive → RunSeen → Type 0) (following : Following) (placed second behind : List Directive) (o : Opened) (outcomes : List Outcome) (from : ℕ) (stops : Bool) (moments : List Moment) (settled : List Settled) (skipped : ℕ) → moments ≡ [] → settled ≡ [] → skipped ≡ 0 → PairsSoFar of_run following placed second behind o outcomes from stops moments settled skipped 0 0
 none_so_far of_run following placed second behind o outcomes from stops moments settled skipped m s k = record {
   all = [];
   pairs = record {
@@ -86,8 +86,8 @@ none_so_far of_run following placed second behind o outcomes from stops moments 
   numbered = refl;
 }
 
-pub one_more : (of_run : List Directive → Seen → Type 0) (following : Following) (placed second behind : List Directive) (o : Opened) (a b : List Outcome) (from : ℕ) (stops : Bool) (moments ms : List Moment) (settled ss : List Settled) (skipped k number first count : ℕ) (inner : Opened) (tried : List Tried) → PairsSoFar of_run following placed second behind o a from stops moments settled skipped number first → AreKept a b
-    → ((p : Place) → slice_get (places o.block.items o.steps.items) first ≡ Some p → IsInner of_run following o placed p inner) → AreTried of_run following second behind inner b 0 tried → (first < from → tried ≡ []) → (from ≤ first → stops ≡ false → length tried ≡ vec_len inner.all) → count ≡ vec_len inner.all
+pub one_more : (of_run : List Directive → RunSeen → Type 0) (following : Following) (placed second behind : List Directive) (o : Opened) (a b : List Outcome) (from : ℕ) (stops : Bool) (moments ms : List Moment) (settled ss : List Settled) (skipped k number first count : ℕ) (inner : Opened) (tried : List Tried) → PairsSoFar of_run following placed second behind o a from stops moments settled skipped number first → AreKept a b
+    → ((p : BlockPlace) → slice_get (places o.block.items o.steps.items) first ≡ Some p → IsInner of_run following o placed p inner) → AreTried of_run following second behind inner b 0 tried → (first < from → tried ≡ []) → (from ≤ first → stops ≡ false → length tried ≡ vec_len inner.all) → count ≡ vec_len inner.all
     → ms ≡ moments ++ map (λ t. t.0) (told_from number first 0 tried) → ss ≡ settled ++ map (λ t. t.1) (told_from number first 0 tried) → k ≡ skipped + count_by (λ t. t.waits) tried
     → PairsSoFar of_run following placed second behind o b from stops ms ss k (number + count) (first + 1)
 one_more of_run following placed second behind o a b from stops moments ms settled ss skipped k number first count inner tried so_far kept opened ts ahead whole c em es ek =
@@ -121,7 +121,7 @@ one_more of_run following placed second behind o a b from stops moments ms settl
     }
 
 -- how many first places there are so far is how many there are up to the end
-pub all_so_far : (of_run : List Directive → Seen → Type 0) (following : Following) (placed second behind : List Directive) (o : Opened) (outcomes : List Outcome) (from until : ℕ) (stops : Bool) (moments : List Moment) (settled : List Settled) (skipped number first : ℕ) → PairsSoFar of_run following placed second behind o outcomes from stops moments settled skipped number first → (stops ≡ false → first ≡ until) → AreSweptPairs of_run following placed second behind o outcomes from until stops moments settled skipped
+pub all_so_far : (of_run : List Directive → RunSeen → Type 0) (following : Following) (placed second behind : List Directive) (o : Opened) (outcomes : List Outcome) (from until : ℕ) (stops : Bool) (moments : List Moment) (settled : List Settled) (skipped number first : ℕ) → PairsSoFar of_run following placed second behind o outcomes from stops moments settled skipped number first → (stops ≡ false → first ≡ until) → AreSweptPairs of_run following placed second behind o outcomes from until stops moments settled skipped
 all_so_far of_run following placed second behind o outcomes from until stops moments settled skipped number first so_far e = record { all = so_far.all; pairs = so_far.pairs; to_end = λ s. so_far.count ∙ e s }
 
 pub none_by : {X : Type 0} (o : Option X) → is_some o ≡ false → o ≡ None
@@ -129,7 +129,7 @@ none_by None e = refl
 none_by (Some x) e = absurd (cc)
 
 -- a sweep that isn't to stop has no outcomes at which it stops
-pub swept_as : (of_run : List Directive → Seen → Type 0) (following : Following) (placed second behind : List Directive) (o : Opened) (outcomes : List Outcome) (from until : ℕ) (stops : Option Ends) (first : Bool) (moments : List Moment) (settled : List Settled) (skipped : ℕ) → (first ≡ false → stops ≡ None) → AreSweptPairs of_run following placed second behind o outcomes from until (is_some stops) moments settled skipped → AreSweptPairs of_run following placed second behind o outcomes from until first moments settled skipped
+pub swept_as : (of_run : List Directive → RunSeen → Type 0) (following : Following) (placed second behind : List Directive) (o : Opened) (outcomes : List Outcome) (from until : ℕ) (stops : Option Ends) (first : Bool) (moments : List Moment) (settled : List Settled) (skipped : ℕ) → (first ≡ false → stops ≡ None) → AreSweptPairs of_run following placed second behind o outcomes from until (is_some stops) moments settled skipped → AreSweptPairs of_run following placed second behind o outcomes from until first moments settled skipped
 swept_as of_run following placed second behind o outcomes from until stops first moments settled skipped h s =
     let p = s.pairs in
     record {
@@ -145,7 +145,7 @@ swept_as of_run following placed second behind o outcomes from until stops first
       to_end = λ e. s.to_end (ap is_some (h e));
     }
 
-pub pair_on : (of_run : List Directive → Seen → Type 0) (following : Following) (placed second behind : List Directive) (o : Opened) (a b : List Outcome) (first : ℕ) (place : Opened → ℕ) (outcome : ℕ) → AreKept a b → IsPairTried of_run following placed second behind o a first place outcome → IsPairTried of_run following placed second behind o b first place outcome
+pub pair_on : (of_run : List Directive → RunSeen → Type 0) (following : Following) (placed second behind : List Directive) (o : Opened) (a b : List Outcome) (first : ℕ) (place : Opened → ℕ) (outcome : ℕ) → AreKept a b → IsPairTried of_run following placed second behind o a first place outcome → IsPairTried of_run following placed second behind o b first place outcome
 pair_on of_run following placed second behind o a b first place outcome k t = record { inner = t.inner; opened = t.opened; tried = at_on of_run following second behind t.inner a b (place t.inner) outcome k t.tried }
 
 -- ---- more pairs than steps may be taken
@@ -159,7 +159,7 @@ more_steps : (bs : List Behind) → count_pairs bs ≤ sum_by steps_of (map (λ 
 more_steps [] = omega arith
 more_steps (b ∷ bs) = omega (arith, more_steps bs, few_places b.inner, sum_by-cons (λ (x : Behind). vec_len x.inner.all) b bs, sum_by-cons steps_of b.inner (map (λ (x : Behind). x.inner) bs))
 
-pub too_many_pairs : (of_run : List Directive → Seen → Type 0) (at_limit : List Directive → Stop → Type 0) (following : Following) (placed second behind : List Directive) (o : Opened) (outcomes : List Outcome) (from : ℕ) (stops : Bool) (moments : List Moment) (settled : List Settled) (skipped number first count : ℕ) (inner : Opened) → PairsSoFar of_run following placed second behind o outcomes from stops moments settled skipped number first → IsInnerAt of_run following o placed first inner → count ≡ vec_len inner.all → number ≤ 100000000 → 100000000 < number + count → StopsTwice of_run at_limit following placed second behind o TooManyInAll
+pub too_many_pairs : (of_run : List Directive → RunSeen → Type 0) (at_limit : List Directive → Stop → Type 0) (following : Following) (placed second behind : List Directive) (o : Opened) (outcomes : List Outcome) (from : ℕ) (stops : Bool) (moments : List Moment) (settled : List Settled) (skipped number first count : ℕ) (inner : Opened) → PairsSoFar of_run following placed second behind o outcomes from stops moments settled skipped number first → IsInnerAt of_run following o placed first inner → count ≡ vec_len inner.all → number ≤ 100000000 → 100000000 < number + count → StopsTwice of_run at_limit following placed second behind o TooManyInAll
 too_many_pairs of_run at_limit following placed second behind o outcomes from stops moments settled skipped number first count inner so_far opened c few many =
     let before : List Opened = map (λ (b : Behind). b.inner) so_far.all in
     let all : length before ≡ first = length-map so_far.all (λ (b : Behind). b.inner) ∙ so_far.count in

@@ -11,7 +11,7 @@ use Rattle.bench_sweep.specs.declared.groups.Range.{Range}
 use Rattle.sweep_trials.specs.Rows.{AreFirstRows, IsRowAt, IsRowOf}
 use Rattle.sweep_trials.specs.declared.opened.Opened.{Opened}
 use Rattle.sweep_trials.specs.declared.reactions.Following.{Following}
-use Rattle.sweep_trials.specs.declared.seen.Seen.{Seen}
+use Rattle.sweep_trials.specs.declared.seen.RunSeen.{RunSeen}
 use Rattle.sweep_trials.specs.declared.summary.Row.{Row}
 use Rattle.sweep_trials.specs.declared.swept.Swept.{Swept}
 
@@ -34,7 +34,7 @@ shown_more of_range ranges rows next range row place c at is e all = subst (λ (
 all_at : {X : Type 0} (P : X → Type 0) (xs : List X) (i : ℕ) (x : X) → slice_get xs i ≡ Some x → All P xs → P x
 all_at P xs i x g all = subst P (get_or_from_slice_get xs i x x g) (All-get_or P xs i x (slice_get_within xs i x g) all)
 
-pub row_more : (of_run : List Directive → Seen → Type 0) (following : Following) (placed : List Directive) (o : Opened) (s : Swept) (outcome : ℕ) (ranges : List Range) (rows next : List Row) (range : Range) (row : Row) (place : ℕ) → slice_get ranges place ≡ Some range → All (IsRangeOf s.settled.items outcome) ranges → IsRowAt of_run following placed o s range row → next ≡ rows ++ row ∷ [] → All (IsRowOf of_run following placed o s outcome) rows → All (IsRowOf of_run following placed o s outcome) next
+pub row_more : (of_run : List Directive → RunSeen → Type 0) (following : Following) (placed : List Directive) (o : Opened) (s : Swept) (outcome : ℕ) (ranges : List Range) (rows next : List Row) (range : Range) (row : Row) (place : ℕ) → slice_get ranges place ≡ Some range → All (IsRangeOf s.settled.items outcome) ranges → IsRowAt of_run following placed o s range row → next ≡ rows ++ row ∷ [] → All (IsRowOf of_run following placed o s outcome) rows → All (IsRowOf of_run following placed o s outcome) next
 row_more of_run following placed o s outcome ranges rows next range row place at each is e all =
     pushed (IsRowOf of_run following placed o s outcome) rows next row e all (record { range = range; places = all_at (IsRangeOf s.settled.items outcome) ranges place range at each; at = is })
 

@@ -6,9 +6,9 @@ ghost use Rattle.sweep_trials.specs.Stops.{StopsRun, Unless};
 ghost use Rattle.sweep_trials.specs.declared.reactions.Reaction as records;
 
 use crate::reactions::{Bench, Following, Reaction, call_wanted, reaction_at};
-use crate::seen::{Runs, Seen, StepSeen};
+use crate::seen::{RunSeen, Runs, StepSeen};
 use crate::stop::Stop;
-use bench_sweep::{Cut, Flat, Place, Spot, copy_behind, cut_block, flatten};
+use bench_sweep::{BlockPlace, Cut, Flat, Spot, copy_behind, cut_block, flatten};
 use mcal_base::Directive;
 use std::alloc::{AllocError, Global};
 use std::slice;
@@ -159,7 +159,7 @@ fn put_call(
     ensures { IfOk result (λ all. (r : records.Reaction) → slice_get calls.now found.now.reaction ≡ Some r → all.items ≡ with_call_behind directives.now found.now.steps.items found.now.directive found.now.made r.directive) }
 {
     let reaction = reaction_at(calls, found.reaction);
-    let place = Place {
+    let place = BlockPlace {
         directive: found.directive,
         spot: Spot::Step(found.made),
     };
@@ -175,7 +175,7 @@ pub struct Followed {
     /// Their flat script.
     pub flat: Flat,
     /// What was seen of its run.
-    pub seen: Seen,
+    pub seen: RunSeen,
 }
 
 /// Runs directives, and puts behind each notice the call that follows it: one after another, each by a run.

@@ -20,7 +20,7 @@ pub use laws::without_reactions_is_plain;
 pub use opened::Opened;
 pub use progress::Progress;
 pub use reactions::{Bench, Following, Reaction, reaction_to};
-pub use seen::{Runs, Seen, StepSeen};
+pub use seen::{RunSeen, Runs, StepSeen};
 pub use stop::Stop;
 pub use summary::{Group, Row, Standing, groups_of};
 pub use sweeping::{Moment, Sweep};

@@ -3,7 +3,7 @@ ghost use Rattle.std.specs.List.{All};
 ghost use Rattle.bench_sweep.specs.Places.{IsBy, places};
 
 use crate::seen::StepSeen;
-use bench_sweep::Place;
+use bench_sweep::BlockPlace;
 use mcal_base::Directive;
 
 /// A block of a script that was run once, with nothing placed in it.
@@ -16,7 +16,7 @@ pub struct Opened {
     /// How many steps each directive of the block makes.
     pub steps: Vec<u32>,
     /// The places in the block.
-    pub all: Vec<Place>,
+    pub all: Vec<BlockPlace>,
     /// The steps of the run.
     pub(crate) seen: Vec<StepSeen>,
     /// The moves of these steps.

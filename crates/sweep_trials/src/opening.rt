@@ -1,7 +1,7 @@
 ghost use Rattle.std.specs.Prelude.{◌≡◌, ◌<◌, ◌-◌, ◌^◌, ◌++◌, Some, drop, map, min, take, length, string_bytes, vec_len, IfErr, IfOk, slice_get};
 ghost use Rattle.bench_sweep.specs.Placed.{block_on, block_up, put_in};
 ghost use Rattle.bench_sweep.specs.Places.{places};
-ghost use Rattle.bench_sweep.specs.declared.places.Place.{Place};
+ghost use Rattle.bench_sweep.specs.declared.places.BlockPlace.{BlockPlace};
 ghost use Rattle.sweep_trials.specs.Counts.{counts};
 ghost use Rattle.sweep_trials.specs.Grown.{IsSeen};
 ghost use Rattle.sweep_trials.specs.Names.{IsPlaceName, last_move, move_of};
@@ -13,7 +13,7 @@ use crate::opened::Opened;
 use crate::reactions::Bench;
 use crate::seen::{Runs, StepSeen};
 use crate::stop::Stop;
-use bench_sweep::{Cut, Place, Spot, copy_behind, cut_block, places_in, spot_text};
+use bench_sweep::{BlockPlace, Cut, Spot, copy_behind, cut_block, places_in, spot_text};
 use mcal_base::Directive;
 use std::alloc::{AllocError, Global};
 
@@ -128,7 +128,7 @@ impl Opened {
     }
 
     /// The place of a number, from 0.
-    fn place(&self, number: usize) -> Place
+    fn place(&self, number: usize) -> BlockPlace
         requires { number < vec_len self.now.all }
         ensures is { slice_get (places self.now.block.items self.now.steps.items) number ≡ Some result }
         ensures by { result.directive < vec_len self.now.block }
@@ -146,8 +146,8 @@ impl Opened {
     /// The block, cut at a place.
     fn cut(&self, alloc: Global, place: usize) -> Result<Cut, AllocError>
         requires { place < vec_len self.now.all }
-        ensures up { IfOk result (λ cut. (p : Place) → slice_get (places self.now.block.items self.now.steps.items) place ≡ Some p → cut.up.items ≡ block_up self.now.block.items p) }
-        ensures on { IfOk result (λ cut. (p : Place) → slice_get (places self.now.block.items self.now.steps.items) place ≡ Some p → cut.on.items ≡ block_on self.now.block.items self.now.steps.items p) }
+        ensures up { IfOk result (λ cut. (p : BlockPlace) → slice_get (places self.now.block.items self.now.steps.items) place ≡ Some p → cut.up.items ≡ block_up self.now.block.items p) }
+        ensures on { IfOk result (λ cut. (p : BlockPlace) → slice_get (places self.now.block.items self.now.steps.items) place ≡ Some p → cut.on.items ≡ block_on self.now.block.items self.now.steps.items p) }
     {
         let place = self.place(place);
         cut_block(alloc, &self.block, &self.steps, place)
@@ -162,7 +162,7 @@ impl Opened {
         behind: &[Directive],
     ) -> Result<Vec<Directive>, AllocError>
         requires { place < vec_len self.now.all }
-        ensures { IfOk result (λ all. (p : Place) → slice_get (places self.now.block.items self.now.steps.items) place ≡ Some p →
+        ensures { IfOk result (λ all. (p : BlockPlace) → slice_get (places self.now.block.items self.now.steps.items) place ≡ Some p →
             all.items ≡ put_in self.now.before.items placed.now self.now.block.items behind.now self.now.steps.items p) }
     {
         let cut = self.cut(alloc, place)?;
@@ -185,7 +185,7 @@ impl Opened {
         behind: &[Directive],
     ) -> Result<Followed, Stop>
         requires { place < vec_len self.now.all }
-        ensures seen { IfOk result (λ found. (p : Place) → slice_get (places self.now.block.items self.now.steps.items) place ≡ Some p →
+        ensures seen { IfOk result (λ found. (p : BlockPlace) → slice_get (places self.now.block.items self.now.steps.items) place ≡ Some p →
             IsSeen (R.is_seen bench.now.runs.now) bench.now.following (put_in self.now.before.items placed.now self.now.block.items behind.now self.now.steps.items p) found) }
         ensures stopped { IfErr result (Unless (StopsAt (R.is_seen bench.now.runs.now) (R.at_limit bench.now.runs.now) bench.now.following placed.now behind.now self.now place)) }
     {
@@ -213,7 +213,7 @@ impl Opened {
     ) -> Result<Opened, Stop>
         requires there { place < vec_len self.now.all }
         requires some { 0 < length placed.now }
-        ensures opened { IfOk result (λ inner. (p : Place) → slice_get (places self.now.block.items self.now.steps.items) place ≡ Some p →
+        ensures opened { IfOk result (λ inner. (p : BlockPlace) → slice_get (places self.now.block.items self.now.steps.items) place ≡ Some p →
             IsInner (R.is_seen bench.now.runs.now) bench.now.following self.now placed.now p inner) }
         ensures stopped { IfErr result (Unless (StopsInner (R.is_seen bench.now.runs.now) (R.at_limit bench.now.runs.now) bench.now.following placed.now self.now place)) }
     {
@@ -246,7 +246,7 @@ impl Opened {
         if self.all.len() <= place {
             return Ok(String::new(alloc));
         }
-        let Place { directive, spot } = self.place(place);
+        let BlockPlace { directive, spot } = self.place(place);
         let line = self.block[directive].line;
         let steps = self.steps[directive];
         spot_text(alloc, line, spot, steps, self.last_move(directive, spot))

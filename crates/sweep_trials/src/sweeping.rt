@@ -1,7 +1,7 @@
 ghost use Rattle.std.specs.Prelude.{◌≡◌, ◌<◌, Some, false, true, length, IfErr, IfOk, slice_get, string_bytes, vec_len};
 ghost use Rattle.bench_sweep.specs.Placed.{put_in};
 ghost use Rattle.bench_sweep.specs.Places.{places};
-ghost use Rattle.bench_sweep.specs.declared.places.Place.{Place};
+ghost use Rattle.bench_sweep.specs.declared.places.BlockPlace.{BlockPlace};
 ghost use Rattle.sweep_trials.specs.Grown.{IsSeen};
 ghost use Rattle.sweep_trials.specs.Names.{IsNameBy, IsPairName};
 ghost use Rattle.sweep_trials.specs.Shown.{IsPairSeen, IsPlaceSeen};
@@ -55,7 +55,7 @@ impl<R: Runs> Sweep<'_, R> {
     /// What runs from a place on, with what is placed there.
     pub(crate) fn inner(&self, alloc: Global, opened: &Opened, first: usize) -> Result<Opened, Stop>
         requires { first < vec_len opened.now.all }
-        ensures opened { IfOk result (λ inner. (p : Place) → slice_get (places opened.now.block.items opened.now.steps.items) first ≡ Some p →
+        ensures opened { IfOk result (λ inner. (p : BlockPlace) → slice_get (places opened.now.block.items opened.now.steps.items) first ≡ Some p →
             IsInner (R.is_seen self.now.bench.runs.now) self.now.bench.following opened.now self.now.parts.swept.now p inner) }
         ensures stopped { IfErr result (Unless (StopsInner (R.is_seen self.now.bench.runs.now) (R.at_limit self.now.bench.runs.now) self.now.bench.following self.now.parts.swept.now opened.now first)) }
     {
@@ -71,7 +71,7 @@ impl<R: Runs> Sweep<'_, R> {
         placed: &[Directive],
     ) -> Result<Followed, Stop>
         requires { place < vec_len opened.now.all }
-        ensures seen { IfOk result (λ found. (p : Place) → slice_get (places opened.now.block.items opened.now.steps.items) place ≡ Some p →
+        ensures seen { IfOk result (λ found. (p : BlockPlace) → slice_get (places opened.now.block.items opened.now.steps.items) place ≡ Some p →
             IsSeen (R.is_seen self.now.bench.runs.now) self.now.bench.following (put_in opened.now.before.items placed.now opened.now.block.items self.now.parts.behind.now opened.now.steps.items p) found) }
         ensures stopped { IfErr result (Unless (StopsAt (R.is_seen self.now.bench.runs.now) (R.at_limit self.now.bench.runs.now) self.now.bench.following placed.now self.now.parts.behind.now opened.now place)) }
     {

@@ -22,6 +22,8 @@ use Rattle.sign_kinds.specs.declared.signs.Ending.{Ending}
 use Rattle.sign_kinds.specs.declared.signs.Ending.TheVariants as endings
 use Rattle.sign_kinds.specs.declared.signs.What.{What}
 use Rattle.sign_kinds.specs.declared.signs.What.TheVariants as whats
+use Rattle.trace_forms.specs.declared.sentences.Parts.{Parts}
+use Rattle.trace_forms.specs.declared.sentences.Parts.TheVariants as parts
 
 -- a frame by its service or its line
 abbrev pub purpose_text : Purpose → List ℕ
@@ -101,6 +103,14 @@ asked_text (asks.Fill channel) = codes "fill " ++ decimal channel
 asked_text (asks.Reset reason) = codes "reset " ++ reset_word reason
 asked_text (asks.Show shown) = codes "show " ++ shown_word shown
 asked_text asks.Nothing = codes "nothing"
+
+-- the same by its parts
+abbrev pub parts_text : Parts → List ℕ
+parts_text (parts.Word word) = word.now
+parts_text (parts.Words word other) = word.now ++ (codes " " ++ other.now)
+parts_text (parts.Number word n) = word.now ++ (codes " " ++ decimal n)
+parts_text (parts.Numbers word n other) = word.now ++ (codes " " ++ (decimal n ++ (codes " " ++ decimal other)))
+parts_text (parts.Between word n other) = word.now ++ (codes " " ++ (decimal n ++ (codes " " ++ other.now)))
 
 abbrev pub sentence : What → List ℕ
 sentence (whats.Turn asked) = asked_text asked

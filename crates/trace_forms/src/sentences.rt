@@ -178,6 +178,51 @@ fn shown_word(shown: Shown) -> &'static str
     }
 }
 
+/// What the line of a directive is put together from, with a space between each two.
+#[derive(Clone, Copy)]
+enum Parts {
+    /// A word.
+    Word(&'static str),
+    /// Two words.
+    Words(&'static str, &'static str),
+    /// A word and a number.
+    Number(&'static str, u32),
+    /// A word and two numbers.
+    Numbers(&'static str, u32, u32),
+    /// A number between two words.
+    Between(&'static str, u32, &'static str),
+}
+
+/// The parts of the line of a directive.
+fn parts_of(asked: Asked) -> Parts
+    ensures { spec.parts_text result ≡ spec.asked_text asked }
+{
+    match asked {
+        Asked::Frame(Purpose::Call(service), level, whole) => Parts::Between(
+            begin_word(Purpose::Call(service), whole),
+            level,
+            service.text(),
+        ),
+        Asked::Frame(Purpose::Handler(line), _, whole) => {
+            Parts::Number(begin_word(Purpose::Handler(line), whole), line)
+        }
+        Asked::Run(steps) => Parts::Number("run", steps),
+        Asked::Upto(stop) => Parts::Words("upto", stop_word(stop)),
+        Asked::Finish => Parts::Word("finish"),
+        Asked::Tick(ticks) => Parts::Number("tick", ticks),
+        Asked::Pin(pin, level) => Parts::Between("level", pin, digit(level)),
+        Asked::Analog(input, value) => Parts::Numbers("analog", input, value),
+        Asked::Trigger(input) => Parts::Number("trigger", input),
+        Asked::Miso(unit) => Parts::Number("miso", unit),
+        Asked::SpiFault(unit) => Parts::Number("spifault", unit),
+        Asked::Detach => Parts::Word("detach"),
+        Asked::Fill(channel) => Parts::Number("fill", channel),
+        Asked::Reset(reason) => Parts::Words("reset", reset_word(reason)),
+        Asked::Show(shown) => Parts::Words("show", shown_word(shown)),
+        Asked::Nothing => Parts::Word("nothing"),
+    }
+}
+
 /// What a directive asks for, as its line of a script says it, but for the arguments of a service and lists of words.
 #[derive(Clone, Copy)]
 pub struct Request(pub Asked);
@@ -186,42 +231,12 @@ impl fmt::Display for Request {
     ghost output = { λ r. Some (spec.asked_text r.0) };
 
     fn fmt<W: fmt::Write>(&self, f: &mut fmt::Formatter<W>) -> fmt::Result {
-        match self.0 {
-            Asked::Frame(Purpose::Call(service), level, whole) => {
-                let word = begin_word(Purpose::Call(service), whole);
-                let name = service.text();
-                write!(f, "{word} {level} {name}")
-            }
-            Asked::Frame(Purpose::Handler(line), _, whole) => {
-                let word = begin_word(Purpose::Handler(line), whole);
-                write!(f, "{word} {line}")
-            }
-            Asked::Run(steps) => write!(f, "run {steps}"),
-            Asked::Upto(stop) => {
-                let word = stop_word(stop);
-                write!(f, "upto {word}")
-            }
-            Asked::Finish => f.write_str("finish"),
-            Asked::Tick(ticks) => write!(f, "tick {ticks}"),
-            Asked::Pin(pin, level) => {
-                let level = digit(level);
-                write!(f, "level {pin} {level}")
-            }
-            Asked::Analog(input, value) => write!(f, "analog {input} {value}"),
-            Asked::Trigger(input) => write!(f, "trigger {input}"),
-            Asked::Miso(unit) => write!(f, "miso {unit}"),
-            Asked::SpiFault(unit) => write!(f, "spifault {unit}"),
-            Asked::Detach => f.write_str("detach"),
-            Asked::Fill(channel) => write!(f, "fill {channel}"),
-            Asked::Reset(reason) => {
-                let word = reset_word(reason);
-                write!(f, "reset {word}")
-            }
-            Asked::Show(shown) => {
-                let word = shown_word(shown);
-                write!(f, "show {word}")
-            }
-            Asked::Nothing => f.write_str("nothing"),
+        match parts_of(self.0) {
+            Parts::Word(word) => f.write_str(word),
+            Parts::Words(word, other) => write!(f, "{word} {other}"),
+            Parts::Number(word, number) => write!(f, "{word} {number}"),
+            Parts::Numbers(word, number, other) => write!(f, "{word} {number} {other}"),
+            Parts::Between(word, number, other) => write!(f, "{word} {number} {other}"),
         }
     }
 }

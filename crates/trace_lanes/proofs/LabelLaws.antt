@@ -8,7 +8,7 @@ use Rattle.bench_report.specs.Numbers.{Each}
 use Rattle.sign_kinds.specs.declared.signs.Sign.{Sign}
 use Rattle.trace_lanes.specs.Board.{Board, Stroke, Draws, Says, SaysEither, SaysLine, empty, fits, either, placed_to, placed, using, entered, said, script_row, put, put_all}
 use Rattle.trace_lanes.specs.Captions.{caption_text, width}
-use Rattle.trace_lanes.specs.Course.{first}
+use Rattle.trace_lanes.specs.PageState.{first}
 use Rattle.trace_lanes.specs.Drawn.{is_drawn, is_left_out, strokes, behind_all, lasts}
 use Rattle.trace_lanes.specs.Laws.{rectangle, Apart, ApartFrom, AllApart, AllInside, HasClearLabels}
 use Rattle.trace_lanes.specs.Page.{run_caption, own_words, body, board, page_width, page_height}

@@ -5,7 +5,7 @@ use Rattle.std.proofs.lemmas.List.{flat_map_more, take_all, take_more}
 use Rattle.sign_kinds.specs.declared.signs.Sign.{Sign}
 use Rattle.trace_lanes.specs.Board.{Board, Stroke, put, put_all}
 use Rattle.trace_lanes.specs.Drawn.{strokes_of, next, strokes, behind_all}
-use Rattle.trace_lanes.specs.declared.course.Course.{Course}
+use Rattle.trace_lanes.specs.declared.page_state.PageState.{PageState}
 
 pub put_all_append : (b : Board) (ss ts : List Stroke) → put_all b (ss ++ ts) ≡ put_all (put_all b ss) ts
 put_all_append b [] ts = refl
@@ -24,13 +24,13 @@ first_of [] d h = absurd (omega (arith, h))
 first_of (x ∷ xs) d h = ap (λ (ys : List Sign). x ∷ ys) (sym (take_all (length (x ∷ xs) - 1) xs (omega arith)))
 
 -- where the sign is the first of the rest
-pub stroke_rest : (b new : Board) (c to : Course) (rest : List Sign) (d : Sign) → 1 ≤ length rest → to ≡ next c (get_or rest 0 d) → new ≡ put_all b (strokes_of c (get_or rest 0 d)) →
+pub stroke_rest : (b new : Board) (c to : PageState) (rest : List Sign) (d : Sign) → 1 ≤ length rest → to ≡ next c (get_or rest 0 d) → new ≡ put_all b (strokes_of c (get_or rest 0 d)) →
     put_all b (strokes c rest) ≡ put_all new (strokes to (take (length rest - 1) (drop 1 rest)))
 stroke_rest b new c to rest d some same e =
     ap (λ (xs : List Sign). put_all b (strokes c xs)) (first_of rest d some)
     ∙ (put_all_append b (strokes_of c (get_or rest 0 d)) (strokes (next c (get_or rest 0 d)) (take (length rest - 1) (drop 1 rest)))
     ∙ (ap (λ (x : Board). put_all x (strokes (next c (get_or rest 0 d)) (take (length rest - 1) (drop 1 rest)))) (sym e)
-    ∙ ap (λ (x : Course). put_all new (strokes x (take (length rest - 1) (drop 1 rest)))) (sym same)))
+    ∙ ap (λ (x : PageState). put_all new (strokes x (take (length rest - 1) (drop 1 rest)))) (sym same)))
 
-pub behind_rest : (c to : Course) (rest : List Sign) (d : Sign) → 1 ≤ length rest → to ≡ next c (get_or rest 0 d) → behind_all c rest ≡ behind_all to (take (length rest - 1) (drop 1 rest))
-behind_rest c to rest d some same = ap (λ (xs : List Sign). behind_all c xs) (first_of rest d some) ∙ ap (λ (x : Course). behind_all x (take (length rest - 1) (drop 1 rest))) (sym same)
+pub behind_rest : (c to : PageState) (rest : List Sign) (d : Sign) → 1 ≤ length rest → to ≡ next c (get_or rest 0 d) → behind_all c rest ≡ behind_all to (take (length rest - 1) (drop 1 rest))
+behind_rest c to rest d some same = ap (λ (xs : List Sign). behind_all c xs) (first_of rest d some) ∙ ap (λ (x : PageState). behind_all x (take (length rest - 1) (drop 1 rest))) (sym same)

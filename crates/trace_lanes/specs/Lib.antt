@@ -1,6 +1,6 @@
 pub mod Board
 pub mod Captions
-pub mod Course
+pub mod PageState
 pub mod Drawn
 pub mod InputNames
 pub mod Laws

@@ -4,7 +4,7 @@ use Rattle.sign_kinds.specs.Sums.{sum_up}
 use Rattle.sign_kinds.specs.declared.signs.Sign.{Sign}
 use Rattle.trace_lanes.specs.Board.{Board, Stroke, Says, empty, put_all}
 use Rattle.trace_lanes.specs.Captions.{caption_text}
-use Rattle.trace_lanes.specs.Course.{first}
+use Rattle.trace_lanes.specs.PageState.{first}
 use Rattle.trace_lanes.specs.Drawn.{is_drawn, is_left_out, strokes, behind_all, lasts}
 use Rattle.trace_lanes.specs.Marks.{title, symbol, symbol_drop, class, second_class, drop_of, height_of, layer, point_text, box_text, words_text}
 use Rattle.trace_lanes.specs.Rows.{slot, top}
@@ -14,7 +14,7 @@ use Rattle.trace_lanes.specs.declared.board.Mark.TheVariants as marks
 use Rattle.trace_lanes.specs.declared.board.Shape.{Shape}
 use Rattle.trace_lanes.specs.declared.caption.Caption.{Caption}
 use Rattle.trace_lanes.specs.declared.caption.Caption.TheVariants as captions
-use Rattle.trace_lanes.specs.declared.course.Course.{Course}
+use Rattle.trace_lanes.specs.declared.page_state.PageState.{PageState}
 use Rattle.trace_lanes.specs.declared.input_name.InputName.{InputName}
 use Rattle.trace_lanes.specs.declared.page.TheConstants.{STYLE}
 use Rattle.trace_lanes.specs.declared.rows.Row.TheVariants as rows
@@ -68,7 +68,7 @@ own_words run drawn left unnamed =
     ∷ Says rows.Tally 6 20000000 (captions.Tally drawn left unnamed) ∷ []
 
 -- all that signs put on it, and then what it says of itself
-abbrev pub body : Course → List Sign → Board
+abbrev pub body : PageState → List Sign → Board
 body c signs = put_all (put_all empty (strokes first signs)) (lasts c.x c.levels)
 
 abbrev pub with_words : Caption → List Sign → Board → Board

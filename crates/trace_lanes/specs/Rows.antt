@@ -1,5 +1,7 @@
 -- The rows of a page: their names, their order, and where they stand.
 use Rattle.std.specs.Prelude.{ℕ, zero, suc, ◌+◌, ◌==◌, min, nat_lt, Bool, true, false, List, ◌++◌, slice_index_or, codes, decimal, if◌then◌else◌}
+use Rattle.trace_lanes.specs.declared.rows.Parts.{Parts}
+use Rattle.trace_lanes.specs.declared.rows.Parts.TheVariants as parts
 use Rattle.trace_lanes.specs.declared.rows.Row.{Row}
 use Rattle.trace_lanes.specs.declared.rows.Row.TheVariants as rows
 
@@ -21,6 +23,12 @@ name (rows.Script row) = codes "script line"
 name rows.Colors = codes ""
 name rows.Symbols = codes ""
 name rows.Tally = codes ""
+
+-- the same by its parts
+abbrev pub parts_text : Parts → List ℕ
+parts_text (parts.Plain text) = text.now
+parts_text (parts.Numbered before n) = before.now ++ (codes " " ++ decimal n)
+parts_text (parts.Pulse output what) = codes "pulse " ++ (decimal output ++ (codes " " ++ what.now))
 
 -- its name stands at its left
 abbrev pub has_name : Row → Bool

@@ -1,11 +1,11 @@
 ghost use Rattle.std.specs.Prelude.{◌≡◌, OnOk};
 ghost use Rattle.trace_lanes.specs.Board.{put_all as all_put};
-ghost use Rattle.trace_lanes.specs.Course.{row_of, setting_of};
+ghost use Rattle.trace_lanes.specs.PageState.{row_of, setting_of};
 ghost use Rattle.trace_lanes.specs.Drawn as spec;
 
 use crate::board::{Board, Mark, NO_LIMIT, Shape};
 use crate::caption::Caption;
-use crate::course::{Course, Level, Wait, row_of, setting_of};
+use crate::page_state::{Level, PageState, Wait, row_of, setting_of};
 use crate::rows::Row;
 use bench_report::Purpose;
 use sign_kinds::{Asked, Ending, Frame, Sign, What};
@@ -52,13 +52,15 @@ pub(crate) fn is_left_out(sign: &Sign) -> bool
 }
 
 /// The symbol of a sign, in a row, where its step is.
-fn symbol(course: &Course, sign: &Sign, row: Row) -> Shape
-    ensures { result ≡ spec.symbol course.now sign.now row }
+fn symbol(page_state: &PageState, sign: &Sign, row: Row) -> Shape
+    ensures { result ≡ spec.symbol page_state.now sign.now row }
 {
     Shape {
         mark: Mark::Symbol(sign.what),
         row,
-        x: course.x.saturating_add(course.breadth(sign.what) / 2),
+        x: page_state
+            .x
+            .saturating_add(page_state.breadth(sign.what) / 2),
         width: 0,
         sign: *sign,
     }
@@ -97,16 +99,16 @@ fn put_level(board: &mut Board, alloc: Global, level: Level, end: usize) -> Resu
 fn put_setting(
     board: &mut Board,
     alloc: Global,
-    course: &Course,
+    page_state: &PageState,
     what: What,
 ) -> Result<(), AllocError>
-    ensures { OnOk result (board.new ≡ all_put board.old (spec.overtaken course.now (setting_of what))) }
+    ensures { OnOk result (board.new ≡ all_put board.old (spec.overtaken page_state.now (setting_of what))) }
 {
     let Some(setting) = setting_of(what) else {
         return Ok(());
     };
-    match course.level(setting.row) {
-        Some(level) if level.value != setting.value => put_level(board, alloc, level, course.x),
+    match page_state.level(setting.row) {
+        Some(level) if level.value != setting.value => put_level(board, alloc, level, page_state.x),
         _ => Ok(()),
     }
 }
@@ -116,16 +118,16 @@ fn put_setting(
 fn put_turn(
     board: &mut Board,
     alloc: Global,
-    course: &Course,
+    page_state: &PageState,
     sign: &Sign,
     asked: Asked,
 ) -> Result<(), AllocError>
-    ensures { OnOk result (board.new ≡ all_put board.old (spec.turn course.now sign.now asked)) }
+    ensures { OnOk result (board.new ≡ all_put board.old (spec.turn page_state.now sign.now asked)) }
 {
-    board.draw(alloc, symbol(course, sign, Row::Script(0)))?;
+    board.draw(alloc, symbol(page_state, sign, Row::Script(0)))?;
     board.say_script(
         alloc,
-        course.x.saturating_add(2),
+        page_state.x.saturating_add(2),
         Caption::Turn(sign.number, asked),
     )
 }
@@ -135,16 +137,16 @@ fn put_turn(
 fn put_gap(
     board: &mut Board,
     alloc: Global,
-    course: &Course,
+    page_state: &PageState,
     sign: &Sign,
     all: u64,
 ) -> Result<(), AllocError>
-    ensures { OnOk result (board.new ≡ all_put board.old (spec.gap course.now sign.now all)) }
+    ensures { OnOk result (board.new ≡ all_put board.old (spec.gap page_state.now sign.now all)) }
 {
     let gap = Shape {
         mark: Mark::Gap,
         row: Row::Ticks,
-        x: course.x.saturating_add(1),
+        x: page_state.x.saturating_add(1),
         width: 52,
         sign: *sign,
     };
@@ -152,7 +154,7 @@ fn put_gap(
     board.say(
         alloc,
         Row::Ticks,
-        course.x.saturating_add(3),
+        page_state.x.saturating_add(3),
         NO_LIMIT,
         Caption::Time(all),
     )
@@ -163,28 +165,28 @@ fn put_gap(
 fn put_wait(
     board: &mut Board,
     alloc: Global,
-    course: &Course,
+    page_state: &PageState,
     sign: &Sign,
     row: Row,
     wait: Wait,
 ) -> Result<(), AllocError>
-    ensures { OnOk result (board.new ≡ all_put board.old (spec.waited_since course.now sign.now row wait)) }
+    ensures { OnOk result (board.new ≡ all_put board.old (spec.waited_since page_state.now sign.now row wait)) }
 {
     let line = Shape {
         mark: Mark::Wait,
         row,
         x: wait.x,
-        width: course.x.saturating_sub(wait.x),
+        width: page_state.x.saturating_sub(wait.x),
         sign: *sign,
     };
     board.draw(alloc, line)?;
     let steps = sign.step.saturating_sub(wait.step);
-    let ticks = course.ticks.saturating_sub(wait.ticks);
+    let ticks = page_state.ticks.saturating_sub(wait.ticks);
     board.say(
         alloc,
         row,
         wait.x.saturating_add(3),
-        course.x,
+        page_state.x,
         Caption::Waits(steps, ticks),
     )
 }
@@ -194,15 +196,15 @@ fn put_wait(
 fn put_begin(
     board: &mut Board,
     alloc: Global,
-    course: &Course,
+    page_state: &PageState,
     sign: &Sign,
     frame: Frame,
 ) -> Result<(), AllocError>
-    ensures { OnOk result (board.new ≡ all_put board.old (spec.waited_in course.now sign.now (row_of frame.purpose frame.level))) }
+    ensures { OnOk result (board.new ≡ all_put board.old (spec.waited_in page_state.now sign.now (row_of frame.purpose frame.level))) }
 {
     let row = row_of(frame.purpose, frame.level);
-    match course.wait(row) {
-        Some(wait) => put_wait(board, alloc, course, sign, row, wait),
+    match page_state.wait(row) {
+        Some(wait) => put_wait(board, alloc, page_state, sign, row, wait),
         None => Ok(()),
     }
 }
@@ -222,19 +224,19 @@ fn long_label(purpose: Purpose, ending: Ending) -> Caption
 fn put_gone(
     board: &mut Board,
     alloc: Global,
-    course: &Course,
+    page_state: &PageState,
     sign: &Sign,
     frame: Frame,
     ending: Ending,
 ) -> Result<(), AllocError>
-    ensures { OnOk result (board.new ≡ all_put board.old (spec.gone course.now sign.now frame ending)) }
+    ensures { OnOk result (board.new ≡ all_put board.old (spec.gone page_state.now sign.now frame ending)) }
 {
-    let place = course.frame(frame.depth);
+    let place = page_state.frame(frame.depth);
     let bar = Shape {
         mark: Mark::Bar(frame.purpose, ending),
         row: row_of(frame.purpose, frame.level),
         x: place.x,
-        width: course.x.saturating_sub(place.x).max(2),
+        width: page_state.x.saturating_sub(place.x).max(2),
         sign: *sign,
     };
     board.draw(alloc, bar)?;
@@ -242,7 +244,7 @@ fn put_gone(
         alloc,
         row_of(frame.purpose, frame.level),
         place.x.saturating_add(3),
-        course.x,
+        page_state.x,
         long_label(frame.purpose, ending),
         Caption::Frame(frame.purpose),
     )
@@ -253,19 +255,19 @@ fn put_gone(
 fn put_window(
     board: &mut Board,
     alloc: Global,
-    course: &Course,
+    page_state: &PageState,
     sign: &Sign,
 ) -> Result<(), AllocError>
-    ensures { OnOk result (board.new ≡ all_put board.old (spec.window course.now sign.now course.now.shut)) }
+    ensures { OnOk result (board.new ≡ all_put board.old (spec.window page_state.now sign.now page_state.now.shut)) }
 {
-    let Some(place) = course.shut else {
-        return board.draw(alloc, symbol(course, sign, Row::Held));
+    let Some(place) = page_state.shut else {
+        return board.draw(alloc, symbol(page_state, sign, Row::Held));
     };
     let bar = Shape {
         mark: Mark::Mask,
         row: place.row,
         x: place.x,
-        width: course.x.saturating_sub(place.x).max(1),
+        width: page_state.x.saturating_sub(place.x).max(1),
         sign: *sign,
     };
     board.draw(alloc, bar)
@@ -276,14 +278,14 @@ fn put_window(
 fn put_flag(
     board: &mut Board,
     alloc: Global,
-    course: &Course,
+    page_state: &PageState,
     sign: &Sign,
     row: Row,
 ) -> Result<(), AllocError>
-    ensures { OnOk result (board.new ≡ all_put board.old (spec.flag course.now sign.now row)) }
+    ensures { OnOk result (board.new ≡ all_put board.old (spec.flag page_state.now sign.now row)) }
 {
-    board.draw(alloc, symbol(course, sign, row))?;
-    board.say(alloc, row, course.x, NO_LIMIT, Caption::Says(sign.what))
+    board.draw(alloc, symbol(page_state, sign, row))?;
+    board.say(alloc, row, page_state.x, NO_LIMIT, Caption::Says(sign.what))
 }
 
 /// Puts what a sign stands for.
@@ -291,25 +293,25 @@ fn put_flag(
 fn put_what(
     board: &mut Board,
     alloc: Global,
-    course: &Course,
+    page_state: &PageState,
     sign: &Sign,
 ) -> Result<(), AllocError>
-    ensures { OnOk result (board.new ≡ all_put board.old (spec.shown course.now sign.now sign.now.what)) }
+    ensures { OnOk result (board.new ≡ all_put board.old (spec.shown page_state.now sign.now sign.now.what)) }
 {
     match sign.what {
-        What::Turn(asked) => put_turn(board, alloc, course, sign, asked),
-        What::Ticked(_, all) | What::Waited(_, all) => put_gap(board, alloc, course, sign, all),
-        What::Begins(frame) => put_begin(board, alloc, course, sign, frame),
+        What::Turn(asked) => put_turn(board, alloc, page_state, sign, asked),
+        What::Ticked(_, all) | What::Waited(_, all) => put_gap(board, alloc, page_state, sign, all),
+        What::Begins(frame) => put_begin(board, alloc, page_state, sign, frame),
         What::Stepped(_, _) => board.draw(
             alloc,
-            symbol(course, sign, course.frame(sign.depth).row),
+            symbol(page_state, sign, page_state.frame(sign.depth).row),
         ),
-        What::Held(_) => put_flag(board, alloc, course, sign, Row::Held),
-        What::Noted(_) => put_flag(board, alloc, course, sign, Row::Notices),
-        What::Erred(_) | What::Reset(_, _) => put_flag(board, alloc, course, sign, Row::Errors),
-        What::Gone(frame, ending) => put_gone(board, alloc, course, sign, frame, ending),
-        What::Window(_) => put_window(board, alloc, course, sign),
-        What::Shown | What::Done => board.draw(alloc, symbol(course, sign, Row::Script(0))),
+        What::Held(_) => put_flag(board, alloc, page_state, sign, Row::Held),
+        What::Noted(_) => put_flag(board, alloc, page_state, sign, Row::Notices),
+        What::Erred(_) | What::Reset(_, _) => put_flag(board, alloc, page_state, sign, Row::Errors),
+        What::Gone(frame, ending) => put_gone(board, alloc, page_state, sign, frame, ending),
+        What::Window(_) => put_window(board, alloc, page_state, sign),
+        What::Shown | What::Done => board.draw(alloc, symbol(page_state, sign, Row::Script(0))),
     }
 }
 
@@ -318,13 +320,13 @@ fn put_what(
 fn put_sign(
     board: &mut Board,
     alloc: Global,
-    course: &Course,
+    page_state: &PageState,
     sign: &Sign,
 ) -> Result<(), AllocError>
-    ensures { OnOk result (board.new ≡ all_put board.old (spec.drawn_by course.now sign.now)) }
+    ensures { OnOk result (board.new ≡ all_put board.old (spec.drawn_by page_state.now sign.now)) }
 {
-    put_setting(board, alloc, course, sign.what)?;
-    put_what(board, alloc, course, sign)
+    put_setting(board, alloc, page_state, sign.what)?;
+    put_what(board, alloc, page_state, sign)
 }
 
 /// Puts a sign, if the page has room for it, and goes on behind it.
@@ -332,17 +334,17 @@ fn put_sign(
 fn put_next(
     board: &mut Board,
     alloc: Global,
-    course: &mut Course,
+    page_state: &mut PageState,
     sign: &Sign,
 ) -> Result<(), AllocError>
-    ensures board { OnOk result (board.new ≡ all_put board.old (spec.strokes_of course.old sign.now)) }
-    ensures course { OnOk result (course.new ≡ spec.next course.old sign.now) }
+    ensures board { OnOk result (board.new ≡ all_put board.old (spec.strokes_of page_state.old sign.now)) }
+    ensures page_state { OnOk result (page_state.new ≡ spec.next page_state.old sign.now) }
 {
     if is_left_out(sign) {
         return Ok(());
     }
-    put_sign(board, alloc, course, sign)?;
-    course.advance(sign);
+    put_sign(board, alloc, page_state, sign)?;
+    page_state.advance(sign);
     Ok(())
 }
 
@@ -350,15 +352,15 @@ fn put_next(
 pub(crate) fn put_signs(
     board: &mut Board,
     alloc: Global,
-    course: &mut Course,
+    page_state: &mut PageState,
     signs: &[Sign],
 ) -> Result<(), AllocError>
-    ensures board { OnOk result (board.new ≡ all_put board.old (spec.strokes course.old signs.now)) }
-    ensures course { OnOk result (course.new ≡ spec.behind_all course.old signs.now) }
+    ensures board { OnOk result (board.new ≡ all_put board.old (spec.strokes page_state.old signs.now)) }
+    ensures page_state { OnOk result (page_state.new ≡ spec.behind_all page_state.old signs.now) }
 {
     let mut rest = signs;
     while let [sign, later @ ..] = rest {
-        put_next(board, alloc, course, sign)?;
+        put_next(board, alloc, page_state, sign)?;
         rest = later;
     }
     Ok(())

@@ -4,12 +4,12 @@
 
 mod board;
 mod caption;
-mod course;
 mod draw;
 mod input_name;
 mod laws;
 mod marks;
 mod page;
+mod page_state;
 mod rows;
 
 pub use input_name::InputName;

@@ -7,13 +7,13 @@ ghost use Rattle.trace_lanes.specs.Rows.{slot, top as row_top};
 
 use crate::board::{Board, Label, Mark, NO_LIMIT, Shape};
 use crate::caption::Caption;
-use crate::course::Course;
 use crate::draw::{is_drawn, is_left_out, put_lasts, put_signs};
 use crate::input_name::InputName;
 use crate::marks::{
     Point, Rectangle, Title, Words, class, drop_of, height_of, layer, second_class, symbol,
     symbol_drop,
 };
+use crate::page_state::PageState;
 use crate::rows::{Row, top};
 use sign_kinds::Sign;
 use std::alloc::{AllocError, Global};
@@ -323,12 +323,12 @@ pub fn page_of(
     ensures { IfOk result (λ text. string_bytes text ≡ spec.page name steps signs.now) }
 {
     let mut board = Board::empty(alloc);
-    let mut course = Course::first();
-    put_signs(&mut board, alloc, &mut course, signs)?;
-    put_lasts(&mut board, alloc, &course.levels, course.x)?;
+    let mut page_state = PageState::first();
+    put_signs(&mut board, alloc, &mut page_state, signs)?;
+    put_lasts(&mut board, alloc, &page_state.levels, page_state.x)?;
     let drawn = drawn_in(signs);
     let left = left_out_in(signs);
-    let run = run_caption(name, steps, course.ticks);
+    let run = run_caption(name, steps, page_state.ticks);
     put_words(&mut board, alloc, run, drawn, left)?;
-    text_of(alloc, &board, course.x)
+    text_of(alloc, &board, page_state.x)
 }

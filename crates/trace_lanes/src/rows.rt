@@ -43,25 +43,47 @@ pub enum Row {
     Tally,
 }
 
+/// What the name of a row is put together from.
+#[derive(Clone, Copy)]
+enum Parts {
+    /// A name without a number.
+    Plain(&'static str),
+    /// What stands before a number.
+    Numbered(&'static str, u32),
+    /// The number of a pulse output, and what the row shows of it.
+    Pulse(u32, &'static str),
+}
+
+/// The parts of a row's name.
+fn parts_of(row: Row) -> Parts
+    ensures { spec.parts_text result ≡ spec.name row }
+{
+    match row {
+        Row::Title | Row::Colors | Row::Symbols | Row::Tally => Parts::Plain(""),
+        Row::Errors => Parts::Plain("errors, resets"),
+        Row::Notices => Parts::Plain("callbacks"),
+        Row::Held => Parts::Plain("held"),
+        Row::Ticks => Parts::Plain("ticks"),
+        Row::Script(_) => Parts::Plain("script line"),
+        Row::Level(level) => Parts::Numbered("level", level),
+        Row::Handler(line) => Parts::Numbered("handler of line", line),
+        Row::Pin(pin) => Parts::Numbered("pin", pin),
+        Row::Analog(input) => Parts::Numbered("analog", input),
+        Row::Output(output) => Parts::Pulse(output, "level"),
+        Row::Duty(output) => Parts::Pulse(output, "duty"),
+        Row::Period(output) => Parts::Pulse(output, "period"),
+    }
+}
+
 /// The name of a row that has one.
 impl fmt::Display for Row {
     ghost output = { λ r. Some (spec.name r) };
 
     fn fmt<W: fmt::Write>(&self, f: &mut fmt::Formatter<W>) -> fmt::Result {
-        match *self {
-            Row::Title | Row::Colors | Row::Symbols | Row::Tally => f.write_str(""),
-            Row::Errors => f.write_str("errors, resets"),
-            Row::Notices => f.write_str("callbacks"),
-            Row::Held => f.write_str("held"),
-            Row::Ticks => f.write_str("ticks"),
-            Row::Level(level) => write!(f, "level {level}"),
-            Row::Handler(line) => write!(f, "handler of line {line}"),
-            Row::Pin(pin) => write!(f, "pin {pin}"),
-            Row::Analog(input) => write!(f, "analog {input}"),
-            Row::Output(output) => write!(f, "pulse {output} level"),
-            Row::Duty(output) => write!(f, "pulse {output} duty"),
-            Row::Period(output) => write!(f, "pulse {output} period"),
-            Row::Script(_) => f.write_str("script line"),
+        match parts_of(*self) {
+            Parts::Plain(name) => f.write_str(name),
+            Parts::Numbered(before, number) => write!(f, "{before} {number}"),
+            Parts::Pulse(output, what) => write!(f, "pulse {output} {what}"),
         }
     }
 }

@@ -32,7 +32,7 @@ use Rattle.trace_laws.proofs.Giving.{gives_chapter}
 use Rattle.trace_laws.proofs.Opens.{OnChip, all_chip, legal_behind}
 use Rattle.trace_laws.proofs.Runs.{AllAbove, all_above, own_are, later_are, Finds, finds, deeds_split}
 use Rattle.trace_laws.proofs.Telling.{Tells, tells-append, tells_more, Stands, fits_by}
-use Rattle.trace_laws.proofs.Turns.{later_moments, chapter_moments, script_moments, moments_are}
+use Rattle.trace_laws.proofs.DirectiveLines.{later_moments, chapter_moments, script_moments, moments_are}
 
 -- ---- moments that may follow a drawing
 

@@ -8,6 +8,6 @@ pub mod Promise
 pub mod Read
 pub mod Runs
 pub mod Telling
-pub mod Turns
+pub mod DirectiveLines
 pub mod UnionLines
 pub mod Within

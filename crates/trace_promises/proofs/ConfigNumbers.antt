@@ -6,7 +6,7 @@ use Rattle.std.proofs.lemmas.Bool.Decides.{nat_tests}
 use Rattle.toml.specs.Data.{Data, Items, no_items, item, Members, no_members, as_table, as_array, as_integer}
 use Rattle.config_rows.proofs.Recorded.{front_passes, rest_passes}
 use Rattle.config_keys.specs.Checks.{Checks, passes, fails, ◌⨾◌, first}
-use Rattle.config_keys.specs.Kinds.{◌>>=◌, Seen, absent, another_kind, out_of_range, good, found, found_or, whole, whole_number, name, truth, count_of, length_checks}
+use Rattle.config_keys.specs.Kinds.{◌>>=◌, ReadValue, absent, another_kind, out_of_range, good, found, found_or, whole, whole_number, name, truth, count_of, length_checks}
 use Rattle.config_rows.specs.Modules as parts
 use Rattle.config_keys.specs.Names.{buffer_named}
 use Rattle.config_rows.specs.Rows.{Shape, values_of, element_value, array_kind, found_checks, found_value, array_checks, array_value, elements_from}
@@ -61,7 +61,7 @@ whole_fits high None n most h = cc
 whole_fits high (Some d) n most h = number_fits high (as_integer d) n most h
 
 -- one that was read, or else 0
-or_zero : (s : Seen ℕ) → ((n : ℕ) → found s ≡ Some n → IsNumber n) → IsNumber (found_or 0 s)
+or_zero : (s : ReadValue ℕ) → ((n : ℕ) → found s ≡ Some n → IsNumber n) → IsNumber (found_or 0 s)
 or_zero (good n) h = h n refl
 or_zero absent h = omega arith
 or_zero another_kind h = omega arith

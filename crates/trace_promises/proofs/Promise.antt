@@ -10,7 +10,7 @@ use Rattle.bench_report.specs.Limit.{most_bytes}
 use Rattle.bench_script.specs.Lines.{file}
 use Rattle.bench_script.specs.Script.{script}
 use Rattle.mcal_config.specs.Whole.{fault_of}
-use Rattle.mcal_system.specs.Setting.{system_setting, call_of}
+use Rattle.mcal_drivers.specs.Setting.{system_setting, call_of}
 use Rattle.bench_top.proofs.Scripts.{may_run}
 use Rattle.bench_top.specs.Runs.{IsWholeRun, report_of, shows_of}
 use Rattle.bench_top.specs.Statuses.{IsRunnable, IsRunDone, Done}

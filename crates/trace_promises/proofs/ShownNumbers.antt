@@ -34,8 +34,8 @@ use Rattle.bench_report.specs.Rows.{Row}
 use Rattle.bench_report.specs.declared.rows.RowName.{RowName}
 use Rattle.bench_report.specs.declared.rows.RowName.TheVariants as names
 use Rattle.bench_report.specs.declared.rows.Value.TheVariants as values
-use Rattle.mcal_system.specs.Setting.{SystemState, clock_setting, watchdog_setting, pin_setting, timer_setting, pulse_setting, capture_setting, converter_setting, serial_setting, joined, host_pins, host_setting, port_guest, system_setting, call_of}
-use Rattle.mcal_system.specs.Shows.{level_at, ram_at, size_at, stamp_at, buffer_of, result_at, results_at, serial_channel}
+use Rattle.mcal_drivers.specs.Setting.{SystemState, clock_setting, watchdog_setting, pin_setting, timer_setting, pulse_setting, capture_setting, converter_setting, serial_setting, joined, host_pins, host_setting, port_guest, system_setting, call_of}
+use Rattle.mcal_drivers.specs.Shows.{level_at, ram_at, size_at, stamp_at, buffer_of, result_at, results_at, serial_channel}
 use Rattle.bench_top.specs.Runs.{shows_of}
 use Rattle.bench_top.specs.Shows.{level_value, has_pin, level_row, pin_row, section_rows, stamps_row, stamps_rows, results_row, result_rows, channel_rows, serial_rows, wire_row, show_rows}
 use Rattle.trace_reader.specs.Trace.{HasNameNumbers, HasValueNumbers}

@@ -10,7 +10,7 @@ use Rattle.run_model.specs.World.{World}
 use Rattle.step_runner.specs.declared.either.Either.{Either}
 use Rattle.step_runner.specs.declared.either.Either.TheVariants.{Left, Right}
 use Rattle.guest_runner.specs.Guest.{Guest, guest_setting}
-use Rattle.mcal_system.specs.Setting.{clock_setting, watchdog_setting, pin_setting, timer_setting, pulse_setting, capture_setting, converter_setting, serial_setting, joined, host_setting, port_guest, system_setting}
+use Rattle.mcal_drivers.specs.Setting.{clock_setting, watchdog_setting, pin_setting, timer_setting, pulse_setting, capture_setting, converter_setting, serial_setting, joined, host_setting, port_guest, system_setting}
 use Rattle.gpt_machine.specs.Table as timer_table
 use Rattle.pwm_machine.specs.Table as pulse_table
 use Rattle.icu_machine.specs.Table as capture_table

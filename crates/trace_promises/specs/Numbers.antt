@@ -19,7 +19,7 @@ use Rattle.adc_machine.specs.Turns.{AdcState}
 use Rattle.spi_machine.specs.Channels.{ChannelState}
 use Rattle.spi_machine.specs.State.{Carrying, SpiState}
 use Rattle.spi_machine.specs.Transfers.{JobWord, Run}
-use Rattle.mcal_system.specs.Setting.{SystemState}
+use Rattle.mcal_drivers.specs.Setting.{SystemState}
 use Rattle.bench_report.specs.Numbers.{IsNumber, Each}
 use Rattle.trace_promises.specs.Keeping.{OrderBrings}
 

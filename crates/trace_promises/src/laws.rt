@@ -4,7 +4,7 @@ ghost use Rattle.mcal_base.specs.declared.directive.Directive.{Directive};
 ghost use Rattle.run_model.specs.Entry.{Entry};
 ghost use Rattle.run_model.specs.Packing.{items_of};
 ghost use Rattle.mcal_config.specs.Whole.{fault_of, record_of};
-ghost use Rattle.mcal_system.specs.Setting.{system_setting};
+ghost use Rattle.mcal_drivers.specs.Setting.{system_setting};
 ghost use Rattle.bench_top.specs.Runs.{shows_of};
 ghost use Rattle.bench_top.specs.Statuses.{IsRunDone};
 ghost use Rattle.bench_top.specs.declared.words.Task.TheVariants.{Run};

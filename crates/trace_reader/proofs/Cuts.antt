@@ -1,15 +1,15 @@
 -- Where a text is cut at the first byte that passes.
-use Rattle.std.proofs.Common.{◌≡◌, ℕ, ◌+◌, ◌-◌, ◌<◌, ◌≤◌, List, [], ◌∷◌, length, take, drop, Some, None, Bool, true, false, refl, ◌∙◌, ap, sym, arith, cond}
+use Rattle.std.proofs.Common.{◌≡◌, ℕ, ◌+◌, ◌-◌, ◌<◌, ◌≤◌, List, [], ◌∷◌, length, get_or, take, drop, Some, None, Bool, true, false, refl, ◌∙◌, ap, sym, arith, cond}
 use Rattle.std.specs.Prelude.{◌==◌, nat_lt, not, option_map, if◌then◌else◌}
 use Rattle.std.specs.List.{slice_split, position, position_or_len}
 use Rattle.std.proofs.lemmas.Bool.{false≢true}
 use Rattle.std.proofs.lemmas.Bool.Decides.{nat_tests}
 use Rattle.std.proofs.lemmas.List.{take_rest}
 use Rattle.std.proofs.lemmas.List.Splits.{slice_split_first}
+use Rattle.std.proofs.lemmas.List.Sums.{position_or_len_is}
 use Rattle.bench_report.specs.declared.rows.Value.TheVariants as values
 use Rattle.trace_reader.specs.Guess.{pair, value, value_at}
-use Rattle.trace_reader.specs.Numbers.{number, front, rest}
-use Rattle.trace_reader.proofs.Splits.{front_all, rest_all}
+use Rattle.trace_reader.specs.Numbers.{number, rest}
 use Rattle.trace_reader.proofs.Digits.{none}
 
 split_none_case : (p : ℕ → Bool) (x : ℕ) (xs : List ℕ) (b : Bool) → p x ≡ b → (if b then false else none p xs) ≡ true → (none p xs ≡ true → slice_split p xs ≡ xs ∷ []) → slice_split p (x ∷ xs) ≡ (x ∷ xs) ∷ []
@@ -44,22 +44,16 @@ cut_here p text k h =
 pub cut_nowhere : (p : ℕ → Bool) (text : List ℕ) → position p text ≡ None → slice_split p text ≡ text ∷ []
 cut_nowhere p text h = split_none p text (all_pass p text (none_case (position_or_len p text) (length text) _ refl h))
 
--- a text up to its first byte that passes, and the rest
-pub front_here : (p : ℕ → Bool) (text : List ℕ) (k : ℕ) → position p text ≡ Some k → take k text ≡ front p text
-front_here p text k h =
-    let place = some_case (position_or_len p text) (length text) k _ refl h in
-    ap (λ (n : ℕ). take n text) (sym place.0)
+-- the rest of a text from its first byte on that passes
+pub rest_from : (p : ℕ → Bool) (text : List ℕ) (k : ℕ) → k ≡ position_or_len p text → take (length text - k) (drop k text) ≡ rest p text
+rest_from p text k h = take_rest text k ∙ ap (λ (n : ℕ). drop n text) h
 
-pub rest_here : (p : ℕ → Bool) (text : List ℕ) (k : ℕ) → position p text ≡ Some k → take (length text - k) (drop k text) ≡ rest p text
-rest_here p text k h =
-    let place = some_case (position_or_len p text) (length text) k _ refl h in
-    take_rest text k ∙ ap (λ (n : ℕ). drop n text) (sym place.0)
+-- the first place that passes: one before which none does
+pub passes_here : (p : ℕ → Bool) (text : List ℕ) (k : ℕ) → k < length text → ((i : ℕ) → i < k → p (get_or text i 0) ≡ false) → p (get_or text k 0) ≡ true → k ≡ position_or_len p text
+passes_here p text k within before here = sym (position_or_len_is p text k 0 (omega arith) before (λ l. here))
 
-pub front_nowhere : (p : ℕ → Bool) (text : List ℕ) → position p text ≡ None → text ≡ front p text
-front_nowhere p text h = sym (front_all p text (all_pass p text (none_case (position_or_len p text) (length text) _ refl h)))
-
-pub rest_nowhere : (p : ℕ → Bool) (text : List ℕ) → position p text ≡ None → [] ≡ rest p text
-rest_nowhere p text h = sym (rest_all p text (all_pass p text (none_case (position_or_len p text) (length text) _ refl h)))
+pub passes_nowhere : (p : ℕ → Bool) (text : List ℕ) → ((i : ℕ) → i < length text → p (get_or text i 0) ≡ false) → length text ≡ position_or_len p text
+passes_nowhere p text before = sym (position_or_len_is p text (length text) 0 (omega arith) before (λ l. absurd (omega arith)))
 
 -- the same as the code takes slices
 pub cut_slices : (p : ℕ → Bool) (text : List ℕ) (k : ℕ) → position p text ≡ Some k → slice_split p text ≡ take k text ∷ slice_split p (take (length text - (k + 1)) (drop (k + 1) text))

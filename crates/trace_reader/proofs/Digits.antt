@@ -1,6 +1,6 @@
 -- What the digits of a number are, and that they are read as it.
 use Rattle.std.proofs.Common.{◌≡◌, ℕ, ◌+◌, ◌-◌, ◌*◌, ◌<◌, List, [], ◌∷◌, ◌++◌, length, Bool, true, false, Some, refl, ◌∙◌, ap, arith, rules}
-use Rattle.std.specs.Prelude.{min, nat_lt, decimal, not, ◌==◌, if◌then◌else◌}
+use Rattle.std.specs.Prelude.{min, nat_lt, decimal, not, ◌==◌, ◌||◌, if◌then◌else◌}
 use Rattle.std.specs.Char.{is_ascii_digit}
 use Rattle.std.specs.Str.{all_ascii_digits}
 use Rattle.std.proofs.lemmas.Bool.{and_parts}
@@ -75,6 +75,9 @@ not_space b h = grind (arith, nat_tests)
 not_feed : (b : ℕ) → is_ascii_digit b ≡ true → (b == 10) ≡ false
 not_feed b h = grind (arith, nat_tests)
 
+not_blank : (b : ℕ) → is_ascii_digit b ≡ true → ((b == 32) || (b == 10)) ≡ false
+not_blank b h = rw (not_space b h, not_feed b h) refl
+
 not_stroke : (b : ℕ) → is_ascii_digit b ≡ true → (b == 47) ≡ false
 not_stroke b h = grind (arith, nat_tests)
 
@@ -89,6 +92,9 @@ no_space n h = digits_none (λ b. b == 32) not_space (decimal n) (digits_of n h)
 
 pub no_feed : (n : ℕ) → IsNumber n → none (λ b. b == 10) (decimal n) ≡ true
 no_feed n h = digits_none (λ b. b == 10) not_feed (decimal n) (digits_of n h)
+
+pub no_blank : (n : ℕ) → IsNumber n → none (λ b. (b == 32) || (b == 10)) (decimal n) ≡ true
+no_blank n h = digits_none (λ b. (b == 32) || (b == 10)) not_blank (decimal n) (digits_of n h)
 
 pub no_stroke : (n : ℕ) → IsNumber n → none (λ b. b == 47) (decimal n) ≡ true
 no_stroke n h = digits_none (λ b. b == 47) not_stroke (decimal n) (digits_of n h)

@@ -4,26 +4,19 @@ use Rattle.std.specs.Prelude.{◌==◌, codes, decimal, if◌then◌else◌}
 use Rattle.det_errors.specs.Spelling.{error_text}
 use Rattle.irq_control.specs.Spelling.{held_text}
 use Rattle.irq_control.specs.declared.held.Held.{Held}
-use Rattle.irq_control.specs.declared.held.Held.TheVariants as causes
 use Rattle.mcal_base.specs.Names.{service_text, answer_text, notice_text}
 use Rattle.mcal_base.specs.declared.answer.Head.{Head}
 use Rattle.mcal_base.specs.declared.answer.Head.TheVariants as heads
 use Rattle.mcal_base.specs.declared.answer_name.AnswerName.{AnswerName}
-use Rattle.mcal_base.specs.declared.answer_name.AnswerName.TheVariants as answers
 use Rattle.mcal_base.specs.declared.directive.Reason.{Reason}
-use Rattle.mcal_base.specs.declared.directive.Reason.TheVariants as reasons
 use Rattle.mcal_base.specs.declared.error_name.ErrorName.{ErrorName}
-use Rattle.mcal_base.specs.declared.error_name.ErrorName.TheVariants as errors
 use Rattle.mcal_base.specs.declared.moves.Event.TheVariants as events
 use Rattle.mcal_base.specs.declared.moves.Event.{Event}
 use Rattle.mcal_base.specs.declared.moves.Move.{Move}
 use Rattle.mcal_base.specs.declared.moves.Move.TheVariants as moves
 use Rattle.mcal_base.specs.declared.notice.NoticeKind.{NoticeKind}
-use Rattle.mcal_base.specs.declared.notice.NoticeKind.TheVariants as notices
 use Rattle.mcal_base.specs.declared.register.Reg.{Reg}
-use Rattle.mcal_base.specs.declared.register.Reg.TheVariants as regs
 use Rattle.mcal_base.specs.declared.service.Service.{Service}
-use Rattle.mcal_base.specs.declared.service.Service.TheVariants as services
 use Rattle.bench_report.specs.Lines.{Line, Holds, Makes, Waits, Notes, Errs, Returns, Leaves, Restarts, Shows, Done, event_text, move_text, head_text, words_text, line_text, reason_text}
 use Rattle.bench_report.specs.Numbers.{IsNumber, HasNumbers, HasMoveNumbers, HasEventNumber, Each}
 use Rattle.bench_report.specs.Registers.{register_text}
@@ -35,213 +28,31 @@ use Rattle.bench_report.specs.declared.rows.Value.TheVariants as values
 use Rattle.trace_reader.specs.Trace.{HasLineNumbers, HasNameNumbers, HasValueNumbers}
 use Rattle.trace_reader.proofs.Digits.{none, none_append, no_feed}
 use Rattle.trace_reader.proofs.LineLaws.{ComesAny, comes}
-use Rattle.trace_reader.proofs.RegisterLaws.{wide}
+use Rattle.trace_reader.proofs.NameLaws.{answer_solid, cause_solid, error_solid, notice_solid, reason_solid, service_solid}
+use Rattle.trace_reader.proofs.RegisterLaws.{register_solid}
+use Rattle.trace_reader.proofs.Splits.{feedless}
 
 -- a line feed
 abbrev pub nl : ℕ → Bool
 nl b = b == 10
 
 cause_feedless : (x : Held) → none nl (held_text x) ≡ true
-cause_feedless causes.Masked = refl
-cause_feedless causes.Level = refl
-cause_feedless causes.Reentry = refl
-cause_feedless causes.Idle = refl
-cause_feedless causes.Full = refl
-cause_feedless causes.Empty = refl
-cause_feedless causes.Busy = refl
-cause_feedless causes.Unknown = refl
-cause_feedless causes.Frames = refl
+cause_feedless x = feedless (held_text x) (cause_solid x)
 
 reason_feedless : (x : Reason) → none nl (reason_text x) ≡ true
-reason_feedless reasons.PowerOn = refl
-reason_feedless reasons.Watchdog = refl
-reason_feedless reasons.Software = refl
+reason_feedless x = feedless (reason_text x) (reason_solid x)
 
 notice_feedless : (x : NoticeKind) → none nl (notice_text x) ≡ true
-notice_feedless notices.GptNotification = refl
-notice_feedless notices.EcuMCheckWakeup = refl
-notice_feedless notices.EcuMSetWakeupEvent = refl
-notice_feedless notices.PwmNotification = refl
-notice_feedless notices.IcuSignalNotification = refl
-notice_feedless notices.IcuTimestampNotification = refl
-notice_feedless notices.AdcNotification = refl
-notice_feedless notices.SpiJobEndNotification = refl
-notice_feedless notices.SpiSeqEndNotification = refl
+notice_feedless x = feedless (notice_text x) (notice_solid x)
 
 answer_feedless : (x : AnswerName) → none nl (answer_text x) ≡ true
-answer_feedless answers.EOk = refl
-answer_feedless answers.ENotOk = refl
-answer_feedless answers.McuPllLocked = refl
-answer_feedless answers.McuPllUnlocked = refl
-answer_feedless answers.McuPllStatusUndefined = refl
-answer_feedless answers.McuPowerOnReset = refl
-answer_feedless answers.McuWatchdogReset = refl
-answer_feedless answers.McuSwReset = refl
-answer_feedless answers.McuResetUndefined = refl
-answer_feedless answers.PwmHigh = refl
-answer_feedless answers.PwmLow = refl
-answer_feedless answers.IcuActive = refl
-answer_feedless answers.IcuIdle = refl
-answer_feedless answers.AdcIdle = refl
-answer_feedless answers.AdcBusy = refl
-answer_feedless answers.AdcCompleted = refl
-answer_feedless answers.AdcStreamCompleted = refl
-answer_feedless answers.SpiUninit = refl
-answer_feedless answers.SpiIdle = refl
-answer_feedless answers.SpiBusy = refl
-answer_feedless answers.SpiJobOk = refl
-answer_feedless answers.SpiJobPending = refl
-answer_feedless answers.SpiJobFailed = refl
-answer_feedless answers.SpiJobQueued = refl
-answer_feedless answers.SpiSeqOk = refl
-answer_feedless answers.SpiSeqPending = refl
-answer_feedless answers.SpiSeqFailed = refl
-answer_feedless answers.SpiSeqCanceled = refl
-answer_feedless answers.StdHigh = refl
-answer_feedless answers.StdLow = refl
+answer_feedless x = feedless (answer_text x) (answer_solid x)
 
 error_feedless : (x : ErrorName) → none nl (error_text x) ≡ true
-error_feedless errors.McuUninit = refl
-error_feedless errors.McuParamRamsection = refl
-error_feedless errors.McuParamClock = refl
-error_feedless errors.McuPllNotLocked = refl
-error_feedless errors.McuParamMode = refl
-error_feedless errors.PortUninit = refl
-error_feedless errors.PortParamPin = refl
-error_feedless errors.PortDirectionUnchangeable = refl
-error_feedless errors.PortParamInvalidMode = refl
-error_feedless errors.PortModeUnchangeable = refl
-error_feedless errors.GptAlreadyInitialized = refl
-error_feedless errors.GptUninit = refl
-error_feedless errors.GptBusy = refl
-error_feedless errors.GptParamChannel = refl
-error_feedless errors.GptParamValue = refl
-error_feedless errors.GptMode = refl
-error_feedless errors.GptParamMode = refl
-error_feedless errors.PwmAlreadyInitialized = refl
-error_feedless errors.PwmUninit = refl
-error_feedless errors.PwmParamChannel = refl
-error_feedless errors.PwmPeriodUnchangeable = refl
-error_feedless errors.IcuAlreadyInitialized = refl
-error_feedless errors.IcuUninit = refl
-error_feedless errors.IcuParamChannel = refl
-error_feedless errors.IcuParamActivation = refl
-error_feedless errors.IcuParamBufferSize = refl
-error_feedless errors.IcuParamNotifyInterval = refl
-error_feedless errors.IcuNotStarted = refl
-error_feedless errors.AdcAlreadyInitialized = refl
-error_feedless errors.AdcUninit = refl
-error_feedless errors.AdcBusy = refl
-error_feedless errors.AdcParamGroup = refl
-error_feedless errors.AdcParamPointer = refl
-error_feedless errors.AdcWrongTriggSrc = refl
-error_feedless errors.AdcBufferUninit = refl
-error_feedless errors.AdcIdle = refl
-error_feedless errors.AdcNotifCapability = refl
-error_feedless errors.SpiAlreadyInitialized = refl
-error_feedless errors.SpiUninit = refl
-error_feedless errors.SpiParamChannel = refl
-error_feedless errors.SpiParamLength = refl
-error_feedless errors.SpiParamSeq = refl
-error_feedless errors.SpiSeqPending = refl
-error_feedless errors.SpiParamJob = refl
-error_feedless errors.SpiParamUnit = refl
-error_feedless errors.SpiSeqInProcess = refl
-error_feedless errors.DioParamInvalidChannelId = refl
-error_feedless errors.DioParamInvalidPortId = refl
-error_feedless errors.DioParamInvalidGroup = refl
-error_feedless errors.WdgDriverState = refl
-error_feedless errors.WdgParamMode = refl
-error_feedless errors.WdgParamTimeout = refl
+error_feedless x = feedless (error_text x) (error_solid x)
 
 service_feedless : (x : Service) → none nl (service_text x) ≡ true
-service_feedless services.McuInit = refl
-service_feedless services.McuInitRamSection = refl
-service_feedless services.McuInitClock = refl
-service_feedless services.McuDistributePllClock = refl
-service_feedless services.McuGetPllStatus = refl
-service_feedless services.McuGetResetReason = refl
-service_feedless services.McuPerformReset = refl
-service_feedless services.McuSetMode = refl
-service_feedless services.PortInit = refl
-service_feedless services.PortSetPinDirection = refl
-service_feedless services.PortRefreshPortDirection = refl
-service_feedless services.PortSetPinMode = refl
-service_feedless services.GptInit = refl
-service_feedless services.GptDeInit = refl
-service_feedless services.GptGetTimeElapsed = refl
-service_feedless services.GptGetTimeRemaining = refl
-service_feedless services.GptStartTimer = refl
-service_feedless services.GptStopTimer = refl
-service_feedless services.GptEnableNotification = refl
-service_feedless services.GptDisableNotification = refl
-service_feedless services.GptSetMode = refl
-service_feedless services.GptEnableWakeup = refl
-service_feedless services.GptDisableWakeup = refl
-service_feedless services.GptCheckWakeup = refl
-service_feedless services.PwmInit = refl
-service_feedless services.PwmDeInit = refl
-service_feedless services.PwmSetDutyCycle = refl
-service_feedless services.PwmSetPeriodAndDuty = refl
-service_feedless services.PwmSetOutputToIdle = refl
-service_feedless services.PwmGetOutputState = refl
-service_feedless services.PwmEnableNotification = refl
-service_feedless services.PwmDisableNotification = refl
-service_feedless services.IcuInit = refl
-service_feedless services.IcuDeInit = refl
-service_feedless services.IcuSetActivationCondition = refl
-service_feedless services.IcuEnableNotification = refl
-service_feedless services.IcuDisableNotification = refl
-service_feedless services.IcuGetInputState = refl
-service_feedless services.IcuEnableEdgeDetection = refl
-service_feedless services.IcuDisableEdgeDetection = refl
-service_feedless services.IcuResetEdgeCount = refl
-service_feedless services.IcuEnableEdgeCount = refl
-service_feedless services.IcuDisableEdgeCount = refl
-service_feedless services.IcuGetEdgeNumbers = refl
-service_feedless services.IcuStartTimestamp = refl
-service_feedless services.IcuStopTimestamp = refl
-service_feedless services.IcuGetTimestampIndex = refl
-service_feedless services.IcuStartSignalMeasurement = refl
-service_feedless services.IcuStopSignalMeasurement = refl
-service_feedless services.IcuGetTimeElapsed = refl
-service_feedless services.IcuGetDutyCycleValues = refl
-service_feedless services.AdcInit = refl
-service_feedless services.AdcDeInit = refl
-service_feedless services.AdcSetupResultBuffer = refl
-service_feedless services.AdcStartGroupConversion = refl
-service_feedless services.AdcStopGroupConversion = refl
-service_feedless services.AdcReadGroup = refl
-service_feedless services.AdcEnableHardwareTrigger = refl
-service_feedless services.AdcDisableHardwareTrigger = refl
-service_feedless services.AdcEnableGroupNotification = refl
-service_feedless services.AdcDisableGroupNotification = refl
-service_feedless services.AdcGetGroupStatus = refl
-service_feedless services.AdcGetStreamLastPointer = refl
-service_feedless services.SpiInit = refl
-service_feedless services.SpiDeInit = refl
-service_feedless services.SpiWriteIb = refl
-service_feedless services.SpiReadIb = refl
-service_feedless services.SpiSetupEb = refl
-service_feedless services.SpiAsyncTransmit = refl
-service_feedless services.SpiCancel = refl
-service_feedless services.SpiGetStatus = refl
-service_feedless services.SpiGetJobResult = refl
-service_feedless services.SpiGetSequenceResult = refl
-service_feedless services.SpiGetHwUnitStatus = refl
-service_feedless services.SpiSetAsyncMode = refl
-service_feedless services.SpiMainFunctionHandling = refl
-service_feedless services.SpiSyncTransmit = refl
-service_feedless services.DioReadChannel = refl
-service_feedless services.DioFlipChannel = refl
-service_feedless services.DioWriteChannel = refl
-service_feedless services.DioReadPort = refl
-service_feedless services.DioWritePort = refl
-service_feedless services.DioReadChannelGroup = refl
-service_feedless services.DioWriteChannelGroup = refl
-service_feedless services.WdgInit = refl
-service_feedless services.WdgSetMode = refl
-service_feedless services.WdgSetTriggerCondition = refl
+service_feedless x = feedless (service_text x) (service_solid x)
 
 -- a number before letters
 before : (n : ℕ) (b : List ℕ) → IsNumber n → none nl b ≡ true → none nl (decimal n ++ b) ≡ true
@@ -252,70 +63,7 @@ behind : (a b : List ℕ) → none nl a ≡ true → none nl b ≡ true → none
 behind a b h k = none_append nl a (codes " " ++ b) h k
 
 register_feedless : (r : Reg) → HasNumbers r → none nl (register_text r) ≡ true
-register_feedless regs.EnableSet h = refl
-register_feedless regs.EnableClear h = refl
-register_feedless (regs.TimerTarget n) h = before n (codes ".TARGET") h refl
-register_feedless (regs.TimerPrescaler n) h = before n (codes ".PRE") h refl
-register_feedless regs.TimerOneShot h = refl
-register_feedless regs.TimerGateSet h = refl
-register_feedless regs.TimerGateClear h = refl
-register_feedless regs.TimerRun h = refl
-register_feedless regs.TimerFlags h = refl
-register_feedless regs.TimerZero h = refl
-register_feedless (regs.TimerLow n) h = before n (codes ".LOW") h refl
-register_feedless (regs.TimerHigh n) h = before n (codes ".HIGH") h refl
-register_feedless (regs.PulsePeriod n) h = before n (codes ".PERIOD") h refl
-register_feedless (regs.PulseDuty n) h = before n (codes ".DUTY") h refl
-register_feedless (regs.PulsePolarity n) h = before n (codes ".POL") h refl
-register_feedless (regs.PulseCommit n) h = before n (codes ".COMMIT") h refl
-register_feedless (regs.PulseIdle n) h = before n (codes ".IDLE") h refl
-register_feedless (regs.PulseOut n) h = before n (codes ".OUT") h refl
-register_feedless regs.PulseEdges h = refl
-register_feedless regs.PulseFlags h = refl
-register_feedless (regs.CaptureCondition n) h = before n (codes ".COND") h refl
-register_feedless (regs.CaptureMode n) h = before n (codes ".MODE") h refl
-register_feedless regs.CaptureGateSet h = refl
-register_feedless regs.CaptureGateClear h = refl
-register_feedless (regs.CaptureCountLow n) h = before n (codes ".COUNTLOW") h refl
-register_feedless (regs.CaptureCountHigh n) h = before n (codes ".COUNTHIGH") h refl
-register_feedless (regs.CaptureZero n) h = before n (codes ".ZERO") h refl
-register_feedless (regs.CaptureTimeLow n) h = before n (codes ".TIMELOW") h refl
-register_feedless (regs.CaptureTimeHigh n) h = before n (codes ".TIMEHIGH") h refl
-register_feedless (regs.CaptureInfo n) h = before n (codes ".INFO") h refl
-register_feedless (regs.CapturePop n) h = before n (codes ".POP") h refl
-register_feedless (regs.CaptureFlush n) h = before n (codes ".FLUSH") h refl
-register_feedless (regs.ConverterList n k) h = before n (codes ".LIST" ++ (decimal k ++ [])) (wide n h.0) (before k [] (wide k h.1) refl)
-register_feedless (regs.ConverterGo n) h = before n (codes ".GO") h refl
-register_feedless (regs.ConverterState n) h = before n (codes ".STATE") h refl
-register_feedless (regs.ConverterResult n k) h = before n (codes ".RESULT" ++ (decimal k ++ [])) (wide n h.0) (before k [] (wide k h.1) refl)
-register_feedless (regs.ConverterDone n) h = before n (codes ".DONE") h refl
-register_feedless (regs.ConverterAbort n) h = before n (codes ".ABORT") h refl
-register_feedless (regs.ConverterAck n) h = before n (codes ".ACK") h refl
-register_feedless regs.TriggerSet h = refl
-register_feedless regs.TriggerClear h = refl
-register_feedless regs.TriggerFlags h = refl
-register_feedless (regs.SerialSelect n) h = before n (codes ".SELECT") h refl
-register_feedless (regs.SerialWidth n) h = before n (codes ".WIDTH") h refl
-register_feedless (regs.SerialData n) h = before n (codes ".DATA") h refl
-register_feedless (regs.SerialReceived n) h = before n (codes ".RX") h refl
-register_feedless (regs.SerialState n) h = before n (codes ".STATE") h refl
-register_feedless (regs.SerialWait n) h = before n (codes ".WAIT") h refl
-register_feedless (regs.SerialAck n) h = before n (codes ".ACK") h refl
-register_feedless (regs.PinDirectionSet n) h = before n (codes "") h refl
-register_feedless (regs.PinDirectionClear n) h = before n (codes "") h refl
-register_feedless (regs.PinOutSet n) h = before n (codes "") h refl
-register_feedless (regs.PinOutClear n) h = before n (codes "") h refl
-register_feedless (regs.PinMode n) h = before n (codes ".MODE") h refl
-register_feedless (regs.PortPut n) h = before n (codes ".PUT") h refl
-register_feedless (regs.PortLevels n) h = before n (codes ".IN") h refl
-register_feedless (regs.PinFlip n) h = before n (codes ".FLIP") h refl
-register_feedless regs.ClockPll h = refl
-register_feedless regs.ClockLock h = refl
-register_feedless regs.ClockRate h = refl
-register_feedless regs.ResetReason h = refl
-register_feedless regs.ResetRequest h = refl
-register_feedless regs.WatchdogLoad h = refl
-register_feedless (regs.Ram n) h = before n (codes "") h refl
+register_feedless r h = feedless (register_text r) (register_solid r h)
 
 found_feedless : (word : List ℕ) (b : Bool) (service : Service) (error : List ℕ) → none nl word ≡ true → none nl error ≡ true → none nl ((if b then codes "runtime" else word) ++ (codes " " ++ (service_text service ++ (codes " " ++ error)))) ≡ true
 found_feedless word true service error w h = behind (service_text service) error (service_feedless service) h

@@ -1,4 +1,4 @@
--- Each name is found by its word, and no word of a name has a space.
+-- Each name is found by its word, and no word of a name has a space or a line feed.
 use Rattle.std.proofs.Common.{◌≡◌, true, false, Option, Some, None, refl, ◌∙◌, ap, sym}
 use Rattle.std.specs.Prelude.{Ok}
 use Rattle.det_errors.specs.Spelling.{error_text}
@@ -23,7 +23,7 @@ use Rattle.bench_script.specs.Words.{named, all_services}
 use Rattle.bench_script.proofs.Choices.{service_again as spelled_again}
 use Rattle.trace_reader.specs.Names.{all_causes, all_reasons, all_notices, all_answers, all_errors}
 use Rattle.trace_reader.proofs.Digits.{none}
-use Rattle.trace_reader.proofs.Splits.{sp}
+use Rattle.trace_reader.proofs.Splits.{sp, blank, spaceless}
 
 pub cause_again : (x : Held) → named held_text all_causes (held_text x) ≡ Some x
 cause_again causes.Masked = refl
@@ -36,26 +36,32 @@ cause_again causes.Busy = refl
 cause_again causes.Unknown = refl
 cause_again causes.Frames = refl
 
+pub cause_solid : (x : Held) → none blank (held_text x) ≡ true
+cause_solid causes.Masked = refl
+cause_solid causes.Level = refl
+cause_solid causes.Reentry = refl
+cause_solid causes.Idle = refl
+cause_solid causes.Full = refl
+cause_solid causes.Empty = refl
+cause_solid causes.Busy = refl
+cause_solid causes.Unknown = refl
+cause_solid causes.Frames = refl
+
 pub cause_plain : (x : Held) → none sp (held_text x) ≡ true
-cause_plain causes.Masked = refl
-cause_plain causes.Level = refl
-cause_plain causes.Reentry = refl
-cause_plain causes.Idle = refl
-cause_plain causes.Full = refl
-cause_plain causes.Empty = refl
-cause_plain causes.Busy = refl
-cause_plain causes.Unknown = refl
-cause_plain causes.Frames = refl
+cause_plain x = spaceless (held_text x) (cause_solid x)
 
 pub reason_again : (x : Reason) → named reason_text all_reasons (reason_text x) ≡ Some x
 reason_again reasons.PowerOn = refl
 reason_again reasons.Watchdog = refl
 reason_again reasons.Software = refl
 
+pub reason_solid : (x : Reason) → none blank (reason_text x) ≡ true
+reason_solid reasons.PowerOn = refl
+reason_solid reasons.Watchdog = refl
+reason_solid reasons.Software = refl
+
 pub reason_plain : (x : Reason) → none sp (reason_text x) ≡ true
-reason_plain reasons.PowerOn = refl
-reason_plain reasons.Watchdog = refl
-reason_plain reasons.Software = refl
+reason_plain x = spaceless (reason_text x) (reason_solid x)
 
 pub notice_again : (x : NoticeKind) → named notice_text all_notices (notice_text x) ≡ Some x
 notice_again notices.GptNotification = refl
@@ -68,16 +74,19 @@ notice_again notices.AdcNotification = refl
 notice_again notices.SpiJobEndNotification = refl
 notice_again notices.SpiSeqEndNotification = refl
 
+pub notice_solid : (x : NoticeKind) → none blank (notice_text x) ≡ true
+notice_solid notices.GptNotification = refl
+notice_solid notices.EcuMCheckWakeup = refl
+notice_solid notices.EcuMSetWakeupEvent = refl
+notice_solid notices.PwmNotification = refl
+notice_solid notices.IcuSignalNotification = refl
+notice_solid notices.IcuTimestampNotification = refl
+notice_solid notices.AdcNotification = refl
+notice_solid notices.SpiJobEndNotification = refl
+notice_solid notices.SpiSeqEndNotification = refl
+
 pub notice_plain : (x : NoticeKind) → none sp (notice_text x) ≡ true
-notice_plain notices.GptNotification = refl
-notice_plain notices.EcuMCheckWakeup = refl
-notice_plain notices.EcuMSetWakeupEvent = refl
-notice_plain notices.PwmNotification = refl
-notice_plain notices.IcuSignalNotification = refl
-notice_plain notices.IcuTimestampNotification = refl
-notice_plain notices.AdcNotification = refl
-notice_plain notices.SpiJobEndNotification = refl
-notice_plain notices.SpiSeqEndNotification = refl
+notice_plain x = spaceless (notice_text x) (notice_solid x)
 
 pub answer_again : (x : AnswerName) → named answer_text all_answers (answer_text x) ≡ Some x
 answer_again answers.EOk = refl
@@ -111,37 +120,40 @@ answer_again answers.SpiSeqCanceled = refl
 answer_again answers.StdHigh = refl
 answer_again answers.StdLow = refl
 
+pub answer_solid : (x : AnswerName) → none blank (answer_text x) ≡ true
+answer_solid answers.EOk = refl
+answer_solid answers.ENotOk = refl
+answer_solid answers.McuPllLocked = refl
+answer_solid answers.McuPllUnlocked = refl
+answer_solid answers.McuPllStatusUndefined = refl
+answer_solid answers.McuPowerOnReset = refl
+answer_solid answers.McuWatchdogReset = refl
+answer_solid answers.McuSwReset = refl
+answer_solid answers.McuResetUndefined = refl
+answer_solid answers.PwmHigh = refl
+answer_solid answers.PwmLow = refl
+answer_solid answers.IcuActive = refl
+answer_solid answers.IcuIdle = refl
+answer_solid answers.AdcIdle = refl
+answer_solid answers.AdcBusy = refl
+answer_solid answers.AdcCompleted = refl
+answer_solid answers.AdcStreamCompleted = refl
+answer_solid answers.SpiUninit = refl
+answer_solid answers.SpiIdle = refl
+answer_solid answers.SpiBusy = refl
+answer_solid answers.SpiJobOk = refl
+answer_solid answers.SpiJobPending = refl
+answer_solid answers.SpiJobFailed = refl
+answer_solid answers.SpiJobQueued = refl
+answer_solid answers.SpiSeqOk = refl
+answer_solid answers.SpiSeqPending = refl
+answer_solid answers.SpiSeqFailed = refl
+answer_solid answers.SpiSeqCanceled = refl
+answer_solid answers.StdHigh = refl
+answer_solid answers.StdLow = refl
+
 pub answer_plain : (x : AnswerName) → none sp (answer_text x) ≡ true
-answer_plain answers.EOk = refl
-answer_plain answers.ENotOk = refl
-answer_plain answers.McuPllLocked = refl
-answer_plain answers.McuPllUnlocked = refl
-answer_plain answers.McuPllStatusUndefined = refl
-answer_plain answers.McuPowerOnReset = refl
-answer_plain answers.McuWatchdogReset = refl
-answer_plain answers.McuSwReset = refl
-answer_plain answers.McuResetUndefined = refl
-answer_plain answers.PwmHigh = refl
-answer_plain answers.PwmLow = refl
-answer_plain answers.IcuActive = refl
-answer_plain answers.IcuIdle = refl
-answer_plain answers.AdcIdle = refl
-answer_plain answers.AdcBusy = refl
-answer_plain answers.AdcCompleted = refl
-answer_plain answers.AdcStreamCompleted = refl
-answer_plain answers.SpiUninit = refl
-answer_plain answers.SpiIdle = refl
-answer_plain answers.SpiBusy = refl
-answer_plain answers.SpiJobOk = refl
-answer_plain answers.SpiJobPending = refl
-answer_plain answers.SpiJobFailed = refl
-answer_plain answers.SpiJobQueued = refl
-answer_plain answers.SpiSeqOk = refl
-answer_plain answers.SpiSeqPending = refl
-answer_plain answers.SpiSeqFailed = refl
-answer_plain answers.SpiSeqCanceled = refl
-answer_plain answers.StdHigh = refl
-answer_plain answers.StdLow = refl
+answer_plain x = spaceless (answer_text x) (answer_solid x)
 
 pub error_again : (x : ErrorName) → named error_text all_errors (error_text x) ≡ Some x
 error_again errors.McuUninit = refl
@@ -197,59 +209,62 @@ error_again errors.WdgDriverState = refl
 error_again errors.WdgParamMode = refl
 error_again errors.WdgParamTimeout = refl
 
+pub error_solid : (x : ErrorName) → none blank (error_text x) ≡ true
+error_solid errors.McuUninit = refl
+error_solid errors.McuParamRamsection = refl
+error_solid errors.McuParamClock = refl
+error_solid errors.McuPllNotLocked = refl
+error_solid errors.McuParamMode = refl
+error_solid errors.PortUninit = refl
+error_solid errors.PortParamPin = refl
+error_solid errors.PortDirectionUnchangeable = refl
+error_solid errors.PortParamInvalidMode = refl
+error_solid errors.PortModeUnchangeable = refl
+error_solid errors.GptAlreadyInitialized = refl
+error_solid errors.GptUninit = refl
+error_solid errors.GptBusy = refl
+error_solid errors.GptParamChannel = refl
+error_solid errors.GptParamValue = refl
+error_solid errors.GptMode = refl
+error_solid errors.GptParamMode = refl
+error_solid errors.PwmAlreadyInitialized = refl
+error_solid errors.PwmUninit = refl
+error_solid errors.PwmParamChannel = refl
+error_solid errors.PwmPeriodUnchangeable = refl
+error_solid errors.IcuAlreadyInitialized = refl
+error_solid errors.IcuUninit = refl
+error_solid errors.IcuParamChannel = refl
+error_solid errors.IcuParamActivation = refl
+error_solid errors.IcuParamBufferSize = refl
+error_solid errors.IcuParamNotifyInterval = refl
+error_solid errors.IcuNotStarted = refl
+error_solid errors.AdcAlreadyInitialized = refl
+error_solid errors.AdcUninit = refl
+error_solid errors.AdcBusy = refl
+error_solid errors.AdcParamGroup = refl
+error_solid errors.AdcParamPointer = refl
+error_solid errors.AdcWrongTriggSrc = refl
+error_solid errors.AdcBufferUninit = refl
+error_solid errors.AdcIdle = refl
+error_solid errors.AdcNotifCapability = refl
+error_solid errors.SpiAlreadyInitialized = refl
+error_solid errors.SpiUninit = refl
+error_solid errors.SpiParamChannel = refl
+error_solid errors.SpiParamLength = refl
+error_solid errors.SpiParamSeq = refl
+error_solid errors.SpiSeqPending = refl
+error_solid errors.SpiParamJob = refl
+error_solid errors.SpiParamUnit = refl
+error_solid errors.SpiSeqInProcess = refl
+error_solid errors.DioParamInvalidChannelId = refl
+error_solid errors.DioParamInvalidPortId = refl
+error_solid errors.DioParamInvalidGroup = refl
+error_solid errors.WdgDriverState = refl
+error_solid errors.WdgParamMode = refl
+error_solid errors.WdgParamTimeout = refl
+
 pub error_plain : (x : ErrorName) → none sp (error_text x) ≡ true
-error_plain errors.McuUninit = refl
-error_plain errors.McuParamRamsection = refl
-error_plain errors.McuParamClock = refl
-error_plain errors.McuPllNotLocked = refl
-error_plain errors.McuParamMode = refl
-error_plain errors.PortUninit = refl
-error_plain errors.PortParamPin = refl
-error_plain errors.PortDirectionUnchangeable = refl
-error_plain errors.PortParamInvalidMode = refl
-error_plain errors.PortModeUnchangeable = refl
-error_plain errors.GptAlreadyInitialized = refl
-error_plain errors.GptUninit = refl
-error_plain errors.GptBusy = refl
-error_plain errors.GptParamChannel = refl
-error_plain errors.GptParamValue = refl
-error_plain errors.GptMode = refl
-error_plain errors.GptParamMode = refl
-error_plain errors.PwmAlreadyInitialized = refl
-error_plain errors.PwmUninit = refl
-error_plain errors.PwmParamChannel = refl
-error_plain errors.PwmPeriodUnchangeable = refl
-error_plain errors.IcuAlreadyInitialized = refl
-error_plain errors.IcuUninit = refl
-error_plain errors.IcuParamChannel = refl
-error_plain errors.IcuParamActivation = refl
-error_plain errors.IcuParamBufferSize = refl
-error_plain errors.IcuParamNotifyInterval = refl
-error_plain errors.IcuNotStarted = refl
-error_plain errors.AdcAlreadyInitialized = refl
-error_plain errors.AdcUninit = refl
-error_plain errors.AdcBusy = refl
-error_plain errors.AdcParamGroup = refl
-error_plain errors.AdcParamPointer = refl
-error_plain errors.AdcWrongTriggSrc = refl
-error_plain errors.AdcBufferUninit = refl
-error_plain errors.AdcIdle = refl
-error_plain errors.AdcNotifCapability = refl
-error_plain errors.SpiAlreadyInitialized = refl
-error_plain errors.SpiUninit = refl
-error_plain errors.SpiParamChannel = refl
-error_plain errors.SpiParamLength = refl
-error_plain errors.SpiParamSeq = refl
-error_plain errors.SpiSeqPending = refl
-error_plain errors.SpiParamJob = refl
-error_plain errors.SpiParamUnit = refl
-error_plain errors.SpiSeqInProcess = refl
-error_plain errors.DioParamInvalidChannelId = refl
-error_plain errors.DioParamInvalidPortId = refl
-error_plain errors.DioParamInvalidGroup = refl
-error_plain errors.WdgDriverState = refl
-error_plain errors.WdgParamMode = refl
-error_plain errors.WdgParamTimeout = refl
+error_plain x = spaceless (error_text x) (error_solid x)
 
 known_some : (o : Option Service) (x : Service) → known o ≡ Ok x → o ≡ Some x
 known_some None x e = cc
@@ -258,94 +273,97 @@ known_some (Some y) x e = cc
 pub service_again : (x : Service) → named service_text all_services (service_text x) ≡ Some x
 service_again x = known_some (named service_text all_services (service_text x)) x (spelled_again x)
 
+pub service_solid : (x : Service) → none blank (service_text x) ≡ true
+service_solid services.McuInit = refl
+service_solid services.McuInitRamSection = refl
+service_solid services.McuInitClock = refl
+service_solid services.McuDistributePllClock = refl
+service_solid services.McuGetPllStatus = refl
+service_solid services.McuGetResetReason = refl
+service_solid services.McuPerformReset = refl
+service_solid services.McuSetMode = refl
+service_solid services.PortInit = refl
+service_solid services.PortSetPinDirection = refl
+service_solid services.PortRefreshPortDirection = refl
+service_solid services.PortSetPinMode = refl
+service_solid services.GptInit = refl
+service_solid services.GptDeInit = refl
+service_solid services.GptGetTimeElapsed = refl
+service_solid services.GptGetTimeRemaining = refl
+service_solid services.GptStartTimer = refl
+service_solid services.GptStopTimer = refl
+service_solid services.GptEnableNotification = refl
+service_solid services.GptDisableNotification = refl
+service_solid services.GptSetMode = refl
+service_solid services.GptEnableWakeup = refl
+service_solid services.GptDisableWakeup = refl
+service_solid services.GptCheckWakeup = refl
+service_solid services.PwmInit = refl
+service_solid services.PwmDeInit = refl
+service_solid services.PwmSetDutyCycle = refl
+service_solid services.PwmSetPeriodAndDuty = refl
+service_solid services.PwmSetOutputToIdle = refl
+service_solid services.PwmGetOutputState = refl
+service_solid services.PwmEnableNotification = refl
+service_solid services.PwmDisableNotification = refl
+service_solid services.IcuInit = refl
+service_solid services.IcuDeInit = refl
+service_solid services.IcuSetActivationCondition = refl
+service_solid services.IcuEnableNotification = refl
+service_solid services.IcuDisableNotification = refl
+service_solid services.IcuGetInputState = refl
+service_solid services.IcuEnableEdgeDetection = refl
+service_solid services.IcuDisableEdgeDetection = refl
+service_solid services.IcuResetEdgeCount = refl
+service_solid services.IcuEnableEdgeCount = refl
+service_solid services.IcuDisableEdgeCount = refl
+service_solid services.IcuGetEdgeNumbers = refl
+service_solid services.IcuStartTimestamp = refl
+service_solid services.IcuStopTimestamp = refl
+service_solid services.IcuGetTimestampIndex = refl
+service_solid services.IcuStartSignalMeasurement = refl
+service_solid services.IcuStopSignalMeasurement = refl
+service_solid services.IcuGetTimeElapsed = refl
+service_solid services.IcuGetDutyCycleValues = refl
+service_solid services.AdcInit = refl
+service_solid services.AdcDeInit = refl
+service_solid services.AdcSetupResultBuffer = refl
+service_solid services.AdcStartGroupConversion = refl
+service_solid services.AdcStopGroupConversion = refl
+service_solid services.AdcReadGroup = refl
+service_solid services.AdcEnableHardwareTrigger = refl
+service_solid services.AdcDisableHardwareTrigger = refl
+service_solid services.AdcEnableGroupNotification = refl
+service_solid services.AdcDisableGroupNotification = refl
+service_solid services.AdcGetGroupStatus = refl
+service_solid services.AdcGetStreamLastPointer = refl
+service_solid services.SpiInit = refl
+service_solid services.SpiDeInit = refl
+service_solid services.SpiWriteIb = refl
+service_solid services.SpiReadIb = refl
+service_solid services.SpiSetupEb = refl
+service_solid services.SpiAsyncTransmit = refl
+service_solid services.SpiCancel = refl
+service_solid services.SpiGetStatus = refl
+service_solid services.SpiGetJobResult = refl
+service_solid services.SpiGetSequenceResult = refl
+service_solid services.SpiGetHwUnitStatus = refl
+service_solid services.SpiSetAsyncMode = refl
+service_solid services.SpiMainFunctionHandling = refl
+service_solid services.SpiSyncTransmit = refl
+service_solid services.DioReadChannel = refl
+service_solid services.DioFlipChannel = refl
+service_solid services.DioWriteChannel = refl
+service_solid services.DioReadPort = refl
+service_solid services.DioWritePort = refl
+service_solid services.DioReadChannelGroup = refl
+service_solid services.DioWriteChannelGroup = refl
+service_solid services.WdgInit = refl
+service_solid services.WdgSetMode = refl
+service_solid services.WdgSetTriggerCondition = refl
+
 pub service_plain : (x : Service) → none sp (service_text x) ≡ true
-service_plain services.McuInit = refl
-service_plain services.McuInitRamSection = refl
-service_plain services.McuInitClock = refl
-service_plain services.McuDistributePllClock = refl
-service_plain services.McuGetPllStatus = refl
-service_plain services.McuGetResetReason = refl
-service_plain services.McuPerformReset = refl
-service_plain services.McuSetMode = refl
-service_plain services.PortInit = refl
-service_plain services.PortSetPinDirection = refl
-service_plain services.PortRefreshPortDirection = refl
-service_plain services.PortSetPinMode = refl
-service_plain services.GptInit = refl
-service_plain services.GptDeInit = refl
-service_plain services.GptGetTimeElapsed = refl
-service_plain services.GptGetTimeRemaining = refl
-service_plain services.GptStartTimer = refl
-service_plain services.GptStopTimer = refl
-service_plain services.GptEnableNotification = refl
-service_plain services.GptDisableNotification = refl
-service_plain services.GptSetMode = refl
-service_plain services.GptEnableWakeup = refl
-service_plain services.GptDisableWakeup = refl
-service_plain services.GptCheckWakeup = refl
-service_plain services.PwmInit = refl
-service_plain services.PwmDeInit = refl
-service_plain services.PwmSetDutyCycle = refl
-service_plain services.PwmSetPeriodAndDuty = refl
-service_plain services.PwmSetOutputToIdle = refl
-service_plain services.PwmGetOutputState = refl
-service_plain services.PwmEnableNotification = refl
-service_plain services.PwmDisableNotification = refl
-service_plain services.IcuInit = refl
-service_plain services.IcuDeInit = refl
-service_plain services.IcuSetActivationCondition = refl
-service_plain services.IcuEnableNotification = refl
-service_plain services.IcuDisableNotification = refl
-service_plain services.IcuGetInputState = refl
-service_plain services.IcuEnableEdgeDetection = refl
-service_plain services.IcuDisableEdgeDetection = refl
-service_plain services.IcuResetEdgeCount = refl
-service_plain services.IcuEnableEdgeCount = refl
-service_plain services.IcuDisableEdgeCount = refl
-service_plain services.IcuGetEdgeNumbers = refl
-service_plain services.IcuStartTimestamp = refl
-service_plain services.IcuStopTimestamp = refl
-service_plain services.IcuGetTimestampIndex = refl
-service_plain services.IcuStartSignalMeasurement = refl
-service_plain services.IcuStopSignalMeasurement = refl
-service_plain services.IcuGetTimeElapsed = refl
-service_plain services.IcuGetDutyCycleValues = refl
-service_plain services.AdcInit = refl
-service_plain services.AdcDeInit = refl
-service_plain services.AdcSetupResultBuffer = refl
-service_plain services.AdcStartGroupConversion = refl
-service_plain services.AdcStopGroupConversion = refl
-service_plain services.AdcReadGroup = refl
-service_plain services.AdcEnableHardwareTrigger = refl
-service_plain services.AdcDisableHardwareTrigger = refl
-service_plain services.AdcEnableGroupNotification = refl
-service_plain services.AdcDisableGroupNotification = refl
-service_plain services.AdcGetGroupStatus = refl
-service_plain services.AdcGetStreamLastPointer = refl
-service_plain services.SpiInit = refl
-service_plain services.SpiDeInit = refl
-service_plain services.SpiWriteIb = refl
-service_plain services.SpiReadIb = refl
-service_plain services.SpiSetupEb = refl
-service_plain services.SpiAsyncTransmit = refl
-service_plain services.SpiCancel = refl
-service_plain services.SpiGetStatus = refl
-service_plain services.SpiGetJobResult = refl
-service_plain services.SpiGetSequenceResult = refl
-service_plain services.SpiGetHwUnitStatus = refl
-service_plain services.SpiSetAsyncMode = refl
-service_plain services.SpiMainFunctionHandling = refl
-service_plain services.SpiSyncTransmit = refl
-service_plain services.DioReadChannel = refl
-service_plain services.DioFlipChannel = refl
-service_plain services.DioWriteChannel = refl
-service_plain services.DioReadPort = refl
-service_plain services.DioWritePort = refl
-service_plain services.DioReadChannelGroup = refl
-service_plain services.DioWriteChannelGroup = refl
-service_plain services.WdgInit = refl
-service_plain services.WdgSetMode = refl
-service_plain services.WdgSetTriggerCondition = refl
+service_plain x = spaceless (service_text x) (service_solid x)
 
 -- no name of an answer begins with a digit
 pub answer_letter : (x : AnswerName) → is_numeral (answer_text x) ≡ false

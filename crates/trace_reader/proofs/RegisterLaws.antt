@@ -1,4 +1,4 @@
--- Each register is found by its word, and no word of a register has a space.
+-- Each register is found by its word, and no word of a register has a space or a line feed.
 use Rattle.std.proofs.Common.{◌≡◌, ℕ, ◌<◌, List, [], ◌++◌, true, Some, refl, ◌∙◌, ap, arith}
 use Rattle.std.specs.Prelude.{codes, decimal, min}
 use Rattle.std.specs.Char.{is_ascii_digit}
@@ -10,8 +10,8 @@ use Rattle.bench_report.specs.Registers.{register_text}
 use Rattle.trace_reader.specs.Guess.{register}
 use Rattle.trace_reader.specs.Numbers.{number, front, rest, is_letter}
 use Rattle.trace_reader.specs.Registers.{rows, chosen}
-use Rattle.trace_reader.proofs.Digits.{none, starts, none_append, number_again, no_space, no_letter, starts_number}
-use Rattle.trace_reader.proofs.Splits.{sp, front_at, rest_at, front_all, rest_all}
+use Rattle.trace_reader.proofs.Digits.{none, starts, none_append, number_again, no_blank, no_letter, starts_number}
+use Rattle.trace_reader.proofs.Splits.{sp, blank, spaceless, front_at, rest_at, front_all, rest_all}
 
 -- a word by its parts
 pub by_parts : (w m c a b : List ℕ) (n k : ℕ) → rest is_ascii_digit w ≡ m → rest is_letter m ≡ c → number (front is_letter m) ≡ Some n → number (rest is_ascii_digit c) ≡ Some k → front is_ascii_digit w ≡ a → front is_ascii_digit c ≡ b → register w ≡ chosen (rows n k) a b
@@ -112,72 +112,75 @@ register_again regs.ResetRequest h = refl
 register_again regs.WatchdogLoad h = refl
 register_again (regs.Ram n) h = one (codes "R") (codes "") n refl refl refl h
 
--- a number between letters has no space
-between : (n : ℕ) (b : List ℕ) → IsNumber n → none sp b ≡ true → none sp (decimal n ++ b) ≡ true
-between n b h k = none_append sp (decimal n) b (no_space n h) k
+-- a number between letters has neither
+between : (n : ℕ) (b : List ℕ) → IsNumber n → none blank b ≡ true → none blank (decimal n ++ b) ≡ true
+between n b h k = none_append blank (decimal n) b (no_blank n h) k
+
+pub register_solid : (r : Reg) → HasNumbers r → none blank (register_text r) ≡ true
+register_solid regs.EnableSet h = refl
+register_solid regs.EnableClear h = refl
+register_solid (regs.TimerTarget n) h = between n (codes ".TARGET") h refl
+register_solid (regs.TimerPrescaler n) h = between n (codes ".PRE") h refl
+register_solid regs.TimerOneShot h = refl
+register_solid regs.TimerGateSet h = refl
+register_solid regs.TimerGateClear h = refl
+register_solid regs.TimerRun h = refl
+register_solid regs.TimerFlags h = refl
+register_solid regs.TimerZero h = refl
+register_solid (regs.TimerLow n) h = between n (codes ".LOW") h refl
+register_solid (regs.TimerHigh n) h = between n (codes ".HIGH") h refl
+register_solid (regs.PulsePeriod n) h = between n (codes ".PERIOD") h refl
+register_solid (regs.PulseDuty n) h = between n (codes ".DUTY") h refl
+register_solid (regs.PulsePolarity n) h = between n (codes ".POL") h refl
+register_solid (regs.PulseCommit n) h = between n (codes ".COMMIT") h refl
+register_solid (regs.PulseIdle n) h = between n (codes ".IDLE") h refl
+register_solid (regs.PulseOut n) h = between n (codes ".OUT") h refl
+register_solid regs.PulseEdges h = refl
+register_solid regs.PulseFlags h = refl
+register_solid (regs.CaptureCondition n) h = between n (codes ".COND") h refl
+register_solid (regs.CaptureMode n) h = between n (codes ".MODE") h refl
+register_solid regs.CaptureGateSet h = refl
+register_solid regs.CaptureGateClear h = refl
+register_solid (regs.CaptureCountLow n) h = between n (codes ".COUNTLOW") h refl
+register_solid (regs.CaptureCountHigh n) h = between n (codes ".COUNTHIGH") h refl
+register_solid (regs.CaptureZero n) h = between n (codes ".ZERO") h refl
+register_solid (regs.CaptureTimeLow n) h = between n (codes ".TIMELOW") h refl
+register_solid (regs.CaptureTimeHigh n) h = between n (codes ".TIMEHIGH") h refl
+register_solid (regs.CaptureInfo n) h = between n (codes ".INFO") h refl
+register_solid (regs.CapturePop n) h = between n (codes ".POP") h refl
+register_solid (regs.CaptureFlush n) h = between n (codes ".FLUSH") h refl
+register_solid (regs.ConverterList n k) h = between n (codes ".LIST" ++ (decimal k ++ [])) (wide n h.0) (between k [] (wide k h.1) refl)
+register_solid (regs.ConverterGo n) h = between n (codes ".GO") h refl
+register_solid (regs.ConverterState n) h = between n (codes ".STATE") h refl
+register_solid (regs.ConverterResult n k) h = between n (codes ".RESULT" ++ (decimal k ++ [])) (wide n h.0) (between k [] (wide k h.1) refl)
+register_solid (regs.ConverterDone n) h = between n (codes ".DONE") h refl
+register_solid (regs.ConverterAbort n) h = between n (codes ".ABORT") h refl
+register_solid (regs.ConverterAck n) h = between n (codes ".ACK") h refl
+register_solid regs.TriggerSet h = refl
+register_solid regs.TriggerClear h = refl
+register_solid regs.TriggerFlags h = refl
+register_solid (regs.SerialSelect n) h = between n (codes ".SELECT") h refl
+register_solid (regs.SerialWidth n) h = between n (codes ".WIDTH") h refl
+register_solid (regs.SerialData n) h = between n (codes ".DATA") h refl
+register_solid (regs.SerialReceived n) h = between n (codes ".RX") h refl
+register_solid (regs.SerialState n) h = between n (codes ".STATE") h refl
+register_solid (regs.SerialWait n) h = between n (codes ".WAIT") h refl
+register_solid (regs.SerialAck n) h = between n (codes ".ACK") h refl
+register_solid (regs.PinDirectionSet n) h = between n (codes "") h refl
+register_solid (regs.PinDirectionClear n) h = between n (codes "") h refl
+register_solid (regs.PinOutSet n) h = between n (codes "") h refl
+register_solid (regs.PinOutClear n) h = between n (codes "") h refl
+register_solid (regs.PinMode n) h = between n (codes ".MODE") h refl
+register_solid (regs.PortPut n) h = between n (codes ".PUT") h refl
+register_solid (regs.PortLevels n) h = between n (codes ".IN") h refl
+register_solid (regs.PinFlip n) h = between n (codes ".FLIP") h refl
+register_solid regs.ClockPll h = refl
+register_solid regs.ClockLock h = refl
+register_solid regs.ClockRate h = refl
+register_solid regs.ResetReason h = refl
+register_solid regs.ResetRequest h = refl
+register_solid regs.WatchdogLoad h = refl
+register_solid (regs.Ram n) h = between n (codes "") h refl
 
 pub register_plain : (r : Reg) → HasNumbers r → none sp (register_text r) ≡ true
-register_plain regs.EnableSet h = refl
-register_plain regs.EnableClear h = refl
-register_plain (regs.TimerTarget n) h = between n (codes ".TARGET") h refl
-register_plain (regs.TimerPrescaler n) h = between n (codes ".PRE") h refl
-register_plain regs.TimerOneShot h = refl
-register_plain regs.TimerGateSet h = refl
-register_plain regs.TimerGateClear h = refl
-register_plain regs.TimerRun h = refl
-register_plain regs.TimerFlags h = refl
-register_plain regs.TimerZero h = refl
-register_plain (regs.TimerLow n) h = between n (codes ".LOW") h refl
-register_plain (regs.TimerHigh n) h = between n (codes ".HIGH") h refl
-register_plain (regs.PulsePeriod n) h = between n (codes ".PERIOD") h refl
-register_plain (regs.PulseDuty n) h = between n (codes ".DUTY") h refl
-register_plain (regs.PulsePolarity n) h = between n (codes ".POL") h refl
-register_plain (regs.PulseCommit n) h = between n (codes ".COMMIT") h refl
-register_plain (regs.PulseIdle n) h = between n (codes ".IDLE") h refl
-register_plain (regs.PulseOut n) h = between n (codes ".OUT") h refl
-register_plain regs.PulseEdges h = refl
-register_plain regs.PulseFlags h = refl
-register_plain (regs.CaptureCondition n) h = between n (codes ".COND") h refl
-register_plain (regs.CaptureMode n) h = between n (codes ".MODE") h refl
-register_plain regs.CaptureGateSet h = refl
-register_plain regs.CaptureGateClear h = refl
-register_plain (regs.CaptureCountLow n) h = between n (codes ".COUNTLOW") h refl
-register_plain (regs.CaptureCountHigh n) h = between n (codes ".COUNTHIGH") h refl
-register_plain (regs.CaptureZero n) h = between n (codes ".ZERO") h refl
-register_plain (regs.CaptureTimeLow n) h = between n (codes ".TIMELOW") h refl
-register_plain (regs.CaptureTimeHigh n) h = between n (codes ".TIMEHIGH") h refl
-register_plain (regs.CaptureInfo n) h = between n (codes ".INFO") h refl
-register_plain (regs.CapturePop n) h = between n (codes ".POP") h refl
-register_plain (regs.CaptureFlush n) h = between n (codes ".FLUSH") h refl
-register_plain (regs.ConverterList n k) h = between n (codes ".LIST" ++ (decimal k ++ [])) (wide n h.0) (between k [] (wide k h.1) refl)
-register_plain (regs.ConverterGo n) h = between n (codes ".GO") h refl
-register_plain (regs.ConverterState n) h = between n (codes ".STATE") h refl
-register_plain (regs.ConverterResult n k) h = between n (codes ".RESULT" ++ (decimal k ++ [])) (wide n h.0) (between k [] (wide k h.1) refl)
-register_plain (regs.ConverterDone n) h = between n (codes ".DONE") h refl
-register_plain (regs.ConverterAbort n) h = between n (codes ".ABORT") h refl
-register_plain (regs.ConverterAck n) h = between n (codes ".ACK") h refl
-register_plain regs.TriggerSet h = refl
-register_plain regs.TriggerClear h = refl
-register_plain regs.TriggerFlags h = refl
-register_plain (regs.SerialSelect n) h = between n (codes ".SELECT") h refl
-register_plain (regs.SerialWidth n) h = between n (codes ".WIDTH") h refl
-register_plain (regs.SerialData n) h = between n (codes ".DATA") h refl
-register_plain (regs.SerialReceived n) h = between n (codes ".RX") h refl
-register_plain (regs.SerialState n) h = between n (codes ".STATE") h refl
-register_plain (regs.SerialWait n) h = between n (codes ".WAIT") h refl
-register_plain (regs.SerialAck n) h = between n (codes ".ACK") h refl
-register_plain (regs.PinDirectionSet n) h = between n (codes "") h refl
-register_plain (regs.PinDirectionClear n) h = between n (codes "") h refl
-register_plain (regs.PinOutSet n) h = between n (codes "") h refl
-register_plain (regs.PinOutClear n) h = between n (codes "") h refl
-register_plain (regs.PinMode n) h = between n (codes ".MODE") h refl
-register_plain (regs.PortPut n) h = between n (codes ".PUT") h refl
-register_plain (regs.PortLevels n) h = between n (codes ".IN") h refl
-register_plain (regs.PinFlip n) h = between n (codes ".FLIP") h refl
-register_plain regs.ClockPll h = refl
-register_plain regs.ClockLock h = refl
-register_plain regs.ClockRate h = refl
-register_plain regs.ResetReason h = refl
-register_plain regs.ResetRequest h = refl
-register_plain regs.WatchdogLoad h = refl
-register_plain (regs.Ram n) h = between n (codes "") h refl
+register_plain r h = spaceless (register_text r) (register_solid r h)

@@ -1,6 +1,6 @@
 -- Where a text is cut at its spaces, and a word between letters and digits.
 use Rattle.std.proofs.Common.{◌≡◌, ℕ, List, [], ◌∷◌, ◌++◌, length, Bool, true, false, refl, ◌∙◌, ap, append_assoc, sym, arith}
-use Rattle.std.specs.Prelude.{◌==◌, codes, if◌then◌else◌}
+use Rattle.std.specs.Prelude.{◌==◌, ◌||◌, codes, if◌then◌else◌}
 use Rattle.std.specs.List.{position_or_len}
 use Rattle.std.proofs.lemmas.Bool.{false≢true}
 use Rattle.std.proofs.lemmas.List.{take_at, drop_at, append-nil}
@@ -11,6 +11,38 @@ use Rattle.trace_reader.proofs.Digits.{none, starts}
 -- a space
 abbrev pub sp : ℕ → Bool
 sp b = b == 32
+
+-- a space or a line feed
+abbrev pub blank : ℕ → Bool
+blank b = (b == 32) || (b == 10)
+
+less_case : (p : ℕ → Bool) (x : ℕ) (xs : List ℕ) (others a b : Bool) → p x ≡ a → (a ≡ true → b ≡ true) → (if b then false else others) ≡ true → (others ≡ true → none p xs ≡ true) → none p (x ∷ xs) ≡ true
+less_case p x xs others true true e f h ih = absurd (false≢true h)
+less_case p x xs others true false e f h ih = absurd (false≢true (f refl))
+less_case p x xs others false true e f h ih = absurd (false≢true h)
+less_case p x xs others false false e f h ih = rw e (ih h)
+
+-- where none passes a test, none passes a narrower one
+none_less : (p q : ℕ → Bool) → ((b : ℕ) → p b ≡ true → q b ≡ true) → (xs : List ℕ) → none q xs ≡ true → none p xs ≡ true
+none_less p q all [] h = refl
+none_less p q all (x ∷ xs) h = less_case p x xs (none q xs) (p x) (q x) refl (all x) h (λ g. none_less p q all xs g)
+
+or_true : (b : Bool) → (b || true) ≡ true
+or_true true = refl
+or_true false = refl
+
+space_blank : (b : ℕ) → (b == 32) ≡ true → ((b == 32) || (b == 10)) ≡ true
+space_blank b h = rw h refl
+
+feed_blank : (b : ℕ) → (b == 10) ≡ true → ((b == 32) || (b == 10)) ≡ true
+feed_blank b h = rw h (or_true (b == 32))
+
+-- a text without both is one without each
+pub spaceless : (xs : List ℕ) → none blank xs ≡ true → none sp xs ≡ true
+spaceless xs h = none_less sp blank space_blank xs h
+
+pub feedless : (xs : List ℕ) → none blank xs ≡ true → none (λ b. b == 10) xs ≡ true
+feedless xs h = none_less (λ b. b == 10) blank feed_blank xs h
 
 -- empty, or begins with a space
 abbrev pub spaced : List ℕ → Bool

@@ -1,9 +1,10 @@
 -- The register that a word may be: its letters before a number, the letters after it, and the numbers.
-use Rattle.std.specs.Prelude.{ℕ, ◌&&◌, List, [], ◌∷◌, ◌++◌, Option, min, option_map, codes, bytes_eq}
+use Rattle.std.specs.Prelude.{ℕ, ◌&&◌, Bool, List, [], ◌∷◌, ◌++◌, Option, min, option_map, codes, bytes_eq}
 use Rattle.std.specs.List.{find}
 use Rattle.mcal_base.specs.declared.register.Reg.{Reg}
 use Rattle.mcal_base.specs.declared.register.Reg.TheVariants as regs
 use Rattle.trace_reader.specs.declared.registers.Row as code
+use Rattle.trace_reader.specs.declared.registers.Row.TheVariants as ways
 
 -- a register by the letters before its number and those after it
 pub record Row : Type 0 where
@@ -15,7 +16,8 @@ abbrev pub row : List ℕ → List ℕ → Reg → Row
 row letter name reg = record { letter = letter; name = name; reg = reg }
 
 abbrev pub row_of : code.Row → Row
-row_of r = row r.0.now r.1.now r.2
+row_of (ways.Letters letters reg) = row letters.now (codes "") reg
+row_of (ways.Named letter name reg) = row (letter ∷ []) name.now reg
 
 -- the registers of enable bits and timers, with a number
 abbrev pub timers : ℕ → List Row
@@ -120,6 +122,10 @@ clocks n =
 abbrev pub rows : ℕ → ℕ → List Row
 rows n k = (((((timers n ++ pulses n) ++ captures n) ++ converters n k) ++ serials n) ++ pins n) ++ clocks n
 
+-- whether these letters stand before its number and after it
+abbrev pub is_spelled : List ℕ → List ℕ → Row → Bool
+is_spelled letter name r = bytes_eq r.name name && bytes_eq r.letter letter
+
 -- the first of some registers with these letters
 abbrev pub chosen : List Row → List ℕ → List ℕ → Option Reg
-chosen rows letter name = option_map (λ r. r.reg) (find (λ r. bytes_eq r.name name && bytes_eq r.letter letter) rows)
+chosen rows letter name = option_map (λ r. r.reg) (find (is_spelled letter name) rows)

@@ -110,7 +110,7 @@ pub(crate) fn told_step(
 }
 
 /// What a line tells.
-fn told_by(line: Line<'_>) -> Told
+fn line_told(line: Line<'_>) -> Told
     ensures { result ≡ tells.told (spec.line_of line.entry) }
 {
     match line {
@@ -134,7 +134,7 @@ impl Read {
         ensures { result ≡ tells.told (line_of self.now) }
     {
         match self {
-            Read::Plain(line) => told_by(*line),
+            Read::Plain(line) => line_told(*line),
             Read::Returns(service, head, words) => {
                 Told::Returned(*service, reply_of(*head, words.as_slice()))
             }

@@ -182,10 +182,12 @@ impl Spelled for ErrorName {
 fn first_named<T: Spelled>(choices: &[T], word: &[u8]) -> Option<T>
     ensures { result ≡ named T.spelling choices.now word.now }
 {
-    choices
-        .iter()
-        .copied()
-        .find(|choice| choice.spelled().as_bytes() == word)
+    for choice in choices {
+        if choice.spelled().as_bytes() == word {
+            return Some(*choice);
+        }
+    }
+    None
 }
 
 /// The cause that a word spells.

@@ -1,5 +1,5 @@
 ghost use Rattle.std.specs.Prelude.{◌≡◌, ◌==◌, ◌≤◌, ◌<◌, IfSome, length};
-ghost use Rattle.std.specs.List.{position};
+ghost use Rattle.std.specs.List.{position, position_or_len};
 ghost use Rattle.std.specs.Char.{is_ascii_digit};
 ghost use Rattle.trace_reader.specs.Numbers as spec;
 
@@ -33,20 +33,30 @@ pub(crate) fn place_of(byte: u8, text: &[u8]) -> Option<usize>
     text.iter().position(|b| *b == byte)
 }
 
-/// The place of the first digit.
-fn digit_place(word: &[u8]) -> Option<usize>
-    ensures place { result ≡ position is_ascii_digit word.now }
-    ensures within { IfSome result (λ n. n ≤ length word.now) }
+/// Where the first digit of a word stands, or the word's end.
+fn digit_place(word: &[u8]) -> usize
+    ensures place { result ≡ position_or_len is_ascii_digit word.now }
+    ensures within { result ≤ length word.now }
 {
-    word.iter().position(|byte| byte.is_ascii_digit())
+    for place in 0..word.len() {
+        if word[place].is_ascii_digit() {
+            return place;
+        }
+    }
+    word.len()
 }
 
-/// The place of the first byte that is no digit.
-fn letter_place(word: &[u8]) -> Option<usize>
-    ensures place { result ≡ position spec.is_letter word.now }
-    ensures within { IfSome result (λ n. n ≤ length word.now) }
+/// Where the first byte of a word stands that is no digit, or the word's end.
+fn letter_place(word: &[u8]) -> usize
+    ensures place { result ≡ position_or_len spec.is_letter word.now }
+    ensures within { result ≤ length word.now }
 {
-    word.iter().position(|byte| !byte.is_ascii_digit())
+    for place in 0..word.len() {
+        if !word[place].is_ascii_digit() {
+            return place;
+        }
+    }
+    word.len()
 }
 
 /// A word up to its first digit, and the rest.
@@ -54,10 +64,8 @@ pub(crate) fn before_digit(word: &[u8]) -> (&[u8], &[u8])
     ensures front { result.0.now ≡ spec.front is_ascii_digit word.now }
     ensures rest { result.1.now ≡ spec.rest is_ascii_digit word.now }
 {
-    match digit_place(word) {
-        Some(place) => (&word[..place], &word[place..]),
-        None => (word, &[]),
-    }
+    let place = digit_place(word);
+    (&word[..place], &word[place..])
 }
 
 /// A word up to its first byte that is no digit, and the rest.
@@ -65,8 +73,6 @@ pub(crate) fn before_letter(word: &[u8]) -> (&[u8], &[u8])
     ensures front { result.0.now ≡ spec.front spec.is_letter word.now }
     ensures rest { result.1.now ≡ spec.rest spec.is_letter word.now }
 {
-    match letter_place(word) {
-        Some(place) => (&word[..place], &word[place..]),
-        None => (word, &[]),
-    }
+    let place = letter_place(word);
+    (&word[..place], &word[place..])
 }

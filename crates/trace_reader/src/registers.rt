@@ -1,18 +1,53 @@
-ghost use Rattle.std.specs.Prelude.{◌≡◌, ◌&&◌, bytes_eq, map};
+ghost use Rattle.std.specs.Prelude.{◌≡◌, map, option_map};
 ghost use Rattle.std.specs.List.{find};
 ghost use Rattle.trace_reader.specs.Registers as spec;
 
 use mcal_base::Reg;
 
-/// The letters before the number of a register, those after it, and the register.
+/// A register by what its name is put together from. A letter isn't a text, since the proof of a function grows with the
+/// square of how many texts stand in it.
 #[derive(Clone, Copy)]
-struct Row(&'static str, &'static str, Reg);
+enum Row {
+    /// Letters before a number, or alone, and the register.
+    Letters(&'static str, Reg),
+    /// A letter before a number, the letters after it, and the register.
+    Named(u8, &'static str, Reg),
+}
+
+impl Row {
+    /// Whether these letters stand before its number and after it.
+    fn has(&self, letter: &[u8], name: &[u8]) -> bool
+        ensures { result ≡ spec.is_spelled letter.now name.now (spec.row_of self.now) }
+    {
+        match self {
+            Row::Letters(own, _) => "".as_bytes() == name && own.as_bytes() == letter,
+            Row::Named(own, own_name, _) => {
+                let own: &[u8] = &[*own];
+                own_name.as_bytes() == name && own == letter
+            }
+        }
+    }
+
+    /// Its register.
+    fn register(self) -> Reg
+        ensures { result ≡ (spec.row_of self).reg }
+    {
+        match self {
+            Row::Letters(_, register) | Row::Named(_, _, register) => register,
+        }
+    }
+}
 
 /// The first row with these letters.
 fn found(rows: &[Row], letter: &[u8], name: &[u8]) -> Option<Row>
-    ensures { result ≡ find (λ row. bytes_eq row.1.now name.now && bytes_eq row.0.now letter.now) rows.now }
+    ensures { option_map spec.row_of result ≡ find (spec.is_spelled letter.now name.now) (map spec.row_of rows.now) }
 {
-    rows.iter().copied().find(|row| row.1.as_bytes() == name && row.0.as_bytes() == letter)
+    for row in rows {
+        if row.has(letter, name) {
+            return Some(*row);
+        }
+    }
+    None
 }
 
 /// The first of some registers with these letters.
@@ -20,7 +55,7 @@ fn chosen(rows: &[Row], letter: &[u8], name: &[u8]) -> Option<Reg>
     ensures { result ≡ spec.chosen (map spec.row_of rows.now) letter.now name.now }
 {
     match found(rows, letter, name) {
-        Some(row) => Some(row.2),
+        Some(row) => Some(row.register()),
         None => None,
     }
 }
@@ -30,18 +65,18 @@ fn timer(letter: &[u8], number: u32, name: &[u8]) -> Option<Reg>
     ensures { result ≡ spec.chosen (spec.timers number) letter.now name.now }
 {
     let rows = [
-        Row("IE.SET", "", Reg::EnableSet),
-        Row("IE.CLR", "", Reg::EnableClear),
-        Row("T", ".TARGET", Reg::TimerTarget(number)),
-        Row("T", ".PRE", Reg::TimerPrescaler(number)),
-        Row("T.ONESHOT", "", Reg::TimerOneShot),
-        Row("T.GATESET", "", Reg::TimerGateSet),
-        Row("T.GATECLR", "", Reg::TimerGateClear),
-        Row("T.RUN", "", Reg::TimerRun),
-        Row("T.FLAGS", "", Reg::TimerFlags),
-        Row("T.ZERO", "", Reg::TimerZero),
-        Row("T", ".LOW", Reg::TimerLow(number)),
-        Row("T", ".HIGH", Reg::TimerHigh(number)),
+        Row::Letters("IE.SET", Reg::EnableSet),
+        Row::Letters("IE.CLR", Reg::EnableClear),
+        Row::Named(b'T', ".TARGET", Reg::TimerTarget(number)),
+        Row::Named(b'T', ".PRE", Reg::TimerPrescaler(number)),
+        Row::Letters("T.ONESHOT", Reg::TimerOneShot),
+        Row::Letters("T.GATESET", Reg::TimerGateSet),
+        Row::Letters("T.GATECLR", Reg::TimerGateClear),
+        Row::Letters("T.RUN", Reg::TimerRun),
+        Row::Letters("T.FLAGS", Reg::TimerFlags),
+        Row::Letters("T.ZERO", Reg::TimerZero),
+        Row::Named(b'T', ".LOW", Reg::TimerLow(number)),
+        Row::Named(b'T', ".HIGH", Reg::TimerHigh(number)),
     ];
     chosen(&rows, letter, name)
 }
@@ -51,14 +86,14 @@ fn pulse(letter: &[u8], number: u32, name: &[u8]) -> Option<Reg>
     ensures { result ≡ spec.chosen (spec.pulses number) letter.now name.now }
 {
     let rows = [
-        Row("P", ".PERIOD", Reg::PulsePeriod(number)),
-        Row("P", ".DUTY", Reg::PulseDuty(number)),
-        Row("P", ".POL", Reg::PulsePolarity(number)),
-        Row("P", ".COMMIT", Reg::PulseCommit(number)),
-        Row("P", ".IDLE", Reg::PulseIdle(number)),
-        Row("P", ".OUT", Reg::PulseOut(number)),
-        Row("P.EDGES", "", Reg::PulseEdges),
-        Row("P.FLAGS", "", Reg::PulseFlags),
+        Row::Named(b'P', ".PERIOD", Reg::PulsePeriod(number)),
+        Row::Named(b'P', ".DUTY", Reg::PulseDuty(number)),
+        Row::Named(b'P', ".POL", Reg::PulsePolarity(number)),
+        Row::Named(b'P', ".COMMIT", Reg::PulseCommit(number)),
+        Row::Named(b'P', ".IDLE", Reg::PulseIdle(number)),
+        Row::Named(b'P', ".OUT", Reg::PulseOut(number)),
+        Row::Letters("P.EDGES", Reg::PulseEdges),
+        Row::Letters("P.FLAGS", Reg::PulseFlags),
     ];
     chosen(&rows, letter, name)
 }
@@ -68,18 +103,18 @@ fn capture(letter: &[u8], number: u32, name: &[u8]) -> Option<Reg>
     ensures { result ≡ spec.chosen (spec.captures number) letter.now name.now }
 {
     let rows = [
-        Row("C", ".COND", Reg::CaptureCondition(number)),
-        Row("C", ".MODE", Reg::CaptureMode(number)),
-        Row("C.GATESET", "", Reg::CaptureGateSet),
-        Row("C.GATECLR", "", Reg::CaptureGateClear),
-        Row("C", ".COUNTLOW", Reg::CaptureCountLow(number)),
-        Row("C", ".COUNTHIGH", Reg::CaptureCountHigh(number)),
-        Row("C", ".ZERO", Reg::CaptureZero(number)),
-        Row("C", ".TIMELOW", Reg::CaptureTimeLow(number)),
-        Row("C", ".TIMEHIGH", Reg::CaptureTimeHigh(number)),
-        Row("C", ".INFO", Reg::CaptureInfo(number)),
-        Row("C", ".POP", Reg::CapturePop(number)),
-        Row("C", ".FLUSH", Reg::CaptureFlush(number)),
+        Row::Named(b'C', ".COND", Reg::CaptureCondition(number)),
+        Row::Named(b'C', ".MODE", Reg::CaptureMode(number)),
+        Row::Letters("C.GATESET", Reg::CaptureGateSet),
+        Row::Letters("C.GATECLR", Reg::CaptureGateClear),
+        Row::Named(b'C', ".COUNTLOW", Reg::CaptureCountLow(number)),
+        Row::Named(b'C', ".COUNTHIGH", Reg::CaptureCountHigh(number)),
+        Row::Named(b'C', ".ZERO", Reg::CaptureZero(number)),
+        Row::Named(b'C', ".TIMELOW", Reg::CaptureTimeLow(number)),
+        Row::Named(b'C', ".TIMEHIGH", Reg::CaptureTimeHigh(number)),
+        Row::Named(b'C', ".INFO", Reg::CaptureInfo(number)),
+        Row::Named(b'C', ".POP", Reg::CapturePop(number)),
+        Row::Named(b'C', ".FLUSH", Reg::CaptureFlush(number)),
     ];
     chosen(&rows, letter, name)
 }
@@ -91,16 +126,16 @@ fn converter(letter: &[u8], first: u32, name: &[u8], second: u32) -> Option<Reg>
     let unit = first.min(255) as u8;
     let place = second.min(255) as u8;
     let rows = [
-        Row("A", ".LIST", Reg::ConverterList(unit, place)),
-        Row("A", ".GO", Reg::ConverterGo(first)),
-        Row("A", ".STATE", Reg::ConverterState(first)),
-        Row("A", ".RESULT", Reg::ConverterResult(unit, place)),
-        Row("A", ".DONE", Reg::ConverterDone(first)),
-        Row("A", ".ABORT", Reg::ConverterAbort(first)),
-        Row("A", ".ACK", Reg::ConverterAck(first)),
-        Row("A.TRIGSET", "", Reg::TriggerSet),
-        Row("A.TRIGCLR", "", Reg::TriggerClear),
-        Row("A.TRIGFLAGS", "", Reg::TriggerFlags),
+        Row::Named(b'A', ".LIST", Reg::ConverterList(unit, place)),
+        Row::Named(b'A', ".GO", Reg::ConverterGo(first)),
+        Row::Named(b'A', ".STATE", Reg::ConverterState(first)),
+        Row::Named(b'A', ".RESULT", Reg::ConverterResult(unit, place)),
+        Row::Named(b'A', ".DONE", Reg::ConverterDone(first)),
+        Row::Named(b'A', ".ABORT", Reg::ConverterAbort(first)),
+        Row::Named(b'A', ".ACK", Reg::ConverterAck(first)),
+        Row::Letters("A.TRIGSET", Reg::TriggerSet),
+        Row::Letters("A.TRIGCLR", Reg::TriggerClear),
+        Row::Letters("A.TRIGFLAGS", Reg::TriggerFlags),
     ];
     chosen(&rows, letter, name)
 }
@@ -110,13 +145,13 @@ fn serial(letter: &[u8], number: u32, name: &[u8]) -> Option<Reg>
     ensures { result ≡ spec.chosen (spec.serials number) letter.now name.now }
 {
     let rows = [
-        Row("S", ".SELECT", Reg::SerialSelect(number)),
-        Row("S", ".WIDTH", Reg::SerialWidth(number)),
-        Row("S", ".DATA", Reg::SerialData(number)),
-        Row("S", ".RX", Reg::SerialReceived(number)),
-        Row("S", ".STATE", Reg::SerialState(number)),
-        Row("S", ".WAIT", Reg::SerialWait(number)),
-        Row("S", ".ACK", Reg::SerialAck(number)),
+        Row::Named(b'S', ".SELECT", Reg::SerialSelect(number)),
+        Row::Named(b'S', ".WIDTH", Reg::SerialWidth(number)),
+        Row::Named(b'S', ".DATA", Reg::SerialData(number)),
+        Row::Named(b'S', ".RX", Reg::SerialReceived(number)),
+        Row::Named(b'S', ".STATE", Reg::SerialState(number)),
+        Row::Named(b'S', ".WAIT", Reg::SerialWait(number)),
+        Row::Named(b'S', ".ACK", Reg::SerialAck(number)),
     ];
     chosen(&rows, letter, name)
 }
@@ -126,14 +161,14 @@ fn pin(letter: &[u8], number: u32, name: &[u8]) -> Option<Reg>
     ensures { result ≡ spec.chosen (spec.pins number) letter.now name.now }
 {
     let rows = [
-        Row("D.DIRSET", "", Reg::PinDirectionSet(number)),
-        Row("D.DIRCLR", "", Reg::PinDirectionClear(number)),
-        Row("D.OUTSET", "", Reg::PinOutSet(number)),
-        Row("D.OUTCLR", "", Reg::PinOutClear(number)),
-        Row("D", ".MODE", Reg::PinMode(number)),
-        Row("Q", ".PUT", Reg::PortPut(number)),
-        Row("Q", ".IN", Reg::PortLevels(number)),
-        Row("F", ".FLIP", Reg::PinFlip(number)),
+        Row::Letters("D.DIRSET", Reg::PinDirectionSet(number)),
+        Row::Letters("D.DIRCLR", Reg::PinDirectionClear(number)),
+        Row::Letters("D.OUTSET", Reg::PinOutSet(number)),
+        Row::Letters("D.OUTCLR", Reg::PinOutClear(number)),
+        Row::Named(b'D', ".MODE", Reg::PinMode(number)),
+        Row::Named(b'Q', ".PUT", Reg::PortPut(number)),
+        Row::Named(b'Q', ".IN", Reg::PortLevels(number)),
+        Row::Named(b'F', ".FLIP", Reg::PinFlip(number)),
     ];
     chosen(&rows, letter, name)
 }
@@ -143,13 +178,13 @@ fn clock(letter: &[u8], number: u32, name: &[u8]) -> Option<Reg>
     ensures { result ≡ spec.chosen (spec.clocks number) letter.now name.now }
 {
     let rows = [
-        Row("M.PLL", "", Reg::ClockPll),
-        Row("M.LOCK", "", Reg::ClockLock),
-        Row("M.RATE", "", Reg::ClockRate),
-        Row("M.REASON", "", Reg::ResetReason),
-        Row("M.RESET", "", Reg::ResetRequest),
-        Row("W.LOAD", "", Reg::WatchdogLoad),
-        Row("R", "", Reg::Ram(number)),
+        Row::Letters("M.PLL", Reg::ClockPll),
+        Row::Letters("M.LOCK", Reg::ClockLock),
+        Row::Letters("M.RATE", Reg::ClockRate),
+        Row::Letters("M.REASON", Reg::ResetReason),
+        Row::Letters("M.RESET", Reg::ResetRequest),
+        Row::Letters("W.LOAD", Reg::WatchdogLoad),
+        Row::Letters("R", Reg::Ram(number)),
     ];
     chosen(&rows, letter, name)
 }

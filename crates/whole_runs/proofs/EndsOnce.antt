@@ -27,9 +27,9 @@ use Rattle.spi_machine.specs.declared.table.SpiTable.{SpiTable}
 use Rattle.spi_machine.specs.Wiring.{is_sync_sequence}
 use Rattle.spi_machine.proofs.Idle.{idle-run}
 use Rattle.spi_machine.proofs.Numbers.{item-same, item-other}
-use Rattle.spi_machine.proofs.Turns.{pending-changed, pending-without}
-use Rattle.whole_runs.specs.Runs.{Event, state_after, AreAllowed, NoneOf, told_by, is_restart, is_of}
-use Rattle.whole_runs.specs.SequenceRuns.{Seen, seen_between, seen_of, begins_by, is_accepted, accepts, is_begun, initialises, is_reset, is_pending, is_end, starts_job, ends_job, is_starting, is_serving}
+use Rattle.spi_machine.proofs.SequenceChanges.{pending-changed, pending-without}
+use Rattle.whole_runs.specs.Runs.{Event, state_after, AreAllowed, NoneOf, told_or_nothing, is_restart, is_of}
+use Rattle.whole_runs.specs.SequenceRuns.{SequenceEvent, seen_between, seen_of, begins_by, is_accepted, accepts, is_begun, initialises, is_reset, is_pending, is_end, starts_job, ends_job, is_starting, is_serving}
 use Rattle.whole_runs.specs.Ends.{ResultGoes, Stays, Becomes, Ends, Begins, Reset, TellsEnd, IsEnded, AreEnded, HasOneEnd}
 use Rattle.whole_runs.proofs.SequenceSteps.{seen, ends_told, end_results, Goes, Leaves, Accepts, Starting, Advances, Marks, Ending, Initialising, Sends, Resetting, happens_goes}
 
@@ -72,12 +72,12 @@ abbrev once : Bool → ℕ
 once b = cond b 1 0
 
 -- what comes of it for one sequence
-pub record Comes (d : SpiTable) (q : ℕ) (e : Seen) (t : SpiState) : Type 0 where
+pub record Comes (d : SpiTable) (q : ℕ) (e : SequenceEvent) (t : SpiState) : Type 0 where
   pub result : ResultGoes q e
   pub told : TellsEnd d q e
   pub agrees : is_pending (sequence_result t.sequence_results q) ≡ lists.is_pending q t.pending
 
-no_end : (q : ℕ) (e : Seen) → e.has q ≡ e.had q → is_end q e ≡ false
+no_end : (q : ℕ) (e : SequenceEvent) → e.has q ≡ e.had q → is_end q e ≡ false
 no_end q e same = rw same (none (is_reset e) (is_pending (e.had q)))
   where
     none : (a b : Bool) → (not a && (b && not b)) ≡ false
@@ -86,20 +86,20 @@ no_end q e same = rw same (none (is_reset e) (is_pending (e.had q)))
     none false true = refl
     none false false = refl
 
-tells_none : (d : SpiTable) (q : ℕ) (e : Seen) → is_end q e ≡ false → ends_told q e ≡ 0 → TellsEnd d q e
+tells_none : (d : SpiTable) (q : ℕ) (e : SequenceEvent) → is_end q e ≡ false → ends_told q e ≡ 0 → TellsEnd d q e
 tells_none d q e none told = told ∙ rw none refl
 
-stays : (d : SpiTable) (q : ℕ) (e : Seen) (s t : SpiState) → accepts q e ≡ false → e.had q ≡ sequence_result s.sequence_results q → e.has q ≡ sequence_result t.sequence_results q
+stays : (d : SpiTable) (q : ℕ) (e : SequenceEvent) (s t : SpiState) → accepts q e ≡ false → e.had q ≡ sequence_result s.sequence_results q → e.has q ≡ sequence_result t.sequence_results q
     → sequence_result t.sequence_results q ≡ sequence_result s.sequence_results q → lists.is_pending q t.pending ≡ lists.is_pending q s.pending → ends_told q e ≡ 0 → AgreesOn s q → Comes d q e t
 stays d q e s t accept had has same pending told agrees =
     let still : e.has q ≡ e.had q = has ∙ same ∙ sym had in
     record { result = Stays accept still; told = tells_none d q e (no_end q e still) told; agrees = ap (λ r. is_pending r) same ∙ agrees ∙ sym pending }
 
 -- an event as it is seen between two states
-abbrev Between : ℕ → Seen → SpiState → SpiState → Type 0
+abbrev Between : ℕ → SequenceEvent → SpiState → SpiState → Type 0
 Between q e s t = (e.had q ≡ sequence_result s.sequence_results q) × (e.has q ≡ sequence_result t.sequence_results q)
 
-accepted : (d : SpiTable) (q k : ℕ) (e : Seen) (s t : SpiState) (x : Pending) → Between q e s t → accepts q e ≡ (k == q) → lists.is_pending k s.pending ≡ false → x.sequence ≡ k → t.pending ≡ s.pending ++ x ∷ []
+accepted : (d : SpiTable) (q k : ℕ) (e : SequenceEvent) (s t : SpiState) (x : Pending) → Between q e s t → accepts q e ≡ (k == q) → lists.is_pending k s.pending ≡ false → x.sequence ≡ k → t.pending ≡ s.pending ++ x ∷ []
     → t.sequence_results ≡ with_item SpiSeqOk s.sequence_results k SpiSeqPending → ends_told q e ≡ 0 → AgreesOn s q → (q ≡ k) ⊎ (q ≢ k) → Comes d q e t
 accepted d q k e s t x views accept free own pending results told agrees (inl at) =
     let has : e.has q ≡ SpiSeqPending = views.1 ∙ ap (λ rs. sequence_result rs q) results ∙ rw at (item-same SpiSeqOk s.sequence_results k SpiSeqPending) in
@@ -124,10 +124,10 @@ end_over x (suc zero, within, is) = ap (λ r. is_pending r) (sym is)
 end_over x (suc (suc zero), within, is) = ap (λ r. is_pending r) (sym is)
 end_over x (suc (suc (suc n)), within, is) = absurd (omega (arith, within))
 
-ends_now : (q : ℕ) (e : Seen) → is_reset e ≡ false → is_pending (e.had q) ≡ true → is_pending (e.has q) ≡ false → is_end q e ≡ true
+ends_now : (q : ℕ) (e : SequenceEvent) → is_reset e ≡ false → is_pending (e.had q) ≡ true → is_pending (e.has q) ≡ false → is_end q e ≡ true
 ends_now q e calm had has = rw (calm, had, has) refl
 
-ended : (d : SpiTable) (q k : ℕ) (e : Seen) (s t : SpiState) (x : AnswerName) → Between q e s t → accepts q e ≡ false → is_reset e ≡ false → lists.is_pending k s.pending ≡ true → Contains end_results x
+ended : (d : SpiTable) (q k : ℕ) (e : SequenceEvent) (s t : SpiState) (x : AnswerName) → Between q e s t → accepts q e ≡ false → is_reset e ≡ false → lists.is_pending k s.pending ≡ true → Contains end_results x
     → t.pending ≡ without k s.pending → t.sequence_results ≡ with_item SpiSeqOk s.sequence_results k x
     → ends_told q e ≡ cond (notifies_sequence (sequence_of d k) && (k == q)) 1 0 → AgreesOn s q → (q ≡ k) ⊎ (q ≢ k) → Comes d q e t
 ended d q k e s t x views accept calm there one pending results told agrees (inl at) =
@@ -162,7 +162,7 @@ clash e f = absurd (cc (e, f))
 kinds_apart : (d : SpiTable) (q k : ℕ) → is_sync_sequence d q ≡ false → is_sync_sequence d k ≡ true → q ≢ k
 kinds_apart d q k plain sync same = clash (ap (λ n. is_sync_sequence d n) same ∙ sync) plain
 
-pub comes : (d : SpiTable) (q : ℕ) (e : Seen) (s t : SpiState) → Goes d e s t → is_sync_sequence d q ≡ false → Between q e s t → AgreesOn s q → IsIdle s → Comes d q e t
+pub comes : (d : SpiTable) (q : ℕ) (e : SequenceEvent) (s t : SpiState) → Goes d e s t → is_sync_sequence d q ≡ false → Between q e s t → AgreesOn s q → IsIdle s → Comes d q e t
 comes d q e s t (Leaves calm reset pending results requests told) plain views agrees idle =
     stays d q e s t (calm.accepts q) views.0 views.1 (ap (λ rs. sequence_result rs q) results) (ap (λ ps. lists.is_pending q ps) pending) (told q) agrees
 comes d q e s t (Accepts k had own accept reset free pending results requests told) plain views agrees idle =
@@ -196,12 +196,12 @@ comes d q e s t (Resetting reset accept pending results told) plain views agrees
 }
 
 -- what comes of it for a sequence that Spi_SyncTransmit sends
-record Unasked (q : ℕ) (e : Seen) (t : SpiState) : Type 0 where
+record Unasked (q : ℕ) (e : SequenceEvent) (t : SpiState) : Type 0 where
   accept : accepts q e ≡ false
   told : ends_told q e ≡ 0
   absent : lists.is_pending q t.pending ≡ false
 
-comes_sent : (d : SpiTable) (q : ℕ) (e : Seen) (s t : SpiState) → Goes d e s t → is_sync_sequence d q ≡ true → lists.is_pending q s.pending ≡ false → Unasked q e t
+comes_sent : (d : SpiTable) (q : ℕ) (e : SequenceEvent) (s t : SpiState) → Goes d e s t → is_sync_sequence d q ≡ true → lists.is_pending q s.pending ≡ false → Unasked q e t
 comes_sent d q e s t (Leaves calm reset pending results requests told) sync absent = record { accept = calm.accepts q; told = told q; absent = ap (λ ps. lists.is_pending q ps) pending ∙ absent }
 comes_sent d q e s t (Accepts k had own accept reset free pending results requests told) sync absent =
     let ne : q ≢ k = λ same. kinds_apart d k q own sync (sym same) in
@@ -255,7 +255,7 @@ run_idle : (d : SpiTable) (past : List (Event Call)) → IsIdle (state_of d past
 run_idle d past = subst IsIdle (same_state d past) (idle-run d (occurrences past))
 
 abbrev After : SpiTable → SpiState → Event Call → Option (Outcome SpiState) → Type 0
-After d s e o = let x : Seen = seen_between d s (state_by s o) e.what (told_by o) (begins_by o) in IsEnded d x × Agrees d (state_by s o)
+After d s e o = let x : SequenceEvent = seen_between d s (state_by s o) e.what (told_or_nothing o) (begins_by o) in IsEnded d x × Agrees d (state_by s o)
 
 event_ends : (d : SpiTable) (s : SpiState) (e : Event Call) (o : Option (Outcome SpiState)) → (spi_machine d).happens e.world s e.what ≡ o → IsSome o → Agrees d s → IsIdle s → After d s e o
 event_ends d s e None at some agrees idle = absurd (cc some)
@@ -284,16 +284,16 @@ run_agrees d past allowed = (run_ends d past allowed).1
 -- ---- counts
 
 -- the result of a sequence after these events
-abbrev result_now : ℕ → List Seen → AnswerName
+abbrev result_now : ℕ → List SequenceEvent → AnswerName
 result_now q [] = SpiSeqOk
 result_now q (e ∷ past) = e.has q
 
 -- each event finds what the one before it left, and what comes of it is right
-abbrev Linked : ℕ → List Seen → Type 0
+abbrev Linked : ℕ → List SequenceEvent → Type 0
 Linked q [] = Unit {0}
 Linked q (e ∷ past) = (e.had q ≡ result_now q past) × ResultGoes q e × Linked q past
 
-linked_later : (q : ℕ) (later past : List Seen) → Linked q (later ++ past) → Linked q past
+linked_later : (q : ℕ) (later past : List SequenceEvent) → Linked q (later ++ past) → Linked q past
 linked_later q [] past h = h
 linked_later q (e ∷ later) past h = linked_later q later past h.2
 
@@ -303,15 +303,15 @@ run_linked d q (e ∷ []) plain h = (refl, h.0.results q plain, tt)
 run_linked d q (e ∷ x ∷ past) plain h = (refl, h.0.results q plain, run_linked d q (x ∷ past) plain h.1)
 
 -- no request of a sequence that Spi_SyncTransmit sends is accepted
-none_asked : (d : SpiTable) (q : ℕ) (log : List Seen) → is_sync_sequence d q ≡ true → AreEnded d log → NoneOf (accepts q) log
+none_asked : (d : SpiTable) (q : ℕ) (log : List SequenceEvent) → is_sync_sequence d q ≡ true → AreEnded d log → NoneOf (accepts q) log
 none_asked d q [] sync h = refl
 none_asked d q (e ∷ log) sync h = or_from (accepts q e) (list_any (accepts q) log) (h.0.sent q sync).0 (none_asked d q log sync h.1)
 
-none_later : (q : ℕ) (later past : List Seen) → NoneOf (accepts q) (later ++ past) → NoneOf (accepts q) past
+none_later : (q : ℕ) (later past : List SequenceEvent) → NoneOf (accepts q) (later ++ past) → NoneOf (accepts q) past
 none_later q later past h = (or_parts (list_any (accepts q) later) (list_any (accepts q) past) (sym (list_any-append (accepts q) later past) ∙ h)).1
 
 -- an accepted request is neither an initialisation nor a reset
-accepts_calm : (q : ℕ) (e : Seen) → accepts q e ≡ true → (initialises e ≡ false) × (is_reset e ≡ false)
+accepts_calm : (q : ℕ) (e : SequenceEvent) → accepts q e ≡ true → (initialises e ≡ false) × (is_reset e ≡ false)
 accepts_calm q e h = by_what e.what e.told.error h
   where
     by_what : (h : Happening Call) (o : Option ErrorName) → is_accepted q h o ≡ true → (is_begun h o ≡ false) × (is_restart h ≡ false)
@@ -331,7 +331,7 @@ accepts_calm q e h = by_what e.what e.told.error h
     by_what (Restarts reason) o f = absurd (cc f)
 
 -- and no job starts or ends there
-pub accepts_no_job : (k q : ℕ) (e : Seen) → accepts k e ≡ true → (starts_job q e ≡ false) × (ends_job q e ≡ false)
+pub accepts_no_job : (k q : ℕ) (e : SequenceEvent) → accepts k e ≡ true → (starts_job q e ≡ false) × (ends_job q e ≡ false)
 accepts_no_job k q e h = by_what e.what e.told.error h
   where
     by_what : (h : Happening Call) (o : Option ErrorName) → is_accepted k h o ≡ true → ((is_starting h && is_of q e.sequence) ≡ false) × ((is_serving h && (is_of q e.sequence && not e.begins)) ≡ false)
@@ -343,7 +343,7 @@ accepts_no_job k q e h = by_what e.what e.told.error h
     by_what (Restarts reason) o f = absurd (cc f)
 
 -- what an accepted request finds and leaves
-taken : (q : ℕ) (e : Seen) → accepts q e ≡ true → ResultGoes q e → (is_pending (e.had q) ≡ false) × (is_pending (e.has q) ≡ true)
+taken : (q : ℕ) (e : SequenceEvent) → accepts q e ≡ true → ResultGoes q e → (is_pending (e.had q) ≡ false) × (is_pending (e.has q) ≡ true)
 taken q e h (Stays accept same) = absurd (cc (h, accept))
 taken q e h (Becomes accept had has) = (had, ap (λ r. is_pending r) has)
 taken q e h (Ends accept end has) = absurd (cc (h, accept))
@@ -351,11 +351,11 @@ taken q e h (Begins begin had has) = absurd (cc (begin, (accepts_calm q e h).0))
 taken q e h (Reset reset has) = absurd (cc (reset, (accepts_calm q e h).1))
 
 -- the ends since a request, by whether the sequence is pending now
-pub record Counts (q count : ℕ) (now : AnswerName) (between : List Seen) : Type 0 where
+pub record Counts (q count : ℕ) (now : AnswerName) (between : List SequenceEvent) : Type 0 where
   pub most : (count ≡ 0) ⊎ ((count ≡ 1) × (is_pending now ≡ false))
   pub open_yet : NoneOf is_reset between → count ≡ 0 → is_pending now ≡ true
 
-counted_more : (q : ℕ) (e : Seen) (between : List Seen) (b : Bool) → is_end q e ≡ b → count_by (is_end q) (e ∷ between) ≡ once b + count_by (is_end q) between
+counted_more : (q : ℕ) (e : SequenceEvent) (between : List SequenceEvent) (b : Bool) → is_end q e ≡ b → count_by (is_end q) (e ∷ between) ≡ once b + count_by (is_end q) between
 counted_more q e between b at = sum_by-cons (λ x. once (is_end q x)) e between ∙ ap (λ c. once c + count_by (is_end q) between) at
 
 -- an event without an end leaves the count
@@ -365,7 +365,7 @@ quiet q n m e = omega (arith, e)
 not_both : (x : AnswerName) → is_pending x ≡ true → is_pending x ≡ false → ⊥
 not_both x e f = absurd (cc (e, f))
 
-end_was : (q : ℕ) (e : Seen) → is_end q e ≡ true → (is_pending (e.had q) ≡ true) × (is_pending (e.has q) ≡ false)
+end_was : (q : ℕ) (e : SequenceEvent) → is_end q e ≡ true → (is_pending (e.had q) ≡ true) × (is_pending (e.has q) ≡ false)
 end_was q e h = parts (is_reset e) (is_pending (e.had q)) (is_pending (e.has q)) h
   where
     parts : (a b c : Bool) → (not a && (b && not c)) ≡ true → (b ≡ true) × (c ≡ false)
@@ -374,7 +374,7 @@ end_was q e h = parts (is_reset e) (is_pending (e.had q)) (is_pending (e.has q))
     parts false true false h = (refl, refl)
     parts false false c h = absurd (cc h)
 
-more : (q : ℕ) (e : Seen) (between : List Seen) (was : AnswerName) → e.had q ≡ was → accepts q e ≡ false → ResultGoes q e → Counts q (count_by (is_end q) between) was between
+more : (q : ℕ) (e : SequenceEvent) (between : List SequenceEvent) (was : AnswerName) → e.had q ≡ was → accepts q e ≡ false → ResultGoes q e → Counts q (count_by (is_end q) between) was between
     → Counts q (count_by (is_end q) (e ∷ between)) (e.has q) (e ∷ between)
 more q e between was had accept (Stays none same) c =
     let count : count_by (is_end q) (e ∷ between) ≡ count_by (is_end q) between = quiet q _ _ (counted_more q e between false (no_end q e same)) in
@@ -424,7 +424,7 @@ more q e between was had accept (Reset reset has) c =
     by_most (inl none) count over = inl (count ∙ none)
     by_most (inr one) count over = inr (count ∙ one.0, over)
 
-counts : (q : ℕ) (between before : List Seen) (first : Seen) → Linked q (between ++ first ∷ before) → accepts q first ≡ true → NoneOf (accepts q) between
+counts : (q : ℕ) (between before : List SequenceEvent) (first : SequenceEvent) → Linked q (between ++ first ∷ before) → accepts q first ≡ true → NoneOf (accepts q) between
     → Counts q (count_by (is_end q) between) (result_now q (between ++ first ∷ before)) between
 counts q [] before first links request none =
     let found = taken q first request links.1 in
@@ -441,7 +441,7 @@ exactly : (n : ℕ) (now : AnswerName) → (n ≡ 0) ⊎ ((n ≡ 1) × (is_pendi
 exactly n now (inl none) waits over = absurd (not_both now (waits none) over)
 exactly n now (inr one) waits over = one.0
 
-one_end : (q : ℕ) (log : List Seen) → Linked q log → HasOneEnd q log
+one_end : (q : ℕ) (log : List SequenceEvent) → Linked q log → HasOneEnd q log
 one_end q log links = record {
   one = λ later between before second first is again request none calm.
       let whole : Linked q (later ++ second ∷ (between ++ first ∷ before)) = subst (λ es. Linked q es) is links in
@@ -455,7 +455,7 @@ one_end q log links = record {
 }
 
 -- where none is accepted there is nothing to end
-none_ends : (q : ℕ) (log : List Seen) → NoneOf (accepts q) log → HasOneEnd q log
+none_ends : (q : ℕ) (log : List SequenceEvent) → NoneOf (accepts q) log → HasOneEnd q log
 none_ends q log none = record {
   one = λ later between before second first is again request clear calm.
       absurd (clash again (or_parts (accepts q second) (list_any (accepts q) (between ++ first ∷ before)) (none_later q later (second ∷ (between ++ first ∷ before)) (subst (λ es. NoneOf (accepts q) es) is none))).0);

@@ -20,13 +20,13 @@ use Rattle.adc_machine.proofs.Aborted.{abort_is}
 use Rattle.adc_machine.proofs.Next.{next_is}
 use Rattle.adc_machine.proofs.Parts.{group_same, group_other}
 use Rattle.adc_machine.proofs.Stopped.{unmarked_group, unmarked_round}
-use Rattle.whole_runs.specs.GroupRuns.{Seen, stops, begins, requests, starts_on as starts_of, serves_on, serves, is_on as on_unit}
+use Rattle.whole_runs.specs.GroupRuns.{GroupEvent, stops, begins, requests, starts_on as starts_of, serves_on, serves, is_on as on_unit}
 use Rattle.whole_runs.proofs.GroupSteps.{is_completed, WaitGoes, Over, Made, Again, Back, Dropped, Same, Added, Cleared, GroupGoes, UnitGoes, Begun, Freed, seen, Goes, same_number, other_number, same_or_other, left_group, went, left_unit, act_goes}
 
 -- ---- units
 
 -- a unit that is freed, and the other ones
-freed_by : (v u : ℕ) (e : Seen) (s : AdcState) (p : Option Round) → ((v ≢ u) → on_unit v e ≡ false) → ((g : ℕ) → stops g e ≡ false) → UnitGoes v e s p (cond (v == u) None p)
+freed_by : (v u : ℕ) (e : GroupEvent) (s : AdcState) (p : Option Round) → ((v ≢ u) → on_unit v e ≡ false) → ((g : ℕ) → stops g e ≡ false) → UnitGoes v e s p (cond (v == u) None p)
 freed_by v u e s p none stop = by_test (v == u) refl
   where
     by_test : (b : Bool) → (v == u) ≡ b → UnitGoes v e s p (cond b None p)
@@ -36,7 +36,7 @@ freed_by v u e s p none stop = by_test (v == u) refl
         differ : v ≡ u → ⊥
         differ same = grind (arith, nat_tests, same, at)
 
-pub freed_unit : (v u : ℕ) (e : Seen) (s : AdcState) → ((v ≢ u) → on_unit v e ≡ false) → ((g : ℕ) → stops g e ≡ false) → UnitGoes v e s (round_at s v) (round_at (with_round s u None) v)
+pub freed_unit : (v u : ℕ) (e : GroupEvent) (s : AdcState) → ((v ≢ u) → on_unit v e ≡ false) → ((g : ℕ) → stops g e ≡ false) → UnitGoes v e s (round_at s v) (round_at (with_round s u None) v)
 freed_unit zero u e s none stop = freed_by zero u e s (round_at s 0) none stop
 freed_unit (suc zero) u e s none stop = freed_by (suc zero) u e s (round_at s 1) none stop
 freed_unit (suc (suc v)) u e s none stop = Freed refl
@@ -76,12 +76,12 @@ stored d s u r values = record (with_group (with_round s u None) r.group (with_v
   results = with_round_of (group_of d r.group) (length (group_at s r.group).rounds) r.group (group_at s r.group).chosen values s.results;
 }
 
-settled_wait : (d : AdcTable) (g n u : ℕ) (r : Round) (e : Seen) (s : AdcState) (x y : GroupState) → serves_on u g e ≡ true → stops g e ≡ false → round_at s u ≡ Some r → r.group ≡ g
+settled_wait : (d : AdcTable) (g n u : ℕ) (r : Round) (e : GroupEvent) (s : AdcState) (x y : GroupState) → serves_on u g e ≡ true → stops g e ≡ false → round_at s u ≡ Some r → r.group ≡ g
     → (y.waiting ≡ x.waiting) ⊎ (y.waiting ≡ Some (record { number = n; kept = [] })) → WaitGoes d g e s x y
 settled_wait d g n u r e s x y serve stop at own (inl same) = Over u r serve at own same
 settled_wait d g n u r e s x y serve stop at own (inr again) = Again u n r serve at own again
 
-served_own : (d : AdcTable) (w : World) (s : AdcState) (u : ℕ) (r : Round) (e : Seen) → r.group < 16 → serves_on u r.group e ≡ true → stops r.group e ≡ false → round_at s u ≡ Some r → e.world ≡ w
+served_own : (d : AdcTable) (w : World) (s : AdcState) (u : ℕ) (r : Round) (e : GroupEvent) → r.group < 16 → serves_on u r.group e ≡ true → stops r.group e ≡ false → round_at s u ≡ Some r → e.world ≡ w
     → GroupGoes d r.group e s (group_at s r.group) (group_at (served_values d s u r (values_of w (group_of d r.group) r)) r.group)
 served_own d w s u r e lt serve stop at now =
     let k : Option configured.Group = group_of d r.group in
@@ -100,7 +100,7 @@ served_other d s u g r values lt ne =
     turn_other d (stored d s u r values) r.group r.request.number g (is_full (group_of d r.group) (length (group_at s r.group).rounds + 1)) (is_continuous (group_of d r.group)) lt ne
     ∙ group_other (with_round s u None) r.group (with_values (group_of d r.group) (group_at s r.group) values) g lt ne
 
-served_unit : (d : AdcTable) (s : AdcState) (u v : ℕ) (r : Round) (values : List ℕ) (e : Seen) → ((v ≢ u) → on_unit v e ≡ false) → ((g : ℕ) → stops g e ≡ false)
+served_unit : (d : AdcTable) (s : AdcState) (u v : ℕ) (r : Round) (values : List ℕ) (e : GroupEvent) → ((v ≢ u) → on_unit v e ≡ false) → ((g : ℕ) → stops g e ≡ false)
     → UnitGoes v e s (round_at s v) (round_at (served_values d s u r values) v)
 served_unit d s u v r values e none stop =
     subst (λ q. UnitGoes v e s (round_at s v) q)
@@ -132,7 +132,7 @@ round_goes d w s l received (Some r) line at = record {
 
 -- ---- a serving of a trigger's line
 
-requested_own : (d : AdcTable) (g : ℕ) (e : Seen) (s t : AdcState) → g < 16 → requests g e ≡ true → serves g e ≡ false → begins g e ≡ false → group_at t g ≡ group_at s g
+requested_own : (d : AdcTable) (g : ℕ) (e : GroupEvent) (s t : AdcState) → g < 16 → requests g e ≡ true → serves g e ≡ false → begins g e ≡ false → group_at t g ≡ group_at s g
     → GroupGoes d g e s (group_at s g) (group_at (requested t g) g)
 requested_own d g e s t lt request serve begin same =
     let made : GroupState = record (group_at t g) { waiting = Some (record { number = t.requests + 1; kept = [] }) } in
@@ -203,12 +203,12 @@ start_group d w s unit made_by received u h g num at lt (inl same) =
 start_group d w s unit made_by received u h g num at lt (inr ne) = left_group d g _ s _ _ refl refl refl (rw (num, at, other_number h g ne) refl) (group_other s h (record (group_at s h) { waiting = None }) g lt (λ same. ne (sym same)))
 
 -- the unit that starts
-begun_unit : (w : World) (e : Seen) (s : AdcState) (u h : ℕ) (o : Option Request) (p : Option Round) → is_some o ≡ true → (group_at s h).waiting ≡ o → h < 16 → starts_of u h e ≡ true → e.world ≡ w
+begun_unit : (w : World) (e : GroupEvent) (s : AdcState) (u h : ℕ) (o : Option Request) (p : Option Round) → is_some o ≡ true → (group_at s h).waiting ≡ o → h < 16 → starts_of u h e ≡ true → e.world ≡ w
     → UnitGoes u e s p (begun w h o)
 begun_unit w e s u h None p some at lt start now = absurd (cc some)
 begun_unit w e s u h (Some x) p some at lt start now = Begun h x start lt at (ap (λ (v : World). Some (record { group = h; request = x; start = v.now })) (sym now))
 
-start_by : (w : World) (e : Seen) (s : AdcState) (u v h : ℕ) (p : Option Round) → ((v ≢ u) → on_unit v e ≡ false) → ((g : ℕ) → stops g e ≡ false)
+start_by : (w : World) (e : GroupEvent) (s : AdcState) (u v h : ℕ) (p : Option Round) → ((v ≢ u) → on_unit v e ≡ false) → ((g : ℕ) → stops g e ≡ false)
     → is_some (group_at s h).waiting ≡ true → h < 16 → starts_of u h e ≡ true → e.world ≡ w → UnitGoes v e s p (cond (v == u) (begun w h (group_at s h).waiting) p)
 start_by w e s u v h p none stop waits lt start now = by_test (v == u) refl
   where
@@ -221,7 +221,7 @@ start_by w e s u v h p none stop waits lt start now = by_test (v == u) refl
         differ : v ≡ u → ⊥
         differ same = grind (arith, nat_tests, same, at)
 
-start_unit : (w : World) (e : Seen) (s : AdcState) (u v h : ℕ) → ((v ≢ u) → on_unit v e ≡ false) → ((g : ℕ) → stops g e ≡ false)
+start_unit : (w : World) (e : GroupEvent) (s : AdcState) (u v h : ℕ) → ((v ≢ u) → on_unit v e ≡ false) → ((g : ℕ) → stops g e ≡ false)
     → is_some (group_at s h).waiting ≡ true → h < 16 → starts_of u h e ≡ true → e.world ≡ w → UnitGoes v e s (round_at s v) (round_at (started w s u h) v)
 start_unit w e s u zero h none stop waits lt start now = start_by w e s u 0 h (round_at s 0) none stop waits lt start now
 start_unit w e s u (suc zero) h none stop waits lt start now = start_by w e s u 1 h (round_at s 1) none stop waits lt start now

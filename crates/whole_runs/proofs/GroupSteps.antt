@@ -17,7 +17,7 @@ use Rattle.adc_machine.specs.declared.table.AdcTable.{AdcTable}
 use Rattle.adc_machine.proofs.Others.{other_group}
 use Rattle.adc_machine.proofs.Parts.{of_group, group_same}
 use Rattle.adc_machine.proofs.Stopped.{unmarked_group, unmarked_round, quiet, idle, off}
-use Rattle.whole_runs.specs.GroupRuns.{Seen, seen_between, stops, begins, requests, starts_on as starts_of, aborts_on as aborts_of, serves_on, serves, is_on as on_unit, touches, call_by, is_start, is_enabling, is_stop, is_whole}
+use Rattle.whole_runs.specs.GroupRuns.{GroupEvent, seen_between, stops, begins, requests, starts_on as starts_of, aborts_on as aborts_of, serves_on, serves, is_on as on_unit, touches, call_by, is_start, is_enabling, is_stop, is_whole}
 
 -- ---- what an event may do
 
@@ -29,7 +29,7 @@ is_completed Completed = true
 is_completed StreamCompleted = true
 
 -- what an event does to the request of a group
-pub data WaitGoes (d : AdcTable) (g : ℕ) (e : Seen) (s : AdcState) (x y : GroupState) : Type 0 where
+pub data WaitGoes (d : AdcTable) (g : ℕ) (e : GroupEvent) (s : AdcState) (x y : GroupState) : Type 0 where
   Stands : stops g e ≡ false → touches g e ≡ false → y.waiting ≡ x.waiting → WaitGoes d g e s x y
   Over : (u : ℕ) (r : Round) → serves_on u g e ≡ true → round_at s u ≡ Some r → r.group ≡ g → y.waiting ≡ x.waiting → WaitGoes d g e s x y
   Made : (n : ℕ) → requests g e ≡ true → y.waiting ≡ Some (record { number = n; kept = [] }) → WaitGoes d g e s x y
@@ -39,23 +39,23 @@ pub data WaitGoes (d : AdcTable) (g : ℕ) (e : Seen) (s : AdcState) (x y : Grou
   Dropped : y.waiting ≡ None → WaitGoes d g e s x y
 
 -- what it does to the rounds of a group
-pub data RoundsGo (d : AdcTable) (g : ℕ) (e : Seen) (s : AdcState) (x y : GroupState) : Type 0 where
+pub data RoundsGo (d : AdcTable) (g : ℕ) (e : GroupEvent) (s : AdcState) (x y : GroupState) : Type 0 where
   Same : serves g e ≡ false → begins g e ≡ false → y.rounds ≡ x.rounds → (is_completed y.status ≡ true → is_completed x.status ≡ true) → RoundsGo d g e s x y
   Added : (u : ℕ) (r : Round) → serves_on u g e ≡ true → round_at s u ≡ Some r → r.group ≡ g → y.rounds ≡ x.rounds ++ values_of e.world (group_of d g) r ∷ [] → RoundsGo d g e s x y
   Cleared : begins g e ≡ true → y.rounds ≡ [] → is_completed y.status ≡ false → RoundsGo d g e s x y
 
-pub record GroupGoes (d : AdcTable) (g : ℕ) (e : Seen) (s : AdcState) (x y : GroupState) : Type 0 where
+pub record GroupGoes (d : AdcTable) (g : ℕ) (e : GroupEvent) (s : AdcState) (x y : GroupState) : Type 0 where
   pub waiting : WaitGoes d g e s x y
   pub rounds : RoundsGo d g e s x y
 
 -- what it does to the round of a unit
-pub data UnitGoes (u : ℕ) (e : Seen) (s : AdcState) (p q : Option Round) : Type 0 where
+pub data UnitGoes (u : ℕ) (e : GroupEvent) (s : AdcState) (p q : Option Round) : Type 0 where
   Remains : on_unit u e ≡ false → ((r : Round) → p ≡ Some r → stops r.group e ≡ false) → q ≡ p → UnitGoes u e s p q
   Begun : (g : ℕ) (x : Request) → starts_of u g e ≡ true → g < 16 → (group_at s g).waiting ≡ Some x → q ≡ Some (record { group = g; request = x; start = e.world.now }) → UnitGoes u e s p q
   Freed : q ≡ None → UnitGoes u e s p q
 
 -- an event as it is seen where it is allowed
-abbrev pub seen : AdcTable → World → Happening Call → AdcState → Outcome AdcState → Seen
+abbrev pub seen : AdcTable → World → Happening Call → AdcState → Outcome AdcState → GroupEvent
 seen d w h s out = seen_between d s out.state (record { world = w; what = h }) out.told
 
 pub record Goes (d : AdcTable) (w : World) (h : Happening Call) (s : AdcState) (out : Outcome AdcState) : Type 0 where
@@ -79,11 +79,11 @@ same_or_other n m = by_test (n == m) refl
 
 -- ---- groups that an event leaves
 
-pub same_group : (d : AdcTable) (g : ℕ) (e : Seen) (s : AdcState) (x y : GroupState) → stops g e ≡ false → serves g e ≡ false → begins g e ≡ false → touches g e ≡ false → y.waiting ≡ x.waiting → y.rounds ≡ x.rounds
+pub same_group : (d : AdcTable) (g : ℕ) (e : GroupEvent) (s : AdcState) (x y : GroupState) → stops g e ≡ false → serves g e ≡ false → begins g e ≡ false → touches g e ≡ false → y.waiting ≡ x.waiting → y.rounds ≡ x.rounds
     → (is_completed y.status ≡ true → is_completed x.status ≡ true) → GroupGoes d g e s x y
 same_group d g e s x y stop serve begin touch waiting rounds status = record { waiting = Stands stop touch waiting; rounds = Same serve begin rounds status }
 
-pub left_group : (d : AdcTable) (g : ℕ) (e : Seen) (s : AdcState) (x y : GroupState) → stops g e ≡ false → serves g e ≡ false → begins g e ≡ false → touches g e ≡ false → y ≡ x → GroupGoes d g e s x y
+pub left_group : (d : AdcTable) (g : ℕ) (e : GroupEvent) (s : AdcState) (x y : GroupState) → stops g e ≡ false → serves g e ≡ false → begins g e ≡ false → touches g e ≡ false → y ≡ x → GroupGoes d g e s x y
 left_group d g e s x y stop serve begin touch same =
     same_group d g e s x y stop serve begin touch (ap (λ (z : GroupState). z.waiting) same) (ap (λ (z : GroupState). z.rounds) same) (λ h. ap (λ (z : GroupState). is_completed z.status) (sym same) ∙ h)
 
@@ -116,7 +116,7 @@ calls_other g h GetStreamLastPointer None times ne = (refl, refl, refl)
 abbrev Own : AdcTable → World → AdcState → ℕ → GroupCall → (ℕ → ℕ) → Outcome AdcState → Type 0
 Own d w s g call times out = GroupGoes d g (seen d w (Acts (Group g call) times) s out) s (group_at s g) (group_at out.state g)
 
-pub changed_group : (d : AdcTable) (g : ℕ) (e : Seen) (s : AdcState) (x y z : GroupState) → stops g e ≡ false → serves g e ≡ false → begins g e ≡ false → touches g e ≡ false → y ≡ z → z.waiting ≡ x.waiting → z.rounds ≡ x.rounds
+pub changed_group : (d : AdcTable) (g : ℕ) (e : GroupEvent) (s : AdcState) (x y z : GroupState) → stops g e ≡ false → serves g e ≡ false → begins g e ≡ false → touches g e ≡ false → y ≡ z → z.waiting ≡ x.waiting → z.rounds ≡ x.rounds
     → (is_completed z.status ≡ true → is_completed x.status ≡ true) → GroupGoes d g e s x y
 changed_group d g e s x y z stop serve begin touch same waiting rounds status =
     subst (λ a. GroupGoes d g e s x a) (sym same) (same_group d g e s x z stop serve begin touch waiting rounds status)
@@ -135,7 +135,7 @@ read_none false StreamCompleted = refl
 abbrev pub read_group : AdcTable → AdcState → ℕ → GroupState
 read_group d s g = record (group_at s g) { status = status_read (ends_with_stream (group_of d g)) (group_at s g).status }
 
-read_own : (d : AdcTable) (g : ℕ) (e : Seen) (s : AdcState) → g < 16 → stops g e ≡ false → serves g e ≡ false → begins g e ≡ false → touches g e ≡ false → GroupGoes d g e s (group_at s g) (group_at (read_from d s g) g)
+read_own : (d : AdcTable) (g : ℕ) (e : GroupEvent) (s : AdcState) → g < 16 → stops g e ≡ false → serves g e ≡ false → begins g e ≡ false → touches g e ≡ false → GroupGoes d g e s (group_at s g) (group_at (read_from d s g) g)
 read_own d g e s lt stop serve begin touch =
     changed_group d g e s (group_at s g) (group_at (read_from d s g) g) (read_group d s g) stop serve begin touch (group_same s g (read_group d s g) lt) refl refl
     (λ h. not_so (is_completed (read_group d s g).status) (is_completed (group_at s g).status) (read_none (ends_with_stream (group_of d g)) (group_at s g).status) h)
@@ -166,7 +166,7 @@ stopped_is d s g lt =
     ∙ ap (λ (x : GroupState). record x { trigger = false }) (group_same (quiet s g) g (record (group_at (quiet s g) g) { waiting = None }) lt)
     ∙ ap (λ (x : GroupState). record x { waiting = None; trigger = false }) (group_same s g (record (group_at s g) { status = Idle; notification = false }) lt)
 
-stopped_own : (d : AdcTable) (g : ℕ) (e : Seen) (s : AdcState) → g < 16 → serves g e ≡ false → begins g e ≡ false → GroupGoes d g e s (group_at s g) (group_at (stopped d s g) g)
+stopped_own : (d : AdcTable) (g : ℕ) (e : GroupEvent) (s : AdcState) → g < 16 → serves g e ≡ false → begins g e ≡ false → GroupGoes d g e s (group_at s g) (group_at (stopped d s g) g)
 stopped_own d g e s lt serve begin =
     subst (λ a. GroupGoes d g e s (group_at s g) a) (sym (stopped_is d s g lt)) (record { waiting = Dropped refl; rounds = Same serve begin refl (λ h. not_so false (is_completed (group_at s g).status) refl h) })
 
@@ -211,11 +211,11 @@ any_group d w s g h call times lt (inr ne) =
 
 -- ---- units under acts about a group
 
-pub left_unit : (u : ℕ) (e : Seen) (s : AdcState) (p q : Option Round) → on_unit u e ≡ false → ((g : ℕ) → stops g e ≡ false) → q ≡ p → UnitGoes u e s p q
+pub left_unit : (u : ℕ) (e : GroupEvent) (s : AdcState) (p q : Option Round) → on_unit u e ≡ false → ((g : ℕ) → stops g e ≡ false) → q ≡ p → UnitGoes u e s p q
 left_unit u e s p q none stop same = Remains none (λ r at. stop r.group) same
 
 -- the round of a unit, unless it is of this group
-unless_unit : (u h : ℕ) (e : Seen) (s : AdcState) (p : Option Round) → on_unit u e ≡ false → ((g : ℕ) → h ≢ g → stops g e ≡ false) → UnitGoes u e s p (unless_of h p)
+unless_unit : (u h : ℕ) (e : GroupEvent) (s : AdcState) (p : Option Round) → on_unit u e ≡ false → ((g : ℕ) → h ≢ g → stops g e ≡ false) → UnitGoes u e s p (unless_of h p)
 unless_unit u h e s None none stop = Freed refl
 unless_unit u h e s (Some r) none stop = by_test (r.group == h) refl
   where
@@ -226,7 +226,7 @@ unless_unit u h e s (Some r) none stop = by_test (r.group == h) refl
         differ : (x : Round) → Some r ≡ Some x → h ≡ x.group → ⊥
         differ x is same = let one : r ≡ x = cc in let at_one : (x.group == h) ≡ false = rw (← one) at in grind (arith, nat_tests, same, at_one)
 
-stopped_unit : (d : AdcTable) (u h : ℕ) (e : Seen) (s : AdcState) → on_unit u e ≡ false → ((g : ℕ) → h ≢ g → stops g e ≡ false) → UnitGoes u e s (round_at s u) (round_at (stopped d s h) u)
+stopped_unit : (d : AdcTable) (u h : ℕ) (e : GroupEvent) (s : AdcState) → on_unit u e ≡ false → ((g : ℕ) → h ≢ g → stops g e ≡ false) → UnitGoes u e s (round_at s u) (round_at (stopped d s h) u)
 stopped_unit d u h e s none stop = subst (λ q. UnitGoes u e s (round_at s u) q) (sym (unmarked_round (off s h) u (trigger_input (group_of d h)))) (by_unit u none)
   where
     by_unit : (v : ℕ) → on_unit v e ≡ false → UnitGoes v e s (round_at s v) (round_at (off s h) v)

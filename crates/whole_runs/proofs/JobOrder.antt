@@ -23,8 +23,8 @@ use Rattle.spi_machine.specs.declared.table.SpiTable.{SpiTable}
 use Rattle.spi_machine.proofs.Best.{next_is}
 use Rattle.spi_machine.proofs.Runs.{start-on}
 use Rattle.spi_machine.proofs.Sending.{plain-start}
-use Rattle.whole_runs.specs.Runs.{Event, state_after, AreAllowed, told_by}
-use Rattle.whole_runs.specs.SequenceRuns.{Seen, seen_between, seen_of, begins_by, accepts, is_pending, starts_job, ends_job, requested_at, jobs_ended, has_started}
+use Rattle.whole_runs.specs.Runs.{Event, state_after, AreAllowed, told_or_nothing}
+use Rattle.whole_runs.specs.SequenceRuns.{SequenceEvent, seen_between, seen_of, begins_by, accepts, is_pending, starts_job, ends_job, requested_at, jobs_ended, has_started}
 use Rattle.whole_runs.specs.Order.{job_in, priority_in, keeps_unit_in, GoesFirst, Started, Priority, Earlier, StartsNext, InOrderBy, AreInOrder}
 use Rattle.whole_runs.proofs.EndsOnce.{Agrees, run_agrees, accepts_no_job}
 use Rattle.whole_runs.proofs.SequenceSteps.{seen, Goes, Leaves, Accepts, Starting, Advances, Marks, Ending, Initialising, Sends, Resetting, happens_goes}
@@ -97,14 +97,14 @@ each_at P (x ∷ ps) p all (suc n, within, is) = each_at P ps p all.1 (n, omega 
 
 -- ---- what the pending list says
 
-pub record Ordered (past : List Seen) (s : SpiState) : Type 0 where
+pub record Ordered (past : List SequenceEvent) (s : SpiState) : Type 0 where
   pub next : (p : Pending) → Contains s.pending p → p.next ≡ jobs_ended p.sequence past
   pub started : (p : Pending) → Contains s.pending p → p.started ≡ has_started p.sequence past
   pub numbered : (p : Pending) → Contains s.pending p → p.request ≤ s.requests
   pub order : (p q : Pending) → Contains s.pending p → Contains s.pending q → p.request ≤ q.request → requested_at p.sequence past ≤ requested_at q.sequence past
 
 -- An entry was there before an event.
-pub record EntryWas (e : Seen) (s : SpiState) (x : Pending) : Type 0 where
+pub record EntryWas (e : SequenceEvent) (s : SpiState) (x : Pending) : Type 0 where
   pub old : Pending
   pub there : Contains s.pending old
   pub sequence : x.sequence ≡ old.sequence
@@ -113,15 +113,15 @@ pub record EntryWas (e : Seen) (s : SpiState) (x : Pending) : Type 0 where
   pub next : x.next ≡ cond (ends_job old.sequence e) (suc old.next) old.next
   pub started : x.started ≡ (starts_job old.sequence e || old.started)
 
-pub data EntryGoes (e : Seen) (s : SpiState) (x : Pending) : Type 0 where
+pub data EntryGoes (e : SequenceEvent) (s : SpiState) (x : Pending) : Type 0 where
   Old : EntryWas e s x → EntryGoes e s x
   New : x.next ≡ 0 → x.started ≡ false → x.request ≡ s.requests + 1 → accepts x.sequence e ≡ true → EntryGoes e s x
 
-same_entry : (e : Seen) (s : SpiState) (x : Pending) → Contains s.pending x → accepts x.sequence e ≡ false → starts_job x.sequence e ≡ false → ends_job x.sequence e ≡ false → EntryGoes e s x
+same_entry : (e : SequenceEvent) (s : SpiState) (x : Pending) → Contains s.pending x → accepts x.sequence e ≡ false → starts_job x.sequence e ≡ false → ends_job x.sequence e ≡ false → EntryGoes e s x
 same_entry e s x there accept start end = Old (record { old = x; there = there; sequence = refl; request = refl; accept = accept; next = rw end refl; started = rw start refl })
 
 -- an entry that is changed where it is of a sequence
-changed_entry : (e : Seen) (s : SpiState) (k : ℕ) (f : Pending → Pending) (p x : Pending) (b : Bool) → Contains s.pending p → (p.sequence == k) ≡ b → cond b (f p) p ≡ x → ((f p).sequence ≡ p.sequence) → ((f p).request ≡ p.request)
+changed_entry : (e : SequenceEvent) (s : SpiState) (k : ℕ) (f : Pending → Pending) (p x : Pending) (b : Bool) → Contains s.pending p → (p.sequence == k) ≡ b → cond b (f p) p ≡ x → ((f p).sequence ≡ p.sequence) → ((f p).request ≡ p.request)
     → accepts p.sequence e ≡ false → (b ≡ true → (f p).next ≡ cond (ends_job p.sequence e) (suc p.next) p.next) → (b ≡ true → (f p).started ≡ (starts_job p.sequence e || p.started))
     → (b ≡ false → (starts_job p.sequence e ≡ false) × (ends_job p.sequence e ≡ false)) → EntryGoes e s x
 changed_entry e s k f p x true there at is seq req accept next started other = Old (record {
@@ -136,7 +136,7 @@ changed_entry e s k f p x true there at is seq req accept next started other = O
 changed_entry e s k f p x false there at is seq req accept next started other =
     subst (λ y. EntryGoes e s y) is (same_entry e s p there accept (other refl).0 (other refl).1)
 
-entries_go : (d : SpiTable) (e : Seen) (s t : SpiState) → Goes d e s t → (x : Pending) → Contains t.pending x → EntryGoes e s x
+entries_go : (d : SpiTable) (e : SequenceEvent) (s t : SpiState) → Goes d e s t → (x : Pending) → Contains t.pending x → EntryGoes e s x
 entries_go d e s t (Leaves calm reset pending results requests told) x has =
     let there : Contains s.pending x = subst (λ ps. Contains ps x) pending has in
     same_entry e s x there (calm.accepts x.sequence) (calm.starts x.sequence) (calm.ends x there)
@@ -199,16 +199,16 @@ entries_go d e s t (Resetting reset accept pending results told) x has = absurd 
 -- ---- what an event leaves of it
 
 -- requests count on
-abbrev Bound : Seen → SpiState → SpiState → Pending → Type 0
+abbrev Bound : SequenceEvent → SpiState → SpiState → Pending → Type 0
 Bound e s t x = (s.requests ≤ t.requests) × (accepts x.sequence e ≡ true → t.requests ≡ s.requests + 1)
 
-bound_same : (e : Seen) (s t : SpiState) (x : Pending) → ((q : ℕ) → accepts q e ≡ false) → t.requests ≡ s.requests → Bound e s t x
+bound_same : (e : SequenceEvent) (s t : SpiState) (x : Pending) → ((q : ℕ) → accepts q e ≡ false) → t.requests ≡ s.requests → Bound e s t x
 bound_same e s t x accept same = (omega (arith, same), λ h. absurd (clash h (accept x.sequence)))
   where
     clash : {b : Bool} → b ≡ true → b ≡ false → ⊥
     clash a b = absurd (cc (a, b))
 
-bound : (d : SpiTable) (e : Seen) (s t : SpiState) → Goes d e s t → (x : Pending) → Contains t.pending x → Bound e s t x
+bound : (d : SpiTable) (e : SequenceEvent) (s t : SpiState) → Goes d e s t → (x : Pending) → Contains t.pending x → Bound e s t x
 bound d e s t (Leaves calm reset pending results requests told) x has = bound_same e s t x calm.accepts requests
 bound d e s t (Accepts k had own accept reset free pending results requests told) x has = (omega (arith, requests), λ h. requests)
 bound d e s t (Starting k accept reset start end pending results requests told) x has = bound_same e s t x accept requests
@@ -226,7 +226,7 @@ bound d e s t (Resetting reset accept pending results told) x has = absurd (none
     none (n, within, is) = omega (arith, within)
 
 -- the request of a sequence was among the events
-within_past : (q : ℕ) (past : List Seen) → requested_at q past ≤ length past
+within_past : (q : ℕ) (past : List SequenceEvent) → requested_at q past ≤ length past
 within_past q [] = omega arith
 within_past q (e ∷ past) = by_test (accepts q e) (within_past q past)
   where
@@ -234,7 +234,7 @@ within_past q (e ∷ past) = by_test (accepts q e) (within_past q past)
     by_test true h = omega arith
     by_test false h = omega (arith, h)
 
-next_after : (e : Seen) (past : List Seen) (s : SpiState) (x : Pending) → EntryGoes e s x → Ordered past s → x.next ≡ jobs_ended x.sequence (e ∷ past)
+next_after : (e : SequenceEvent) (past : List SequenceEvent) (s : SpiState) (x : Pending) → EntryGoes e s x → Ordered past s → x.next ≡ jobs_ended x.sequence (e ∷ past)
 next_after e past s x (Old was) h =
     was.next ∙ ap (λ n. cond (ends_job was.old.sequence e) (suc n) n) (h.next was.old was.there) ∙ sym (ap (λ q. jobs_ended q (e ∷ past)) was.sequence ∙ ended_by was.accept)
   where
@@ -242,7 +242,7 @@ next_after e past s x (Old was) h =
     ended_by accept = rw accept refl
 next_after e past s x (New none new request accept) h = none ∙ sym (rw accept refl)
 
-started_after : (e : Seen) (past : List Seen) (s : SpiState) (x : Pending) → EntryGoes e s x → Ordered past s → x.started ≡ has_started x.sequence (e ∷ past)
+started_after : (e : SequenceEvent) (past : List SequenceEvent) (s : SpiState) (x : Pending) → EntryGoes e s x → Ordered past s → x.started ≡ has_started x.sequence (e ∷ past)
 started_after e past s x (Old was) h =
     was.started ∙ ap (λ b. starts_job was.old.sequence e || b) (h.started was.old was.there) ∙ sym (ap (λ q. has_started q (e ∷ past)) was.sequence ∙ started_by was.accept)
   where
@@ -250,21 +250,21 @@ started_after e past s x (Old was) h =
     started_by accept = rw accept refl
 started_after e past s x (New none new request accept) h = new ∙ sym (rw accept refl)
 
-numbered_after : (e : Seen) (past : List Seen) (s t : SpiState) (x : Pending) → EntryGoes e s x → Bound e s t x → Ordered past s → x.request ≤ t.requests
+numbered_after : (e : SequenceEvent) (past : List SequenceEvent) (s t : SpiState) (x : Pending) → EntryGoes e s x → Bound e s t x → Ordered past s → x.request ≤ t.requests
 numbered_after e past s t x (Old was) b h = let f = was.request in let g = h.numbered was.old was.there in let k = b.0 in omega (arith, f, g, k)
 numbered_after e past s t x (New none new request accept) b h = let k = b.1 accept in omega (arith, request, k)
 
 -- when the request of an entry came
-at_old : (e : Seen) (past : List Seen) (s : SpiState) (x : Pending) (was : EntryWas e s x) → requested_at x.sequence (e ∷ past) ≡ requested_at was.old.sequence past
+at_old : (e : SequenceEvent) (past : List SequenceEvent) (s : SpiState) (x : Pending) (was : EntryWas e s x) → requested_at x.sequence (e ∷ past) ≡ requested_at was.old.sequence past
 at_old e past s x was = ap (λ q. requested_at q (e ∷ past)) was.sequence ∙ at_by was.accept
   where
     at_by : accepts was.old.sequence e ≡ false → requested_at was.old.sequence (e ∷ past) ≡ requested_at was.old.sequence past
     at_by accept = rw accept refl
 
-at_new : (e : Seen) (past : List Seen) (q : ℕ) → accepts q e ≡ true → requested_at q (e ∷ past) ≡ length past
+at_new : (e : SequenceEvent) (past : List SequenceEvent) (q : ℕ) → accepts q e ≡ true → requested_at q (e ∷ past) ≡ length past
 at_new e past q accept = rw accept refl
 
-order_after : (e : Seen) (past : List Seen) (s : SpiState) (x y : Pending) → EntryGoes e s x → EntryGoes e s y → Ordered past s → x.request ≤ y.request → requested_at x.sequence (e ∷ past) ≤ requested_at y.sequence (e ∷ past)
+order_after : (e : SequenceEvent) (past : List SequenceEvent) (s : SpiState) (x y : Pending) → EntryGoes e s x → EntryGoes e s y → Ordered past s → x.request ≤ y.request → requested_at x.sequence (e ∷ past) ≤ requested_at y.sequence (e ∷ past)
 order_after e past s x y (Old a) (Old b) h le =
     let f = a.request in
     let g = b.request in
@@ -286,7 +286,7 @@ order_after e past s x y (New none new request accept) (New none2 new2 request2 
     let n = at_new e past y.sequence accept2 in
     omega (arith, m, n)
 
-pub ordered_after : (d : SpiTable) (e : Seen) (past : List Seen) (s t : SpiState) → Goes d e s t → Ordered past s → Ordered (e ∷ past) t
+pub ordered_after : (d : SpiTable) (e : SequenceEvent) (past : List SequenceEvent) (s t : SpiState) → Goes d e s t → Ordered past s → Ordered (e ∷ past) t
 ordered_after d e past s t goes h = record {
   next = λ x has. next_after e past s x (entries_go d e s t goes x has) h;
   started = λ x has. started_after e past s x (entries_go d e s t goes x has) h;
@@ -301,16 +301,16 @@ pending_is SpiSeqPending h = refl
 pending_is x h = absurd (cc h)
 
 -- the next job of an entry, its priority, and whether it keeps its unit, by the run
-job_is : (d : SpiTable) (past : List Seen) (s : SpiState) (p : Pending) → Ordered past s → Contains s.pending p → next_job d p ≡ job_in d p.sequence past
+job_is : (d : SpiTable) (past : List SequenceEvent) (s : SpiState) (p : Pending) → Ordered past s → Contains s.pending p → next_job d p ≡ job_in d p.sequence past
 job_is d past s p h there = ap (λ n. slice_index_or (jobs_of d p.sequence) n 0) (h.next p there)
 
-priority_is : (d : SpiTable) (past : List Seen) (s : SpiState) (p : Pending) → Ordered past s → Contains s.pending p → priority_of d p ≡ priority_in d p.sequence past
+priority_is : (d : SpiTable) (past : List SequenceEvent) (s : SpiState) (p : Pending) → Ordered past s → Contains s.pending p → priority_of d p ≡ priority_in d p.sequence past
 priority_is d past s p h there = ap (λ j. priority_by (job_of d j)) (job_is d past s p h there)
 
-keeps_is : (d : SpiTable) (past : List Seen) (s : SpiState) (p : Pending) → Ordered past s → Contains s.pending p → keeps_unit d p ≡ keeps_unit_in d p.sequence past
+keeps_is : (d : SpiTable) (past : List SequenceEvent) (s : SpiState) (p : Pending) → Ordered past s → Contains s.pending p → keeps_unit d p ≡ keeps_unit_in d p.sequence past
 keeps_is d past s p h there = ap (λ b. b && not (is_interruptible (sequence_of d p.sequence))) (h.started p there)
 
-goes_first : (d : SpiTable) (past : List Seen) (s : SpiState) (q p : Pending) → Ordered past s → Contains s.pending q → Contains s.pending p → Yields d q p → GoesFirst d past p.sequence q.sequence
+goes_first : (d : SpiTable) (past : List SequenceEvent) (s : SpiState) (q p : Pending) → Ordered past s → Contains s.pending q → Contains s.pending p → Yields d q p → GoesFirst d past p.sequence q.sequence
 goes_first d past s q p h has there (ToStarted keeps free) = Started (sym (keeps_is d past s p h there) ∙ keeps) (sym (keeps_is d past s q h has) ∙ free)
 goes_first d past s q p h has there (ToPriority other own less) =
     let a = priority_is d past s q h has in
@@ -323,7 +323,7 @@ goes_first d past s q p h has there (ToEarlier same both le) =
     by_both (inl keeps) = inl (sym (keeps_is d past s p h there) ∙ same ∙ keeps)
     by_both (inr equal) = inr (sym (priority_is d past s p h there) ∙ sym equal ∙ priority_is d past s q h has)
 
-start_next : (d : SpiTable) (past : List Seen) (s : SpiState) (e : Seen) (u : ℕ) (p : Pending) → HasPriorities d → Ordered past s → Agrees d s → next_at d s (Some u) ≡ Some p
+start_next : (d : SpiTable) (past : List SequenceEvent) (s : SpiState) (e : SequenceEvent) (u : ℕ) (p : Pending) → HasPriorities d → Ordered past s → Agrees d s → next_at d s (Some u) ≡ Some p
     → e.sequence ≡ Some p.sequence → e.job ≡ Some (next_job d p) → ((q : ℕ) → e.had q ≡ sequence_result s.sequence_results q) → StartsNext d u e past
 start_next d past s e u p fits h agrees at named job had =
     let best : IsNext d u s.pending p = next_is d u s.pending p fits (start-on d s u p at) in
@@ -347,13 +347,13 @@ start_next d past s e u p fits h agrees at named job had =
         let for_unit : is_for d u q ≡ true = ap (λ j. is_on_unit u (job_of d j)) (job_is d past s q h there) ∙ ap (λ n. is_on_unit u (job_of d (job_in d n past))) same ∙ on in
         subst (λ n. GoesFirst d past p.sequence n) same (goes_first d past s q p h there best.among (each_at (λ q. is_for d u q ≡ true → Yields d q p) s.pending q best.first there for_unit))
 
-start_by_next : (d : SpiTable) (w : World) (past : List Seen) (s : SpiState) (unit : units.Unit) (made_by : Option Call) (received u : ℕ) (o : Option Pending) (out : Outcome SpiState) → HasPriorities d → Ordered past s → Agrees d s
+start_by_next : (d : SpiTable) (w : World) (past : List SequenceEvent) (s : SpiState) (unit : units.Unit) (made_by : Option Call) (received u : ℕ) (o : Option Pending) (out : Outcome SpiState) → HasPriorities d → Ordered past s → Agrees d s
     → number_of unit ≡ Some u → is_sync_unit d u ≡ false → next_at d s (Some u) ≡ o → start_by d w s (Some u) received o ≡ Some out → StartsNext d u (seen d (Starts unit made_by received) s out) past
 start_by_next d w past s unit made_by received u None out fits h agrees num plain at e = absurd (cc e)
 start_by_next d w past s unit made_by received u (Some p) out fits h agrees num plain at e =
     start_next d past s (seen d (Starts unit made_by received) s out) u p fits h agrees at (rw (num, plain, at) refl) (rw (num, plain, at) refl) (λ q. refl)
 
-in_order : (d : SpiTable) (w : World) (past : List Seen) (s : SpiState) (h : Happening Call) (out : Outcome SpiState) → HasPriorities d → Ordered past s → Agrees d s → (spi_machine d).happens w s h ≡ Some out
+in_order : (d : SpiTable) (w : World) (past : List SequenceEvent) (s : SpiState) (h : Happening Call) (out : Outcome SpiState) → HasPriorities d → Ordered past s → Agrees d s → (spi_machine d).happens w s h ≡ Some out
     → InOrderBy d (seen d h s out) past h
 in_order d w past s (Acts call times) out fits o agrees e = tt
 in_order d w past s (Serves l received) out fits o agrees e = tt
@@ -367,10 +367,10 @@ in_order d w past s (Restarts reason) out fits o agrees e = tt
 
 -- ---- a run
 
-abbrev After : SpiTable → SpiState → Event Call → List Seen → Option (Outcome SpiState) → Type 0
-After d s e past o = let x : Seen = seen_between d s (state_by s o) e.what (told_by o) (begins_by o) in InOrderBy d x past e.what × Ordered (x ∷ past) (state_by s o)
+abbrev After : SpiTable → SpiState → Event Call → List SequenceEvent → Option (Outcome SpiState) → Type 0
+After d s e past o = let x : SequenceEvent = seen_between d s (state_by s o) e.what (told_or_nothing o) (begins_by o) in InOrderBy d x past e.what × Ordered (x ∷ past) (state_by s o)
 
-event_order : (d : SpiTable) (s : SpiState) (e : Event Call) (past : List Seen) (o : Option (Outcome SpiState)) → HasPriorities d → (spi_machine d).happens e.world s e.what ≡ o → IsSome o → Ordered past s → Agrees d s → After d s e past o
+event_order : (d : SpiTable) (s : SpiState) (e : Event Call) (past : List SequenceEvent) (o : Option (Outcome SpiState)) → HasPriorities d → (spi_machine d).happens e.world s e.what ≡ o → IsSome o → Ordered past s → Agrees d s → After d s e past o
 event_order d s e past None fits at some h agrees = absurd (cc some)
 event_order d s e past (Some out) fits at some h agrees =
     (in_order d e.world past s e.what out fits h agrees at, ordered_after d (seen d e.what s out) past s out.state (happens_goes d e.world s e.what out at) h)

@@ -14,7 +14,7 @@ use Rattle.run_model.specs.Legal.{EventRight, IsLegalStep, LegalStep, IsLegalDee
 use Rattle.run_model.specs.Machine.{Happening, Moves, Restarts, Outcome}
 use Rattle.run_model.specs.Moment.{Setting, Moment, Transition, Begins, Enters, Steps, Happens, Resets, after, after_step, after_all}
 use Rattle.run_model.specs.World.{World}
-use Rattle.whole_runs.specs.Runs.{Event, state_after, AreAllowed, told_by}
+use Rattle.whole_runs.specs.Runs.{Event, state_after, AreAllowed, told_or_nothing}
 use Rattle.whole_runs.specs.Journals.{event_of_step, event_of, with_event, events_of, Said, notices_in, answer_told, said_after, top_said, all_said_after_step, all_said_after, Answered, EndsSaid, StepSaid, DeedSaid, AllSaid}
 
 module _ {State Call : Type 0} (g : Setting State Call) where
@@ -84,34 +84,34 @@ module _ {State Call : Type 0} (g : Setting State Call) where
   joined_notices [] ys = refl
   joined_notices (x ∷ xs) ys = ap (λ ks. x.notice ∷ ks) (joined_notices xs ys)
 
-  owed_notices : (ns : List Owing) (e : Option marks.Event) (out : Option (Outcome State)) → notices_of (owed_by ns e out) ≡ notices_of ns ++ (told_by out).notices
+  owed_notices : (ns : List Owing) (e : Option marks.Event) (out : Option (Outcome State)) → notices_of (owed_by ns e out) ≡ notices_of ns ++ (told_or_nothing out).notices
   owed_notices ns e None = sym (append-nil (notices_of ns))
   owed_notices ns e (Some out) = joined_notices ns (owing (is_serving e) out.told.notices) ∙ ap (λ ks. notices_of ns ++ ks) (owing_notices (is_serving e) out.told.notices)
 
   -- with a move that is no notice
-  plain_told : (told given new : List Notice) (ns : List Owing) (e : Option marks.Event) (out : Option (Outcome State)) → told ≡ given ++ notices_of ns → told ++ (told_by out).notices ≡ (given ++ []) ++ notices_of (owed_by ns e out)
+  plain_told : (told given new : List Notice) (ns : List Owing) (e : Option marks.Event) (out : Option (Outcome State)) → told ≡ given ++ notices_of ns → told ++ (told_or_nothing out).notices ≡ (given ++ []) ++ notices_of (owed_by ns e out)
   plain_told told given new ns e out h =
-      ap (λ ks. ks ++ (told_by out).notices) h
-      ∙ append_assoc given (notices_of ns) (told_by out).notices
+      ap (λ ks. ks ++ (told_or_nothing out).notices) h
+      ∙ append_assoc given (notices_of ns) (told_or_nothing out).notices
       ∙ ap (λ ks. given ++ ks) (sym (owed_notices ns e out))
       ∙ ap (λ ks. ks ++ notices_of (owed_by ns e out)) (sym (append-nil given))
 
   -- with the next notice that is owed
   note_told : (told given : List Notice) (n : Notice) (ns : List Owing) (e : Option marks.Event) (out : Option (Outcome State)) → told ≡ given ++ notices_of ns → Owes ns n
-      → told ++ (told_by out).notices ≡ (given ++ n ∷ []) ++ notices_of (rest_of (owed_by ns e out))
+      → told ++ (told_or_nothing out).notices ≡ (given ++ n ∷ []) ++ notices_of (rest_of (owed_by ns e out))
   note_told told given n [] e out h owes = absurd owes
   note_told told given n (k ∷ ks) e out h owes =
-      ap (λ xs. xs ++ (told_by out).notices) h
-      ∙ append_assoc given (notices_of (k ∷ ks)) (told_by out).notices
+      ap (λ xs. xs ++ (told_or_nothing out).notices) h
+      ∙ append_assoc given (notices_of (k ∷ ks)) (told_or_nothing out).notices
       ∙ ap (λ xs. given ++ xs) (by_out out)
       ∙ sym (append_assoc given (n ∷ []) (notices_of (rest_of (owed_by (k ∷ ks) e out))))
     where
-      by_out : (out : Option (Outcome State)) → notices_of (k ∷ ks) ++ (told_by out).notices ≡ (n ∷ []) ++ notices_of (rest_of (owed_by (k ∷ ks) e out))
+      by_out : (out : Option (Outcome State)) → notices_of (k ∷ ks) ++ (told_or_nothing out).notices ≡ (n ∷ []) ++ notices_of (rest_of (owed_by (k ∷ ks) e out))
       by_out None = append-nil (notices_of (k ∷ ks)) ∙ ap (λ x. x ∷ notices_of ks) owes
       by_out (Some out) = ap (λ x. x ∷ (notices_of ks ++ out.told.notices)) owes ∙ ap (λ xs. n ∷ xs) (sym (joined_notices ks (owing (is_serving e) out.told.notices) ∙ ap (λ xs. notices_of ks ++ xs) (owing_notices (is_serving e) out.told.notices)))
 
   told_after : (inside : Bool) (report : Option DevError) (made : Move) (told given : List Notice) (ns : List Owing) (e : Option marks.Event) (out : Option (Outcome State)) → told ≡ given ++ notices_of ns → MoveRight inside ns report made
-      → told ++ (told_by out).notices ≡ (given ++ notices_in made) ++ notices_of (owed_after (owed_by ns e out) made)
+      → told ++ (told_or_nothing out).notices ≡ (given ++ notices_in made) ++ notices_of (owed_after (owed_by ns e out) made)
   told_after inside report (Note n) told given ns e out h right = note_told told given n ns e out h right.1
   told_after inside report (Report x) told given ns e out h right = plain_told told given [] ns e out h
   told_after inside report Mask told given ns e out h right = plain_told told given [] ns e out h

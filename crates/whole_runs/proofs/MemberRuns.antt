@@ -9,9 +9,9 @@ use Rattle.step_runner.specs.Union.{first_call, second_call, union_machine, unio
 use Rattle.step_runner.specs.declared.either.Either.{Either}
 use Rattle.step_runner.specs.declared.either.Either.TheVariants.{Left, Right}
 use Rattle.whole_runs.specs.Runs.{Event, state_after, AreAllowed}
-use Rattle.whole_runs.specs.Members.{Place, IsPart, own_event, joined, own_events, whole_place, own_through, within, first_own, second_own, first_place, second_place, IsMute}
+use Rattle.whole_runs.specs.Members.{Embedding, IsPart, own_event, joined, own_events, whole_place, own_through, within, first_own, second_own, first_place, second_place, IsMute}
 
-module _ {S C U E : Type 0} (small : Machine S C) (big : Machine U E) (first : U) (p : Place S C U E) (is : IsPart small big p) where
+module _ {S C U E : Type 0} (small : Machine S C) (big : Machine U E) (first : U) (p : Embedding S C U E) (is : IsPart small big p) where
   -- the part's state and events after one more event
   abbrev After : Event E → List (Event E) → Option (Outcome U) → Option (Happening C) → Type 0
   After e past o x = let own : List (Event C) = joined e.world x (own_events big first p past) in
@@ -39,7 +39,7 @@ module _ {S C U E : Type 0} (small : Machine S C) (big : Machine U E) (first : U
 pub whole_part : {S C : Type 0} (mac : Machine S C) → IsPart mac mac whole_place
 whole_part mac = record { leaves = λ w u h out at none. absurd (cc none); does = λ w u h x out at is. ap (λ k. mac.happens w u k) (some_same (sym is)) ∙ at }
 
-module _ {S C T D U E : Type 0} (small : Machine S C) (mid : Machine T D) (big : Machine U E) (inner : Place S C T D) (outer : Place T D U E) (a : IsPart small mid inner) (b : IsPart mid big outer) where
+module _ {S C T D U E : Type 0} (small : Machine S C) (mid : Machine T D) (big : Machine U E) (inner : Embedding S C T D) (outer : Embedding T D U E) (a : IsPart small mid inner) (b : IsPart mid big outer) where
   leaves_by : (w : World) (u : U) (h : Happening E) (out : Outcome U) (x : Option (Happening D)) → big.happens w u h ≡ Some out → outer.own w u h ≡ x → own_through inner w (outer.part u) x ≡ None
       → inner.part (outer.part out.state) ≡ inner.part (outer.part u)
   leaves_by w u h out None at own none = ap inner.part (b.leaves w u h out at own)

@@ -21,7 +21,7 @@ use Rattle.adc_machine.specs.declared.table.Group as configured
 use Rattle.adc_machine.proofs.Next.{next_is}
 use Rattle.adc_machine.proofs.Parts.{group_same, group_other}
 use Rattle.whole_runs.specs.Runs.{is_of}
-use Rattle.whole_runs.specs.GroupRuns.{Seen, requests, starts_on as starts_of, aborts_on as aborts_of, serves_on, is_on as on_unit, touches, call_by, is_start, is_triggering, unit_started, unit_aborted, unit_served, started_group}
+use Rattle.whole_runs.specs.GroupRuns.{GroupEvent, requests, starts_on as starts_of, aborts_on as aborts_of, serves_on, is_on as on_unit, touches, call_by, is_start, is_triggering, unit_started, unit_aborted, unit_served, started_group}
 use Rattle.whole_runs.proofs.GroupServes.{next_of, served_other}
 use Rattle.whole_runs.proofs.GroupSteps.{WaitGoes, Stands, Over, Made, Again, Back, Dropped, UnitGoes, Remains, Begun, Freed, seen, Goes, went, same_number, same_or_other}
 use Rattle.whole_runs.proofs.TurnSteps.{is_quiet, IsDeaf, Single, MadeFree, made_free, QuietGoes, Carries, Loud, Settles, Emptied, left_quiet, kept_quiet, act_quiet, served_quiet}
@@ -41,18 +41,18 @@ unit_quiet : (d : AdcTable) (w : World) (s : AdcState) (l received : ℕ) (q : O
 unit_quiet d w s l received None g line at lt = left_quiet d g _ s _ _ _ refl
 unit_quiet d w s l received (Some r) g line at lt = round_quiet d w s l received r g line at lt (same_or_other r.group g)
 
-request_quiet : (d : AdcTable) (g : ℕ) (e : Seen) (s t u : AdcState) (h : ℕ) → g < 16 → (h ≡ g) ⊎ (h ≢ g) → group_at t g ≡ group_at s g → QuietGoes d g e s u (group_at s g) (group_at (requested t h) g)
+request_quiet : (d : AdcTable) (g : ℕ) (e : GroupEvent) (s t u : AdcState) (h : ℕ) → g < 16 → (h ≡ g) ⊎ (h ≢ g) → group_at t g ≡ group_at s g → QuietGoes d g e s u (group_at s g) (group_at (requested t h) g)
 request_quiet d g e s t u h lt (inl same) before =
     let made : GroupState = record (group_at t g) { waiting = Some (record { number = t.requests + 1; kept = [] }) } in
     subst (λ k. QuietGoes d g e s u (group_at s g) (group_at (requested t k) g)) (sym same)
     (kept_quiet d g e s u (group_at s g) _ made (group_same t g made lt) (ap (λ (x : GroupState). x.status) before) (ap (λ (x : GroupState). x.trigger) before))
 request_quiet d g e s t u h lt (inr ne) before = left_quiet d g e s u _ _ (group_other t h _ g lt (λ same. ne (sym same)) ∙ before)
 
-turn_quiet : (d : AdcTable) (g : ℕ) (e : Seen) (s t u : AdcState) (h : ℕ) (b : Bool) → g < 16 → group_at t g ≡ group_at s g → QuietGoes d g e s u (group_at s g) (group_at (cond b t (requested t h)) g)
+turn_quiet : (d : AdcTable) (g : ℕ) (e : GroupEvent) (s t u : AdcState) (h : ℕ) (b : Bool) → g < 16 → group_at t g ≡ group_at s g → QuietGoes d g e s u (group_at s g) (group_at (cond b t (requested t h)) g)
 turn_quiet d g e s t u h true lt before = left_quiet d g e s u _ _ before
 turn_quiet d g e s t u h false lt before = request_quiet d g e s t u h lt (same_or_other h g) before
 
-trigger_quiet : (d : AdcTable) (g : ℕ) (e : Seen) (s t u : AdcState) (o : Option ℕ) → g < 16 → group_at t g ≡ group_at s g → QuietGoes d g e s u (group_at s g) (group_at (requested_unless_turn t o) g)
+trigger_quiet : (d : AdcTable) (g : ℕ) (e : GroupEvent) (s t u : AdcState) (o : Option ℕ) → g < 16 → group_at t g ≡ group_at s g → QuietGoes d g e s u (group_at s g) (group_at (requested_unless_turn t o) g)
 trigger_quiet d g e s t u None lt before = left_quiet d g e s u _ _ before
 trigger_quiet d g e s t u (Some h) lt before = turn_quiet d g e s t u h (has_turn t h) lt before
 
@@ -66,7 +66,7 @@ serve_quiet d w s l received g true out lt e = went (Quiet d w s (Serves l recei
 serve_quiet d w s l received g false out lt e = absurd (cc e)
 
 -- a change of what waits
-waits_quiet : (d : AdcTable) (g h : ℕ) (e : Seen) (s u : AdcState) (o : Option Request) → g < 16 → (h ≡ g) ⊎ (h ≢ g) → QuietGoes d g e s u (group_at s g) (group_at (with_waiting s h o) g)
+waits_quiet : (d : AdcTable) (g h : ℕ) (e : GroupEvent) (s u : AdcState) (o : Option Request) → g < 16 → (h ≡ g) ⊎ (h ≢ g) → QuietGoes d g e s u (group_at s g) (group_at (with_waiting s h o) g)
 waits_quiet d g h e s u o lt (inl same) =
     subst (λ k. QuietGoes d g e s u (group_at s g) (group_at (with_waiting s k o) g)) (sym same)
     (kept_quiet d g e s u (group_at s g) _ (record (group_at s g) { waiting = o }) (group_same s g (record (group_at s g) { waiting = o }) lt) refl refl)
@@ -143,13 +143,13 @@ starts_there d w s (Moves order) out u g h = absurd (cc h)
 starts_there d w s (Restarts reason) out u g h = absurd (cc h)
 
 -- a start is neither a serving, nor an abort, nor a request, and it is the group's own
-pub record IsStartAlone (g : ℕ) (e : Seen) : Type 0 where
+pub record IsStartAlone (g : ℕ) (e : GroupEvent) : Type 0 where
   pub serves : (v : ℕ) → serves_on v g e ≡ false
   pub aborts : (v : ℕ) → aborts_of v g e ≡ false
   pub requests : requests g e ≡ false
   pub touches : touches g e ≡ true
 
-start_alone : (u g : ℕ) (e : Seen) → starts_of u g e ≡ true → IsStartAlone g e
+start_alone : (u g : ℕ) (e : GroupEvent) → starts_of u g e ≡ true → IsStartAlone g e
 start_alone u g e h = record {
   serves = λ v. none_served v e.what (is_of g e.group) starts;
   aborts = λ v. none_aborted v e.what (is_of g e.group) starts;
@@ -199,7 +199,7 @@ clash : {b : Bool} → b ≡ true → b ≡ false → ⊥
 clash x y = absurd (cc (x, y))
 
 -- what is served or aborted on a unit is on it
-serve_is_on : (u g : ℕ) (e : Seen) → serves_on u g e ≡ true → on_unit u e ≡ true
+serve_is_on : (u g : ℕ) (e : GroupEvent) → serves_on u g e ≡ true → on_unit u e ≡ true
 serve_is_on u g e h = let own = (and_parts (is_of u (unit_served e.what)) (is_of g e.group) h).0 in rw own (third (is_of u (unit_started e.what)) (is_of u (unit_aborted e.what)))
   where
     third : (a b : Bool) → (a || (b || true)) ≡ true
@@ -207,7 +207,7 @@ serve_is_on u g e h = let own = (and_parts (is_of u (unit_served e.what)) (is_of
     third false true = refl
     third false false = refl
 
-abort_is_on : (u g : ℕ) (e : Seen) → aborts_of u g e ≡ true → on_unit u e ≡ true
+abort_is_on : (u g : ℕ) (e : GroupEvent) → aborts_of u g e ≡ true → on_unit u e ≡ true
 abort_is_on u g e h = let own = (and_parts (is_of u (unit_aborted e.what)) (is_of g e.group) h).0 in rw own (second (is_of u (unit_started e.what)) (is_of u (unit_served e.what)))
   where
     second : (a c : Bool) → (a || (true || c)) ≡ true
@@ -247,7 +247,7 @@ runs_turn s g (suc (suc u)) r few at own none = omega (arith, few)
 -- ---- what an event leaves
 
 -- a group that didn't wait doesn't, where nothing of its own makes it
-wait_none : (d : AdcTable) (g : ℕ) (e : Seen) (s : AdcState) (x y : GroupState) → WaitGoes d g e s x y → x.waiting ≡ None → (requests g e ≡ true → ⊥)
+wait_none : (d : AdcTable) (g : ℕ) (e : GroupEvent) (s : AdcState) (x y : GroupState) → WaitGoes d g e s x y → x.waiting ≡ None → (requests g e ≡ true → ⊥)
     → ((u : ℕ) (r : Round) → serves_on u g e ≡ true → round_at s u ≡ Some r → r.group ≡ g → ⊥) → ((u : ℕ) (r : Round) → aborts_of u g e ≡ true → round_at s u ≡ Some r → r.group ≡ g → ⊥) → y.waiting ≡ None
 wait_none d g e s x y (Stands calm touch same) none made served back = same ∙ none
 wait_none d g e s x y (Over u r serve at own same) none made served back = same ∙ none
@@ -257,7 +257,7 @@ wait_none d g e s x y (Back u r abort at own is) none made served back = absurd 
 wait_none d g e s x y (Dropped is) none made served back = is
 
 -- and one that a unit starts doesn't
-start_none : (d : AdcTable) (g : ℕ) (e : Seen) (s : AdcState) (x y : GroupState) → WaitGoes d g e s x y → IsStartAlone g e → y.waiting ≡ None
+start_none : (d : AdcTable) (g : ℕ) (e : GroupEvent) (s : AdcState) (x y : GroupState) → WaitGoes d g e s x y → IsStartAlone g e → y.waiting ≡ None
 start_none d g e s x y (Stands calm touch same) alone = absurd (clash alone.touches touch)
 start_none d g e s x y (Over u r serve at own same) alone = absurd (clash serve (alone.serves u))
 start_none d g e s x y (Made n request is) alone = absurd (clash request alone.requests)
@@ -282,7 +282,7 @@ same_unit d g u v r k s single at own there mine =
     one_unit (group_of d g) v u (subst (λ n. is_on_unit v (group_of d n) ≡ true) mine (single.placed v k there)) (subst (λ n. is_on_unit u (group_of d n) ≡ true) own (single.placed u r at))
 
 module _ (d : AdcTable) (w : World) (s : AdcState) (h : Happening Call) (out : Outcome AdcState) (e : happens d w s h ≡ Some out) (goes : Goes d w h s out) (single : Single d s) where
-  abbrev Now : Seen
+  abbrev Now : GroupEvent
   Now = seen d w h s out
 
   alone_by : (g u : ℕ) (r : Round) (q : Option Round) → g < 16 → UnitGoes u Now s (round_at s u) q → q ≡ Some r → r.group ≡ g → (group_at out.state g).waiting ≡ None

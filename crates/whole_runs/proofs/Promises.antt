@@ -18,7 +18,7 @@ use Rattle.spi_machine.specs.State.{SpiState}
 use Rattle.spi_machine.specs.State as sequences
 use Rattle.spi_machine.specs.declared.call.Call as serial
 use Rattle.spi_machine.specs.declared.table.SpiTable.{SpiTable}
-use Rattle.whole_runs.specs.Members.{Place, IsPart, IsMute, first_place, second_place}
+use Rattle.whole_runs.specs.Members.{Embedding, IsPart, IsMute, first_place, second_place}
 use Rattle.whole_runs.specs.Promises.{journal_events, part_events, GroupsKeep, SequencesKeep, FramesSay}
 use Rattle.whole_runs.specs.Runs.{Event, AreAllowed}
 use Rattle.whole_runs.proofs.EndsOnce.{all_end, end_once}
@@ -44,16 +44,16 @@ pub journal_says : {State Call : Type 0} (g : Setting State Call) (chip : Chip) 
 journal_says g chip ds legal = frames_say g (start_moment g chip) ds refl legal
 
 -- the part of a journal is a run of the part
-pub part_allowed : {S C U E : Type 0} (small : Machine S C) (first : S) (g : Setting U E) (p : Place S C U E) → IsPart small g.machine p → p.part g.first ≡ first → (chip : Chip) (ds : List (Transition E))
+pub part_allowed : {S C U E : Type 0} (small : Machine S C) (first : S) (g : Setting U E) (p : Embedding S C U E) → IsPart small g.machine p → p.part g.first ≡ first → (chip : Chip) (ds : List (Transition E))
     → IsLegal g (start_moment g chip) ds → AreAllowed small first (part_events g p chip ds)
 part_allowed small first g p is same chip ds legal =
     subst (λ s. AreAllowed small s (part_events g p chip ds)) same (part_runs small g.machine g.first p is (journal_events g chip ds) (journal_allowed g chip ds legal)).1
 
-pub groups_keep : {U E : Type 0} (d : AdcTable) (g : Setting U E) (p : Place AdcState converter.Call U E) → IsPart (adc_machine d) g.machine p → p.part g.first ≡ groups.first_state → (chip : Chip) (ds : List (Transition E))
+pub groups_keep : {U E : Type 0} (d : AdcTable) (g : Setting U E) (p : Embedding AdcState converter.Call U E) → IsPart (adc_machine d) g.machine p → p.part g.first ≡ groups.first_state → (chip : Chip) (ds : List (Transition E))
     → IsLegal g (start_moment g chip) ds → GroupsKeep d (part_events g p chip ds)
 groups_keep d g p is same chip ds legal = groups_run d (part_events g p chip ds) (part_allowed (adc_machine d) groups.first_state g p is same chip ds legal)
 
-pub sequences_keep : {U E : Type 0} (d : SpiTable) (g : Setting U E) (p : Place SpiState serial.Call U E) → IsPart (spi_machine d) g.machine p → p.part g.first ≡ sequences.first_state → (chip : Chip) (ds : List (Transition E))
+pub sequences_keep : {U E : Type 0} (d : SpiTable) (g : Setting U E) (p : Embedding SpiState serial.Call U E) → IsPart (spi_machine d) g.machine p → p.part g.first ≡ sequences.first_state → (chip : Chip) (ds : List (Transition E))
     → IsLegal g (start_moment g chip) ds → SequencesKeep d (part_events g p chip ds)
 sequences_keep d g p is same chip ds legal = sequences_run d (part_events g p chip ds) (part_allowed (spi_machine d) sequences.first_state g p is same chip ds legal)
 

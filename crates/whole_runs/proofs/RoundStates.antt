@@ -13,7 +13,7 @@ use Rattle.adc_machine.specs.Table.{group_of}
 use Rattle.adc_machine.specs.Turns.{AdcState, group_at, round_at, kept_of}
 use Rattle.adc_machine.specs.declared.call.Call.{Call}
 use Rattle.adc_machine.specs.declared.table.AdcTable.{AdcTable}
-use Rattle.whole_runs.specs.GroupRuns.{Seen, stops, begins, starts_on, aborts_on, serves_on, serves, is_on, unit_started, unit_aborted, unit_served, newest_of, newest_in, is_whole, is_stop, call_by}
+use Rattle.whole_runs.specs.GroupRuns.{GroupEvent, stops, begins, starts_on, aborts_on, serves_on, serves, is_on, unit_started, unit_aborted, unit_served, newest_of, newest_in, is_whole, is_stop, call_by}
 use Rattle.whole_runs.specs.Runs.{NoneOf, is_of, is_restart}
 use Rattle.whole_runs.specs.Rounds.{inputs_after, Stretch, values_since, Keeps, Requested, Served, Aborted, Stands as StandsOn, IsRound, HasRequest, HandsOut}
 use Rattle.whole_runs.proofs.OneTurn.{single_after}
@@ -23,15 +23,15 @@ use Rattle.whole_runs.proofs.GroupSteps.{is_completed, WaitGoes, Stands, Over, M
 -- ---- what the state says
 
 -- The round of a unit was started for a request that stood.
-pub record IsRunning (d : AdcTable) (u : ℕ) (r : Round) (past : List Seen) : Type 0 where
-  pub earlier : List Seen
-  pub start : Seen
+pub record IsRunning (d : AdcTable) (u : ℕ) (r : Round) (past : List GroupEvent) : Type 0 where
+  pub earlier : List GroupEvent
+  pub start : GroupEvent
   pub stretch : Stretch u r.group past earlier start
   pub stood : Keeps d r.group earlier r.request.kept
   pub at : r.start ≡ start.world.now
   pub below : r.group < 16
 
-pub record Tells (d : AdcTable) (past : List Seen) (s : AdcState) : Type 0 where
+pub record Tells (d : AdcTable) (past : List GroupEvent) (s : AdcState) : Type 0 where
   pub waiting : (g : ℕ) → g < 16 → (q : Request) → (group_at s g).waiting ≡ Some q → Keeps d g past q.kept
   pub running : (u : ℕ) (r : Round) → round_at s u ≡ Some r → IsRunning d u r past
   pub newest : (g : ℕ) → g < 16 → (values : List ℕ) → newest_in s g ≡ Some values → HandsOut d g past values
@@ -41,12 +41,12 @@ pub record Tells (d : AdcTable) (past : List Seen) (s : AdcState) : Type 0 where
 -- ---- a round that is served
 
 -- its values, by the time at which it was started
-served_values : (d : AdcTable) (e start : Seen) (r : Round) → r.start ≡ start.world.now
+served_values : (d : AdcTable) (e start : GroupEvent) (r : Round) → r.start ≡ start.world.now
     → values_of e.world (group_of d r.group) r ≡ r.request.kept ++ levels_from e.world.samples start.world.now (inputs_after d r.group (length r.request.kept))
 served_values d e start r at = ap (λ t. r.request.kept ++ levels_from e.world.samples t (drop (length r.request.kept) (inputs_of (group_of d r.group)))) at
 
 -- what an abort keeps, by the time at which the round was started
-kept_since : (d : AdcTable) (e start : Seen) (r : Round) → r.start ≡ start.world.now
+kept_since : (d : AdcTable) (e start : GroupEvent) (r : Round) → r.start ≡ start.world.now
     → cond (suspends (group_of d r.group)) (r.request.kept ++ values_since d r.group start e r.request.kept) [] ≡ kept_of e.world (group_of d r.group) r
 kept_since d e start r at =
     ap (λ t. cond (suspends (group_of d r.group)) (r.request.kept ++ levels_from e.world.samples t (take ((e.world.now - t) / 4) (drop (length r.request.kept) (inputs_of (group_of d r.group))))) []) (sym at)
@@ -54,7 +54,7 @@ kept_since d e start r at =
 -- ---- a request
 
 -- a happening that is something of a unit is no call and no reset
-unit_calm : (e : Seen) (g : ℕ) → (is_some (unit_started e.what) || (is_some (unit_aborted e.what) || is_some (unit_served e.what))) ≡ true → stops g e ≡ false
+unit_calm : (e : GroupEvent) (g : ℕ) → (is_some (unit_started e.what) || (is_some (unit_aborted e.what) || is_some (unit_served e.what))) ≡ true → stops g e ≡ false
 unit_calm e g h = by_what e.what e.told.error h
   where
     by_what : (h : Happening Call) (o : Option ErrorName) → (is_some (unit_started h) || (is_some (unit_aborted h) || is_some (unit_served h))) ≡ true
@@ -79,23 +79,23 @@ second : (a b c : Bool) → b ≡ true → (a || (b || c)) ≡ true
 second true b c h = refl
 second false b c h = rw h refl
 
-serving_calm : (u g : ℕ) (e : Seen) → serves_on u g e ≡ true → stops g e ≡ false
+serving_calm : (u g : ℕ) (e : GroupEvent) → serves_on u g e ≡ true → stops g e ≡ false
 serving_calm u g e h = unit_calm e g (third _ _ _ (of_some u (unit_served e.what) (is_of g e.group) h))
 
-abort_calm : (u g : ℕ) (e : Seen) → aborts_on u g e ≡ true → stops g e ≡ false
+abort_calm : (u g : ℕ) (e : GroupEvent) → aborts_on u g e ≡ true → stops g e ≡ false
 abort_calm u g e h = unit_calm e g (second _ _ _ (of_some u (unit_aborted e.what) (is_of g e.group) h))
 
-start_calm : (u g : ℕ) (e : Seen) → starts_on u g e ≡ true → stops g e ≡ false
+start_calm : (u g : ℕ) (e : GroupEvent) → starts_on u g e ≡ true → stops g e ≡ false
 start_calm u g e h = unit_calm e g (or_left _ _ (of_some u (unit_started e.what) (is_of g e.group) h))
 
-none_more : (p : Seen → Bool) (e : Seen) (es : List Seen) → p e ≡ false → NoneOf p es → NoneOf p (e ∷ es)
+none_more : (p : GroupEvent → Bool) (e : GroupEvent) (es : List GroupEvent) → p e ≡ false → NoneOf p es → NoneOf p (e ∷ es)
 none_more p e es h none = rw (h, none) refl
 
-none_joined : (p : Seen → Bool) (xs ys : List Seen) → NoneOf p xs → NoneOf p ys → NoneOf p (xs ++ ys)
+none_joined : (p : GroupEvent → Bool) (xs ys : List GroupEvent) → NoneOf p xs → NoneOf p ys → NoneOf p (xs ++ ys)
 none_joined p xs ys h k = list_any-append p xs ys ∙ rw (h, k) refl
 
 -- a request that was made before a stretch
-pub through : (u g : ℕ) (past earlier : List Seen) (start : Seen) → Stretch u g past earlier start → HasRequest g earlier → HasRequest g past
+pub through : (u g : ℕ) (past earlier : List GroupEvent) (start : GroupEvent) → Stretch u g past earlier start → HasRequest g earlier → HasRequest g past
 through u g past earlier start s h = record {
   since = s.running ++ start ∷ h.since;
   request = h.request;
@@ -105,7 +105,7 @@ through u g past earlier start s h = record {
   unstopped = none_joined (stops g) s.running (start ∷ h.since) s.unstopped (none_more (stops g) start h.since (start_calm u g start s.starts) h.unstopped);
 }
 
-later : (g : ℕ) (e : Seen) (past : List Seen) → stops g e ≡ false → HasRequest g past → HasRequest g (e ∷ past)
+later : (g : ℕ) (e : GroupEvent) (past : List GroupEvent) → stops g e ≡ false → HasRequest g past → HasRequest g (e ∷ past)
 later g e past calm h = record {
   since = e ∷ h.since;
   request = h.request;
@@ -115,13 +115,13 @@ later g e past calm h = record {
   unstopped = none_more (stops g) e h.since calm h.unstopped;
 }
 
-pub was_requested : (d : AdcTable) (g : ℕ) (past : List Seen) (kept : List ℕ) → Keeps d g past kept → HasRequest g past
+pub was_requested : (d : AdcTable) (g : ℕ) (past : List GroupEvent) (kept : List ℕ) → Keeps d g past kept → HasRequest g past
 was_requested d g past kept (Requested e older h) = record { since = []; request = e; before = older; is = refl; requested = h; unstopped = refl }
 was_requested d g past kept (Served e older earlier start had u h s stood) = later g e older (serving_calm u g e h) (through u g older earlier start s (was_requested d g earlier had stood))
 was_requested d g past kept (Aborted e older earlier start had u h s stood) = later g e older (abort_calm u g e h) (through u g older earlier start s (was_requested d g earlier had stood))
 was_requested d g past kept (StandsOn e older had calm touch stood) = later g e older calm (was_requested d g older had stood)
 
-pub is_round : (d : AdcTable) (u : ℕ) (r : Round) (e : Seen) (past : List Seen) → serves_on u r.group e ≡ true → IsRunning d u r past → IsRound d r.group e past (values_of e.world (group_of d r.group) r)
+pub is_round : (d : AdcTable) (u : ℕ) (r : Round) (e : GroupEvent) (past : List GroupEvent) → serves_on u r.group e ≡ true → IsRunning d u r past → IsRound d r.group e past (values_of e.world (group_of d r.group) r)
 is_round d u r e past serve runs = record {
   unit = u;
   start = runs.start;
@@ -137,7 +137,7 @@ is_round d u r e past serve runs = record {
 -- ---- what an event leaves of it
 
 -- the request of a group
-waiting_after : (d : AdcTable) (g : ℕ) (e : Seen) (past : List Seen) (s : AdcState) (x y : GroupState) → WaitGoes d g e s x y → ((q : Request) → x.waiting ≡ Some q → Keeps d g past q.kept)
+waiting_after : (d : AdcTable) (g : ℕ) (e : GroupEvent) (past : List GroupEvent) (s : AdcState) (x y : GroupState) → WaitGoes d g e s x y → ((q : Request) → x.waiting ≡ Some q → Keeps d g past q.kept)
     → ((u : ℕ) (r : Round) → round_at s u ≡ Some r → IsRunning d u r past) → ((u : ℕ) (r : Round) → round_at s u ≡ Some r → r.group ≡ g → x.waiting ≡ None) → (q : Request) → y.waiting ≡ Some q → Keeps d g (e ∷ past) q.kept
 waiting_after d g e past s x y (Stands calm touch same) had runs alone q at = StandsOn e past q.kept calm touch (had q (sym same ∙ at))
 waiting_after d g e past s x y (Over u r serve there own same) had runs alone q at =
@@ -162,7 +162,7 @@ waiting_after d g e past s x y (Back u r abort there own is) had runs alone q at
 waiting_after d g e past s x y (Dropped none) had runs alone q at = absurd (cc (none, at))
 
 -- the round of a unit
-longer : (u g : ℕ) (e : Seen) (past earlier : List Seen) (start : Seen) → is_on u e ≡ false → stops g e ≡ false → Stretch u g past earlier start → Stretch u g (e ∷ past) earlier start
+longer : (u g : ℕ) (e : GroupEvent) (past earlier : List GroupEvent) (start : GroupEvent) → is_on u e ≡ false → stops g e ≡ false → Stretch u g past earlier start → Stretch u g (e ∷ past) earlier start
 longer u g e past earlier start away calm s = record {
   running = e ∷ s.running;
   is = ap (λ es. e ∷ es) s.is;
@@ -171,7 +171,7 @@ longer u g e past earlier start away calm s = record {
   unstopped = none_more (stops g) e s.running calm s.unstopped;
 }
 
-running_after : (d : AdcTable) (u : ℕ) (e : Seen) (past : List Seen) (s : AdcState) (p q : Option Round) → UnitGoes u e s p q → ((r : Round) → p ≡ Some r → IsRunning d u r past)
+running_after : (d : AdcTable) (u : ℕ) (e : GroupEvent) (past : List GroupEvent) (s : AdcState) (p q : Option Round) → UnitGoes u e s p q → ((r : Round) → p ≡ Some r → IsRunning d u r past)
     → ((g : ℕ) → g < 16 → (x : Request) → (group_at s g).waiting ≡ Some x → Keeps d g past x.kept) → (r : Round) → q ≡ Some r → IsRunning d u r (e ∷ past)
 running_after d u e past s p q (Remains away calm same) had waits r at =
     let was : p ≡ Some r = sym same ∙ at in
@@ -204,7 +204,7 @@ newest_added (x ∷ xs) v = ap (λ w. Some w) (last_of (x ∷ xs) v)
         there [] v = refl
         there (x ∷ xs) v = there xs v
 
-newest_after : (d : AdcTable) (g : ℕ) (e : Seen) (past : List Seen) (s : AdcState) (x y : GroupState) → RoundsGo d g e s x y → ((values : List ℕ) → newest_of x.rounds ≡ Some values → HandsOut d g past values)
+newest_after : (d : AdcTable) (g : ℕ) (e : GroupEvent) (past : List GroupEvent) (s : AdcState) (x y : GroupState) → RoundsGo d g e s x y → ((values : List ℕ) → newest_of x.rounds ≡ Some values → HandsOut d g past values)
     → ((u : ℕ) (r : Round) → round_at s u ≡ Some r → IsRunning d u r past) → (values : List ℕ) → newest_of y.rounds ≡ Some values → HandsOut d g (e ∷ past) values
 newest_after d g e past s x y (Same serve begin same status) had runs values at =
     let out : HandsOut d g past values = had values (ap (λ rs. newest_of rs) (sym same) ∙ at) in
@@ -221,13 +221,13 @@ newest_after d g e past s x y (Added u r serve there own is) had runs values at 
     }
 newest_after d g e past s x y (Cleared begin none status) had runs values at = absurd (cc (ap (λ rs. newest_of rs) none, at))
 
-completed_after : (d : AdcTable) (g : ℕ) (e : Seen) (s : AdcState) (x y : GroupState) → RoundsGo d g e s x y → (is_completed x.status ≡ true → is_some (newest_of x.rounds) ≡ true)
+completed_after : (d : AdcTable) (g : ℕ) (e : GroupEvent) (s : AdcState) (x y : GroupState) → RoundsGo d g e s x y → (is_completed x.status ≡ true → is_some (newest_of x.rounds) ≡ true)
     → is_completed y.status ≡ true → is_some (newest_of y.rounds) ≡ true
 completed_after d g e s x y (Same serve begin same status) had at = ap (λ rs. is_some (newest_of rs)) same ∙ had (status at)
 completed_after d g e s x y (Added u r serve there own is) had at = ap (λ o. is_some o) (ap (λ rs. newest_of rs) is ∙ newest_added x.rounds (values_of e.world (group_of d g) r))
 completed_after d g e s x y (Cleared begin none status) had at = absurd (cc (status, at))
 
-pub tells_after : (d : AdcTable) (w : World) (h : Happening Call) (s : AdcState) (out : Outcome AdcState) (past : List Seen) → happens d w s h ≡ Some out → Goes d w h s out → Tells d past s → Tells d (seen d w h s out ∷ past) out.state
+pub tells_after : (d : AdcTable) (w : World) (h : Happening Call) (s : AdcState) (out : Outcome AdcState) (past : List GroupEvent) → happens d w s h ≡ Some out → Goes d w h s out → Tells d past s → Tells d (seen d w h s out ∷ past) out.state
 tells_after d w h s out past e goes t = record {
   waiting = λ g lt. waiting_after d g (seen d w h s out) past s (group_at s g) (group_at out.state g) (goes.groups g lt).waiting (t.waiting g lt) t.running (λ u r at own. t.single.alone g u r lt at own);
   running = λ u. running_after d u (seen d w h s out) past s (round_at s u) (round_at out.state u) (goes.units u) (t.running u) t.waiting;

@@ -33,16 +33,16 @@ use Rattle.spi_machine.specs.declared.table.SpiTable.{SpiTable}
 use Rattle.spi_machine.specs.Wiring.{unit_of_sequence, is_sync_sequence}
 use Rattle.spi_machine.proofs.Runs.{stored-seen, after_last-seen, serve_by}
 use Rattle.spi_machine.proofs.Sending.{EndsSending, act-either, start-either, carried-right}
-use Rattle.spi_machine.proofs.Turns.{found}
+use Rattle.spi_machine.proofs.SequenceChanges.{found}
 use Rattle.whole_runs.specs.Runs.{is_of}
-use Rattle.whole_runs.specs.SequenceRuns.{Seen, seen_between, is_accepted, accepts, initialises, is_reset, starts_job, ends_job, sequence_seen}
+use Rattle.whole_runs.specs.SequenceRuns.{SequenceEvent, seen_between, is_accepted, accepts, initialises, is_reset, starts_job, ends_job, sequence_seen}
 
 -- an event as it is seen where it is allowed
-abbrev pub seen : SpiTable → Happening Call → SpiState → Outcome SpiState → Seen
+abbrev pub seen : SpiTable → Happening Call → SpiState → Outcome SpiState → SequenceEvent
 seen d h s out = seen_between d s out.state h out.told (is_some out.begins)
 
 -- so many notices of the end of a sequence
-abbrev pub ends_told : ℕ → Seen → ℕ
+abbrev pub ends_told : ℕ → SequenceEvent → ℕ
 ends_told q e = count_by (names_end q) e.told.notices
 
 -- the results of an end
@@ -50,13 +50,13 @@ abbrev pub end_results : List AnswerName
 end_results = SpiSeqOk ∷ SpiSeqFailed ∷ SpiSeqCanceled ∷ []
 
 -- no request is accepted, no job starts, and none ends
-pub record IsSilentMove (e : Seen) (ps : List Pending) : Type 0 where
+pub record IsSilentMove (e : SequenceEvent) (ps : List Pending) : Type 0 where
   pub accepts : (q : ℕ) → accepts q e ≡ false
   pub starts : (q : ℕ) → starts_job q e ≡ false
   pub ends : (p : Pending) → Contains ps p → ends_job p.sequence e ≡ false
 
 -- What an event does to the pending sequences and to the results.
-pub data Goes (d : SpiTable) (e : Seen) (s t : SpiState) : Type 0 where
+pub data Goes (d : SpiTable) (e : SequenceEvent) (s t : SpiState) : Type 0 where
   Leaves : IsSilentMove e s.pending → is_reset e ≡ false → t.pending ≡ s.pending → t.sequence_results ≡ s.sequence_results → t.requests ≡ s.requests → ((q : ℕ) → ends_told q e ≡ 0) → Goes d e s t
   Accepts : (k : ℕ) (had : List AnswerName) → is_sync_sequence d k ≡ false → ((q : ℕ) → accepts q e ≡ (k == q)) → is_reset e ≡ false → lists.is_pending k s.pending ≡ false → t.pending ≡ s.pending ++ requested k (s.requests + 1) had ∷ []
       → t.sequence_results ≡ with_item SpiSeqOk s.sequence_results k SpiSeqPending → t.requests ≡ s.requests + 1 → ((q : ℕ) → ends_told q e ≡ 0) → Goes d e s t

@@ -24,7 +24,7 @@ use Rattle.adc_machine.proofs.Others.{other_group}
 use Rattle.adc_machine.proofs.Parts.{group_same}
 use Rattle.adc_machine.proofs.Stopped.{unmarked_group, unmarked_round, off}
 use Rattle.whole_runs.specs.Runs.{is_of}
-use Rattle.whole_runs.specs.GroupRuns.{Seen, requests, serves_on, call_by, is_start, round_group, requesting_group}
+use Rattle.whole_runs.specs.GroupRuns.{GroupEvent, requests, serves_on, call_by, is_start, round_group, requesting_group}
 use Rattle.whole_runs.proofs.GroupServes.{stored}
 use Rattle.whole_runs.proofs.GroupSteps.{seen, went, same_or_other, read_group, begun_group, stopped_is, closed_group}
 
@@ -157,7 +157,7 @@ made_free d w s (Restarts reason) out g lt e request = absurd (cc request)
 
 -- ---- what an event does to the status and the trigger
 
-pub data QuietGoes (d : AdcTable) (g : ℕ) (e : Seen) (s t : AdcState) (x y : GroupState) : Type 0 where
+pub data QuietGoes (d : AdcTable) (g : ℕ) (e : GroupEvent) (s t : AdcState) (x y : GroupState) : Type 0 where
   Carries : (is_quiet d g y.status ≡ true → is_quiet d g x.status ≡ true) → y.trigger ≡ x.trigger → QuietGoes d g e s t x y
   Loud : is_quiet d g y.status ≡ false → QuietGoes d g e s t x y
   Settles : (u : ℕ) (r : Round) → serves_on u g e ≡ true → round_at s u ≡ Some r → r.group ≡ g
@@ -165,14 +165,14 @@ pub data QuietGoes (d : AdcTable) (g : ℕ) (e : Seen) (s t : AdcState) (x y : G
   Emptied : y.waiting ≡ None → y.trigger ≡ false → ((u : ℕ) (r : Round) → round_at t u ≡ Some r → r.group ≢ g) → QuietGoes d g e s t x y
 
 -- a group whose status and trigger stay
-pub same_quiet : (d : AdcTable) (g : ℕ) (e : Seen) (s t : AdcState) (x y : GroupState) → y.status ≡ x.status → y.trigger ≡ x.trigger → QuietGoes d g e s t x y
+pub same_quiet : (d : AdcTable) (g : ℕ) (e : GroupEvent) (s t : AdcState) (x y : GroupState) → y.status ≡ x.status → y.trigger ≡ x.trigger → QuietGoes d g e s t x y
 same_quiet d g e s t x y status trigger = Carries (λ h. ap (λ z. is_quiet d g z) (sym status) ∙ h) trigger
 
-pub left_quiet : (d : AdcTable) (g : ℕ) (e : Seen) (s t : AdcState) (x y : GroupState) → y ≡ x → QuietGoes d g e s t x y
+pub left_quiet : (d : AdcTable) (g : ℕ) (e : GroupEvent) (s t : AdcState) (x y : GroupState) → y ≡ x → QuietGoes d g e s t x y
 left_quiet d g e s t x y same = same_quiet d g e s t x y (ap (λ (z : GroupState). z.status) same) (ap (λ (z : GroupState). z.trigger) same)
 
 -- one that was changed otherwise
-pub kept_quiet : (d : AdcTable) (g : ℕ) (e : Seen) (s t : AdcState) (x y z : GroupState) → y ≡ z → z.status ≡ x.status → z.trigger ≡ x.trigger → QuietGoes d g e s t x y
+pub kept_quiet : (d : AdcTable) (g : ℕ) (e : GroupEvent) (s t : AdcState) (x y z : GroupState) → y ≡ z → z.status ≡ x.status → z.trigger ≡ x.trigger → QuietGoes d g e s t x y
 kept_quiet d g e s t x y z same status trigger = same_quiet d g e s t x y (ap (λ (k : GroupState). k.status) same ∙ status) (ap (λ (k : GroupState). k.trigger) same ∙ trigger)
 
 read_quiet_by : (ends : Bool) (x : Status) → quiet_by ends (status_read ends x) ≡ true → quiet_by ends x ≡ true
@@ -185,18 +185,18 @@ read_quiet_by false Busy h = absurd (cc h)
 read_quiet_by false Completed h = absurd (cc h)
 read_quiet_by false StreamCompleted h = absurd (cc h)
 
-read_quiet : (d : AdcTable) (g : ℕ) (e : Seen) (s t : AdcState) → g < 16 → QuietGoes d g e s t (group_at s g) (group_at (read_from d s g) g)
+read_quiet : (d : AdcTable) (g : ℕ) (e : GroupEvent) (s t : AdcState) → g < 16 → QuietGoes d g e s t (group_at s g) (group_at (read_from d s g) g)
 read_quiet d g e s t lt =
     let own : group_at (read_from d s g) g ≡ read_group d s g = group_same s g (read_group d s g) lt in
     Carries (λ h. read_quiet_by (ends_with_stream (group_of d g)) (group_at s g).status (ap (λ (x : GroupState). is_quiet d g x.status) (sym own) ∙ h)) (ap (λ (x : GroupState). x.trigger) own)
 
-reads_quiet : (d : AdcTable) (g : ℕ) (e : Seen) (s : AdcState) (x : Status) → g < 16 → QuietGoes d g e s (reads d s g x).state (group_at s g) (group_at (reads d s g x).state g)
+reads_quiet : (d : AdcTable) (g : ℕ) (e : GroupEvent) (s : AdcState) (x : Status) → g < 16 → QuietGoes d g e s (reads d s g x).state (group_at s g) (group_at (reads d s g x).state g)
 reads_quiet d g e s Idle lt = read_quiet d g e s _ lt
 reads_quiet d g e s Busy lt = left_quiet d g e s _ _ _ refl
 reads_quiet d g e s Completed lt = read_quiet d g e s _ lt
 reads_quiet d g e s StreamCompleted lt = read_quiet d g e s _ lt
 
-points_quiet : (d : AdcTable) (g : ℕ) (e : Seen) (s : AdcState) (x : Status) → g < 16 → QuietGoes d g e s (points d s g x).state (group_at s g) (group_at (points d s g x).state g)
+points_quiet : (d : AdcTable) (g : ℕ) (e : GroupEvent) (s : AdcState) (x : Status) → g < 16 → QuietGoes d g e s (points d s g x).state (group_at s g) (group_at (points d s g x).state g)
 points_quiet d g e s Idle lt = read_quiet d g e s _ lt
 points_quiet d g e s Busy lt = left_quiet d g e s _ _ _ refl
 points_quiet d g e s Completed lt = read_quiet d g e s _ lt
@@ -219,13 +219,13 @@ stopped_none d s g u r at = by_unit u r (sym (unmarked_round (off s g) u (trigge
     by_unit (suc zero) r e = none_of g (round_at s 1) r e
     by_unit (suc (suc v)) r e = absurd (cc e)
 
-stopped_quiet : (d : AdcTable) (g : ℕ) (e : Seen) (s : AdcState) → g < 16 → QuietGoes d g e s (stopped d s g) (group_at s g) (group_at (stopped d s g) g)
+stopped_quiet : (d : AdcTable) (g : ℕ) (e : GroupEvent) (s : AdcState) → g < 16 → QuietGoes d g e s (stopped d s g) (group_at s g) (group_at (stopped d s g) g)
 stopped_quiet d g e s lt = Emptied (ap (λ (x : GroupState). x.waiting) (stopped_is d s g lt)) (ap (λ (x : GroupState). x.trigger) (stopped_is d s g lt)) (stopped_none d s g)
 
 begun_loud : (d : AdcTable) (s : AdcState) (g : ℕ) (trigger : Bool) → g < 16 → is_quiet d g (group_at (begun_stream s g trigger) g).status ≡ false
 begun_loud d s g trigger lt = ap (λ (x : GroupState). is_quiet d g x.status) (group_same s g (begun_group s g trigger) lt)
 
-work_quiet : (d : AdcTable) (g : ℕ) (e : Seen) (s : AdcState) (call : GroupCall) → g < 16 → QuietGoes d g e s (group_work d s g call).state (group_at s g) (group_at (group_work d s g call).state g)
+work_quiet : (d : AdcTable) (g : ℕ) (e : GroupEvent) (s : AdcState) (call : GroupCall) → g < 16 → QuietGoes d g e s (group_work d s g call).state (group_at s g) (group_at (group_work d s g call).state g)
 work_quiet d g e s (SetupResultBuffer b) lt = kept_quiet d g e s _ _ _ (record (group_at s g) { chosen = b }) (group_same s g (record (group_at s g) { chosen = b }) lt) refl refl
 work_quiet d g e s StartGroupConversion lt =
     Loud (ap (λ (x : GroupState). is_quiet d g x.status) (group_same (begun_stream s g false) g (record (group_at (begun_stream s g false) g) { waiting = Some (record { number = s.requests + 1; kept = [] }) }) lt) ∙ begun_loud d s g false lt)
@@ -237,24 +237,24 @@ work_quiet d g e s (Notification on) lt = kept_quiet d g e s _ _ _ (record (grou
 work_quiet d g e s GetGroupStatus lt = left_quiet d g e s _ _ _ refl
 work_quiet d g e s GetStreamLastPointer lt = points_quiet d g e s (group_at s g).status lt
 
-own_quiet : (d : AdcTable) (g : ℕ) (e : Seen) (s : AdcState) (call : GroupCall) (o : Option ErrorName) → g < 16 → QuietGoes d g e s (acts_by d s (Group g call) o).state (group_at s g) (group_at (acts_by d s (Group g call) o).state g)
+own_quiet : (d : AdcTable) (g : ℕ) (e : GroupEvent) (s : AdcState) (call : GroupCall) (o : Option ErrorName) → g < 16 → QuietGoes d g e s (acts_by d s (Group g call) o).state (group_at s g) (group_at (acts_by d s (Group g call) o).state g)
 own_quiet d g e s call None lt = work_quiet d g e s call lt
 own_quiet d g e s call (Some x) lt = left_quiet d g e s _ _ _ refl
 
-any_quiet : (d : AdcTable) (g h : ℕ) (e : Seen) (s : AdcState) (call : GroupCall) → g < 16 → (h ≡ g) ⊎ (h ≢ g) → QuietGoes d g e s (acts d s (Group h call)).state (group_at s g) (group_at (acts d s (Group h call)).state g)
+any_quiet : (d : AdcTable) (g h : ℕ) (e : GroupEvent) (s : AdcState) (call : GroupCall) → g < 16 → (h ≡ g) ⊎ (h ≢ g) → QuietGoes d g e s (acts d s (Group h call)).state (group_at s g) (group_at (acts d s (Group h call)).state g)
 any_quiet d g h e s call lt (inl same) =
     subst (λ k. QuietGoes d g e s (acts d s (Group k call)).state (group_at s g) (group_at (acts d s (Group k call)).state g)) (sym same) (own_quiet d g e s call (error_by d (Group g call) (circumstances d s (Group g call))) lt)
 any_quiet d g h e s call lt (inr ne) = left_quiet d g e s _ _ _ (other_group d s h g call lt (λ same. ne (sym same)))
 
-init_quiet : (d : AdcTable) (g : ℕ) (e : Seen) (s : AdcState) (o : Option ErrorName) → QuietGoes d g e s (acts_by d s Init o).state (group_at s g) (group_at (acts_by d s Init o).state g)
+init_quiet : (d : AdcTable) (g : ℕ) (e : GroupEvent) (s : AdcState) (o : Option ErrorName) → QuietGoes d g e s (acts_by d s Init o).state (group_at s g) (group_at (acts_by d s Init o).state g)
 init_quiet d g e s None = Emptied refl refl (λ u r at. absurd (cc at))
 init_quiet d g e s (Some x) = left_quiet d g e s _ _ _ refl
 
-end_quiet : (d : AdcTable) (g : ℕ) (e : Seen) (s : AdcState) (o : Option ErrorName) → g < 16 → QuietGoes d g e s (acts_by d s DeInit o).state (group_at s g) (group_at (acts_by d s DeInit o).state g)
+end_quiet : (d : AdcTable) (g : ℕ) (e : GroupEvent) (s : AdcState) (o : Option ErrorName) → g < 16 → QuietGoes d g e s (acts_by d s DeInit o).state (group_at s g) (group_at (acts_by d s DeInit o).state g)
 end_quiet d g e s None lt = Emptied (ap (λ (x : GroupState). x.waiting) (closed_group s g lt)) (ap (λ (x : GroupState). x.trigger) (closed_group s g lt)) (λ u r at. absurd (cc at))
 end_quiet d g e s (Some x) lt = left_quiet d g e s _ _ _ refl
 
-pub act_quiet : (d : AdcTable) (g : ℕ) (e : Seen) (s : AdcState) (call : Call) → g < 16 → QuietGoes d g e s (acts d s call).state (group_at s g) (group_at (acts d s call).state g)
+pub act_quiet : (d : AdcTable) (g : ℕ) (e : GroupEvent) (s : AdcState) (call : Call) → g < 16 → QuietGoes d g e s (acts d s call).state (group_at s g) (group_at (acts d s call).state g)
 act_quiet d g e s Init lt = init_quiet d g e s (error_by d Init (circumstances d s Init))
 act_quiet d g e s DeInit lt = end_quiet d g e s (error_by d DeInit (circumstances d s DeInit)) lt
 act_quiet d g e s (Group h call) lt = any_quiet d g h e s call lt (same_or_other h g)
@@ -310,7 +310,7 @@ settled_quiet d t g n false true lt (inr why) = absurd (cc why.0)
 settled_quiet d t g n false false lt (inl full) = absurd (cc full)
 settled_quiet d t g n false false lt (inr why) = (refl, inr why.1)
 
-pub served_quiet : (d : AdcTable) (e : Seen) (s : AdcState) (u : ℕ) (r : Round) (values : List ℕ) → r.group < 16 → serves_on u r.group e ≡ true → round_at s u ≡ Some r
+pub served_quiet : (d : AdcTable) (e : GroupEvent) (s : AdcState) (u : ℕ) (r : Round) (values : List ℕ) → r.group < 16 → serves_on u r.group e ≡ true → round_at s u ≡ Some r
     → QuietGoes d r.group e s (served_values d s u r values) (group_at s r.group) (group_at (served_values d s u r values) r.group)
 served_quiet d e s u r values lt serve at =
     let k : Option configured.Group = group_of d r.group in

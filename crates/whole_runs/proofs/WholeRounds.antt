@@ -24,8 +24,8 @@ use Rattle.adc_machine.specs.declared.call.ResultBuffer.TheVariants.{Zero, One}
 use Rattle.adc_machine.specs.declared.table.AdcTable.{AdcTable}
 use Rattle.adc_machine.specs.declared.table.Group as configured
 use Rattle.adc_machine.proofs.Places.{leaves_results}
-use Rattle.whole_runs.specs.Runs.{Event, state_after, AreAllowed, told_by}
-use Rattle.whole_runs.specs.GroupRuns.{Seen, seen_between, seen_of, serves_on, newest_of, newest_in}
+use Rattle.whole_runs.specs.Runs.{Event, state_after, AreAllowed, told_or_nothing}
+use Rattle.whole_runs.specs.GroupRuns.{GroupEvent, seen_between, seen_of, serves_on, newest_of, newest_in}
 use Rattle.whole_runs.specs.Rounds.{IsRound, HandsOut, Reads, PlaceGoes, Left, Taken, Reset, NewestGoes, Stays, Becomes, Lost, PlacesGo, IsWhole, AreWhole}
 use Rattle.whole_runs.proofs.GroupSteps.{is_completed, RoundsGo, Same, Added, Cleared, seen, Goes, went, same_number}
 use Rattle.whole_runs.proofs.GroupServes.{happens_goes}
@@ -59,7 +59,7 @@ reads_newest d s g Busy values at completed idle e = absurd (cc (ap (λ (a : Ans
 reads_newest d s g Completed values at completed idle e = newest_is (group_at s g).rounds values (completed (ap (λ y. is_completed y) at)) (ap (λ (a : Answer). a.words) e)
 reads_newest d s g StreamCompleted values at completed idle e = newest_is (group_at s g).rounds values (completed (ap (λ y. is_completed y) at)) (ap (λ (a : Answer). a.words) e)
 
-read_by : (d : AdcTable) (s : AdcState) (past : List Seen) (g : ℕ) (values : List ℕ) (o : Option ErrorName) → error_by d (Group g ReadGroup) (circumstances d s (Group g ReadGroup)) ≡ o → Tells d past s
+read_by : (d : AdcTable) (s : AdcState) (past : List GroupEvent) (g : ℕ) (values : List ℕ) (o : Option ErrorName) → error_by d (Group g ReadGroup) (circumstances d s (Group g ReadGroup)) ≡ o → Tells d past s
     → (acts_by d s (Group g ReadGroup) o).told.answer ≡ named_with EOk values → HandsOut d g past values
 read_by d s past g values (Some x) at t e = absurd (cc (ap (λ (a : Answer). a.head) e))
 read_by d s past g values None at t e =
@@ -67,7 +67,7 @@ read_by d s past g values None at t e =
     let lt : g < 16 = known_below d g fine.0 in
     t.newest g lt values (reads_newest d s g (group_at s g).status values refl (t.completed g lt) fine.1 e)
 
-reads_by : (d : AdcTable) (w : World) (h : Happening Call) (s : AdcState) (out : Outcome AdcState) (past : List Seen) (g : ℕ) (values : List ℕ) → happens d w s h ≡ Some out → Tells d past s → Reads g h
+reads_by : (d : AdcTable) (w : World) (h : Happening Call) (s : AdcState) (out : Outcome AdcState) (past : List GroupEvent) (g : ℕ) (values : List ℕ) → happens d w s h ≡ Some out → Tells d past s → Reads g h
     → out.told.answer ≡ named_with EOk values → HandsOut d g past values
 reads_by d w (Acts (Group k ReadGroup) times) s out past g values e t is answer =
     subst (λ n. HandsOut d n past values) is
@@ -142,13 +142,13 @@ turn_results d t g n false true = refl
 turn_results d t g n false false = refl
 
 -- what a serving of a unit's line does to a place
-abbrev Places : AdcTable → List Seen → Seen → ℕ → ResultBuffer → ℕ → Type 0
+abbrev Places : AdcTable → List GroupEvent → GroupEvent → ℕ → ResultBuffer → ℕ → Type 0
 Places d past e g b p = PlaceGoes d g e past (held_in e.held g b p) (held_in e.holds g b p)
 
-served_place : (d : AdcTable) (w : World) (s : AdcState) (l received : ℕ) (r : Round) (past : List Seen) (g : ℕ) (b : ResultBuffer) (p : ℕ) → is_unit_line l ≡ true → round_at s (l - 24) ≡ Some r → Tells d past s
+served_place : (d : AdcTable) (w : World) (s : AdcState) (l received : ℕ) (r : Round) (past : List GroupEvent) (g : ℕ) (b : ResultBuffer) (p : ℕ) → is_unit_line l ≡ true → round_at s (l - 24) ≡ Some r → Tells d past s
     → Places d past (seen d w (Serves l received) s (served_round d w s (l - 24) (Some r))) g b p
 served_place d w s l received r past g b p line at t =
-    let e : Seen = seen d w (Serves l received) s (served_round d w s (l - 24) (Some r)) in
+    let e : GroupEvent = seen d w (Serves l received) s (served_round d w s (l - 24) (Some r)) in
     let k : Option configured.Group = group_of d r.group in
     let values : List ℕ = values_of w k r in
     let stored : Results = with_round_of k (length (group_at s r.group).rounds) r.group (group_at s r.group).chosen values s.results in
@@ -159,11 +159,11 @@ served_place d w s l received r past g b p line at t =
     by_place e values (is_round d (l - 24) r e past serve run)
     (subst (λ (x : Results). (held_in x g b p ≡ held_in s.results g b p) ⊎ ((r.group ≡ g) × Contains values (held_in x g b p))) (sym is) (round_or k (length (group_at s r.group).rounds) r.group (group_at s r.group).chosen values s.results g b p))
   where
-    by_place : (e : Seen) (values : List ℕ) → IsRound d r.group e past values → (held_in e.holds g b p ≡ held_in e.held g b p) ⊎ ((r.group ≡ g) × Contains values (held_in e.holds g b p)) → Places d past e g b p
+    by_place : (e : GroupEvent) (values : List ℕ) → IsRound d r.group e past values → (held_in e.holds g b p ≡ held_in e.held g b p) ⊎ ((r.group ≡ g) × Contains values (held_in e.holds g b p)) → Places d past e g b p
     by_place e values round (inl same) = Left same
     by_place e values round (inr here) = Taken values (subst (λ n. IsRound d n e past values) here.0 round) here.1
 
-round_place : (d : AdcTable) (w : World) (s : AdcState) (l received : ℕ) (q : Option Round) (past : List Seen) (g : ℕ) (b : ResultBuffer) (p : ℕ) → is_unit_line l ≡ true → round_at s (l - 24) ≡ q → Tells d past s
+round_place : (d : AdcTable) (w : World) (s : AdcState) (l received : ℕ) (q : Option Round) (past : List GroupEvent) (g : ℕ) (b : ResultBuffer) (p : ℕ) → is_unit_line l ≡ true → round_at s (l - 24) ≡ q → Tells d past s
     → Places d past (seen d w (Serves l received) s (served_round d w s (l - 24) q)) g b p
 round_place d w s l received None past g b p line at t = Left refl
 round_place d w s l received (Some r) past g b p line at t = served_place d w s l received r past g b p line at t
@@ -172,7 +172,7 @@ allowed_is : (b : Bool) (x out : Outcome AdcState) → cond b (Some x) None ≡ 
 allowed_is true x out e = cc
 allowed_is false x out e = absurd (cc e)
 
-serve_place : (d : AdcTable) (w : World) (s : AdcState) (l received : ℕ) (out : Outcome AdcState) (past : List Seen) (g : ℕ) (b : ResultBuffer) (p : ℕ) (unit : Bool) → is_unit_line l ≡ unit
+serve_place : (d : AdcTable) (w : World) (s : AdcState) (l received : ℕ) (out : Outcome AdcState) (past : List GroupEvent) (g : ℕ) (b : ResultBuffer) (p : ℕ) (unit : Bool) → is_unit_line l ≡ unit
     → happens d w s (Serves l received) ≡ Some out → Tells d past s → Places d past (seen d w (Serves l received) s out) g b p
 serve_place d w s l received out past g b p true line e t =
     let is : served_round d w s (l - 24) (round_at s (l - 24)) ≡ out =
@@ -180,7 +180,7 @@ serve_place d w s l received out past g b p true line e t =
     subst (λ (x : Outcome AdcState). Places d past (seen d w (Serves l received) s x) g b p) is (round_place d w s l received (round_at s (l - 24)) past g b p line refl t)
 serve_place d w s l received out past g b p false line e t = Left (ap (λ (x : Results). held_in x g b p) (leaves_results d w s (Serves l received) out e line))
 
-place_goes : (d : AdcTable) (w : World) (s : AdcState) (h : Happening Call) (out : Outcome AdcState) (past : List Seen) → happens d w s h ≡ Some out → Tells d past s → PlacesGo d (seen d w h s out) past
+place_goes : (d : AdcTable) (w : World) (s : AdcState) (h : Happening Call) (out : Outcome AdcState) (past : List GroupEvent) → happens d w s h ≡ Some out → Tells d past s → PlacesGo d (seen d w h s out) past
 place_goes d w s (Acts call times) out past e t g b p = Left (ap (λ (x : Results). held_in x g b p) (leaves_results d w s (Acts call times) out e tt))
 place_goes d w s (Serves l received) out past e t g b p = serve_place d w s l received out past g b p (is_unit_line l) refl e t
 place_goes d w s (Starts u made_by received) out past e t g b p = Left (ap (λ (x : Results). held_in x g b p) (leaves_results d w s (Starts u made_by received) out e tt))
@@ -193,7 +193,7 @@ place_goes d w s (Restarts reason) out past e t g b p = Reset refl (sym (ap (λ 
 
 -- ---- newest rounds
 
-newest_goes : (d : AdcTable) (g : ℕ) (e : Seen) (past : List Seen) (s : AdcState) (x y : GroupState) → RoundsGo d g e s x y → Tells d past s → NewestGoes d g e past (newest_of x.rounds) (newest_of y.rounds)
+newest_goes : (d : AdcTable) (g : ℕ) (e : GroupEvent) (past : List GroupEvent) (s : AdcState) (x y : GroupState) → RoundsGo d g e s x y → Tells d past s → NewestGoes d g e past (newest_of x.rounds) (newest_of y.rounds)
 newest_goes d g e past s x y (Same serve begin same status) t = Stays (ap (λ rs. newest_of rs) same)
 newest_goes d g e past s x y (Added u r serve there own is) t =
     Becomes (values_of e.world (group_of d g) r) (subst (λ h. serves_on u h e ≡ true → IsRound d h e past (values_of e.world (group_of d h) r)) own (λ f. is_round d u r e past f (t.running u r there)) serve)
@@ -206,11 +206,11 @@ first_tells : (d : AdcTable) → Tells d [] first_state
 first_tells d = record { waiting = λ g lt q e. absurd (cc e); running = λ u r e. absurd (cc e); newest = λ g lt values e. absurd (cc e); completed = λ g lt e. absurd (cc e); single = first_single d }
 
 -- what holds after an event, by what came of it
-abbrev After : AdcTable → AdcState → Event Call → List Seen → Option (Outcome AdcState) → Type 0
+abbrev After : AdcTable → AdcState → Event Call → List GroupEvent → Option (Outcome AdcState) → Type 0
 After d s e past o =
-    Tells d (seen_between d s (state_by s o) e (told_by o) ∷ past) (state_by s o) × IsWhole d (seen_between d s (state_by s o) e (told_by o)) past
+    Tells d (seen_between d s (state_by s o) e (told_or_nothing o) ∷ past) (state_by s o) × IsWhole d (seen_between d s (state_by s o) e (told_or_nothing o)) past
 
-event_whole : (d : AdcTable) (s : AdcState) (e : Event Call) (past : List Seen) (o : Option (Outcome AdcState)) → happens d e.world s e.what ≡ o → IsSome o → Tells d past s → After d s e past o
+event_whole : (d : AdcTable) (s : AdcState) (e : Event Call) (past : List GroupEvent) (o : Option (Outcome AdcState)) → happens d e.world s e.what ≡ o → IsSome o → Tells d past s → After d s e past o
 event_whole d s e past None at some t = absurd (cc some)
 event_whole d s e past (Some out) at some t =
     let goes : Goes d e.world e.what s out = happens_goes d e.world s e.what out at in (

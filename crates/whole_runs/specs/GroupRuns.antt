@@ -11,10 +11,10 @@ use Rattle.adc_machine.specs.declared.call.Call.{Call}
 use Rattle.adc_machine.specs.declared.call.Call.TheVariants.{Init, DeInit, Group}
 use Rattle.adc_machine.specs.declared.call.GroupCall.TheVariants.{StartGroupConversion, StopGroupConversion, EnableHardwareTrigger, DisableHardwareTrigger}
 use Rattle.adc_machine.specs.declared.table.AdcTable.{AdcTable}
-use Rattle.whole_runs.specs.Runs.{Event, state_after, told_by, is_restart, is_of}
+use Rattle.whole_runs.specs.Runs.{Event, state_after, told_or_nothing, is_restart, is_of}
 
 -- An event as it is seen.
-pub record Seen : Type 0 where
+pub record GroupEvent : Type 0 where
   -- the outside at its time, what happens, and what it tells
   pub world : World
   pub what : Happening Call
@@ -69,15 +69,15 @@ abbrev pub newest_in : AdcState → ℕ → Option (List ℕ)
 newest_in s g = newest_of (group_at s g).rounds
 
 -- an event as it is seen, from the state before it and the state after it
-abbrev pub seen_between : AdcTable → AdcState → AdcState → Event Call → Told → Seen
+abbrev pub seen_between : AdcTable → AdcState → AdcState → Event Call → Told → GroupEvent
 seen_between d s after e told = record { world = e.world; what = e.what; told = told; group = group_seen d s e.what; held = s.results; holds = after.results; had_newest = newest_in s; has_newest = newest_in after }
 
 -- the events as they are seen, the newest first
-abbrev pub seen_of : AdcTable → List (Event Call) → List Seen
+abbrev pub seen_of : AdcTable → List (Event Call) → List GroupEvent
 seen_of d [] = []
 seen_of d (e ∷ past) =
     let s : AdcState = state_after (adc_machine d) first_state past in
-    seen_between d s (state_after (adc_machine d) first_state (e ∷ past)) e (told_by ((adc_machine d).happens e.world s e.what)) ∷ seen_of d past
+    seen_between d s (state_after (adc_machine d) first_state (e ∷ past)) e (told_or_nothing ((adc_machine d).happens e.world s e.what)) ∷ seen_of d past
 
 -- ---- what an event is
 
@@ -86,7 +86,7 @@ abbrev pub call_by : Happening Call → Option ErrorName → Option Call
 call_by (Acts call times) None = Some call
 call_by _ _ = None
 
-abbrev pub call_in : Seen → Option Call
+abbrev pub call_in : GroupEvent → Option Call
 call_in e = call_by e.what e.told.error
 
 -- such a call starts, enables, stops or disables a group
@@ -110,18 +110,18 @@ is_whole (Some DeInit) = true
 is_whole _ = false
 
 -- the chip is reset, Adc_Init or Adc_DeInit acts
-abbrev pub is_reset : Seen → Bool
+abbrev pub is_reset : GroupEvent → Bool
 is_reset e = is_restart e.what
 
-abbrev pub clears : Seen → Bool
+abbrev pub clears : GroupEvent → Bool
 clears e = is_reset e || is_whole (call_in e)
 
 -- the group is stopped or its trigger disabled, or the module is cleared
-abbrev pub stops : ℕ → Seen → Bool
+abbrev pub stops : ℕ → GroupEvent → Bool
 stops g e = clears e || is_stop g (call_in e)
 
 -- the group is started or its trigger enabled, or the module is cleared
-abbrev pub begins : ℕ → Seen → Bool
+abbrev pub begins : ℕ → GroupEvent → Bool
 begins g e = clears e || (is_start g (call_in e) || is_enabling g (call_in e))
 
 -- a trigger's line is served
@@ -130,7 +130,7 @@ is_triggering (Serves l received) = not (is_unit_line l)
 is_triggering _ = false
 
 -- a request of the group is made: it is started, or its trigger's line is served
-abbrev pub requests : ℕ → Seen → Bool
+abbrev pub requests : ℕ → GroupEvent → Bool
 requests g e = is_start g (call_in e) || (is_triggering e.what && is_of g e.group)
 
 -- the unit whose round is started, aborted or served
@@ -147,23 +147,23 @@ unit_served (Serves l received) = cond (is_unit_line l) (Some (l - 24)) None
 unit_served _ = None
 
 -- a unit starts, aborts or serves a round of the group
-abbrev pub starts_on : (unit group : ℕ) → Seen → Bool
+abbrev pub starts_on : (unit group : ℕ) → GroupEvent → Bool
 starts_on u g e = is_of u (unit_started e.what) && is_of g e.group
 
-abbrev pub aborts_on : (unit group : ℕ) → Seen → Bool
+abbrev pub aborts_on : (unit group : ℕ) → GroupEvent → Bool
 aborts_on u g e = is_of u (unit_aborted e.what) && is_of g e.group
 
-abbrev pub serves_on : (unit group : ℕ) → Seen → Bool
+abbrev pub serves_on : (unit group : ℕ) → GroupEvent → Bool
 serves_on u g e = is_of u (unit_served e.what) && is_of g e.group
 
 -- a round of the group is served
-abbrev pub serves : ℕ → Seen → Bool
+abbrev pub serves : ℕ → GroupEvent → Bool
 serves g e = is_some (unit_served e.what) && is_of g e.group
 
 -- something happens on a unit: a round is started, aborted or served
-abbrev pub is_on : (unit : ℕ) → Seen → Bool
+abbrev pub is_on : (unit : ℕ) → GroupEvent → Bool
 is_on u e = is_of u (unit_started e.what) || (is_of u (unit_aborted e.what) || is_of u (unit_served e.what))
 
 -- the event is one of the group's own: a request of it is made, or a round of it is started, aborted or served
-abbrev pub touches : ℕ → Seen → Bool
+abbrev pub touches : ℕ → GroupEvent → Bool
 touches g e = is_start g (call_in e) || is_of g e.group

@@ -11,7 +11,7 @@ use Rattle.run_model.specs.World.{World}
 use Rattle.run_model.specs.Machine.{Happening, Moves, Restarts, Outcome}
 use Rattle.run_model.specs.Frame.{Origin, Called, Entered, Open, brought_by, happening_at, outcome_of}
 use Rattle.run_model.specs.Moment.{Setting, Moment, Transition, Begins, Enters, Steps, Happens, Resets, after}
-use Rattle.whole_runs.specs.Runs.{Event, told_by}
+use Rattle.whole_runs.specs.Runs.{Event, told_or_nothing}
 
 -- ---- events
 
@@ -63,7 +63,7 @@ answer_told a e out = a
 abbrev pub said_after : {State Call : Type 0} → Setting State Call → Moment State Call → List (Open Call) → Stepped → Said → Said
 said_after g m os s x =
     let out = outcome_of g.machine m.world m.state (event_of_step m os s) in
-    record { answer = answer_told x.answer s.event out; told = x.told ++ (told_by out).notices; given = x.given ++ notices_in s.made }
+    record { answer = answer_told x.answer s.event out; told = x.told ++ (told_or_nothing out).notices; given = x.given ++ notices_in s.made }
 
 -- what the frames under way have said after a step of the top one, which may end with it
 abbrev pub top_said : Said → Option Answer → List Said → List Said

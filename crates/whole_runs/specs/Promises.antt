@@ -10,7 +10,7 @@ use Rattle.spi_machine.specs.declared.table.SpiTable.{SpiTable}
 use Rattle.whole_runs.specs.Ends.{AreEnded, HasOneEnd}
 use Rattle.whole_runs.specs.GroupRuns as groups
 use Rattle.whole_runs.specs.Journals.{events_of, AllSaid}
-use Rattle.whole_runs.specs.Members.{Place, own_events}
+use Rattle.whole_runs.specs.Members.{Embedding, own_events}
 use Rattle.whole_runs.specs.Order.{AreInOrder}
 use Rattle.whole_runs.specs.Rounds.{AreWhole}
 use Rattle.whole_runs.specs.Runs.{Event}
@@ -21,7 +21,7 @@ abbrev pub journal_events : {State Call : Type 0} → Setting State Call → Chi
 journal_events g chip ds = events_of g (start_moment g chip) [] ds
 
 -- those that are a part's
-abbrev pub part_events : {S C U E : Type 0} → Setting U E → Place S C U E → Chip → List (Transition E) → List (Event C)
+abbrev pub part_events : {S C U E : Type 0} → Setting U E → Embedding S C U E → Chip → List (Transition E) → List (Event C)
 part_events g p chip ds = own_events g.machine g.first p (journal_events g chip ds)
 
 -- What is promised of the converter groups' part of a journal.

@@ -21,9 +21,9 @@ AreAllowed mac first [] = Unit {0}
 AreAllowed mac first (e ∷ past) = IsSome (mac.happens e.world (state_after mac first past) e.what) × AreAllowed mac first past
 
 -- what an event tells
-abbrev pub told_by : {State : Type 0} → Option (Outcome State) → Told
-told_by None = tells_nothing
-told_by (Some out) = out.told
+abbrev pub told_or_nothing : {State : Type 0} → Option (Outcome State) → Told
+told_or_nothing None = tells_nothing
+told_or_nothing (Some out) = out.told
 
 -- ---- what is said of events
 

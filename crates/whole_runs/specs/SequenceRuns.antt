@@ -12,10 +12,10 @@ use Rattle.spi_machine.specs.declared.call.Call.{Call}
 use Rattle.spi_machine.specs.declared.call.Call.TheVariants.{Init, Sequence}
 use Rattle.spi_machine.specs.declared.call.SequenceCall.TheVariants.{AsyncTransmit}
 use Rattle.spi_machine.specs.declared.table.SpiTable.{SpiTable}
-use Rattle.whole_runs.specs.Runs.{Event, state_after, told_by, is_restart, is_of}
+use Rattle.whole_runs.specs.Runs.{Event, state_after, told_or_nothing, is_restart, is_of}
 
 -- An event as it is seen.
-pub record Seen : Type 0 where
+pub record SequenceEvent : Type 0 where
   -- what happens, what it tells, and whether a word begins there
   pub what : Happening Call
   pub told : Told
@@ -59,16 +59,16 @@ begins_by None = false
 begins_by (Some out) = is_some out.begins
 
 -- an event as it is seen, from the state before it and the state after it
-abbrev pub seen_between : SpiTable → SpiState → SpiState → Happening Call → Told → (begins : Bool) → Seen
+abbrev pub seen_between : SpiTable → SpiState → SpiState → Happening Call → Told → (begins : Bool) → SequenceEvent
 seen_between d s after h told begins = record { what = h; told = told; begins = begins; sequence = sequence_seen d s h; job = job_seen d s h; had = sequence_result s.sequence_results; has = sequence_result after.sequence_results }
 
 -- the events as they are seen, the newest first
-abbrev pub seen_of : SpiTable → List (Event Call) → List Seen
+abbrev pub seen_of : SpiTable → List (Event Call) → List SequenceEvent
 seen_of d [] = []
 seen_of d (e ∷ past) =
     let s : SpiState = state_after (spi_machine d) first_state past in
     let out : Option (Outcome SpiState) = (spi_machine d).happens e.world s e.what in
-    seen_between d s (state_after (spi_machine d) first_state (e ∷ past)) e.what (told_by out) (begins_by out) ∷ seen_of d past
+    seen_between d s (state_after (spi_machine d) first_state (e ∷ past)) e.what (told_or_nothing out) (begins_by out) ∷ seen_of d past
 
 -- ---- what an event is
 
@@ -77,7 +77,7 @@ abbrev pub is_accepted : ℕ → Happening Call → Option ErrorName → Bool
 is_accepted q (Acts (Sequence k AsyncTransmit) times) None = k == q
 is_accepted q _ _ = false
 
-abbrev pub accepts : ℕ → Seen → Bool
+abbrev pub accepts : ℕ → SequenceEvent → Bool
 accepts q e = is_accepted q e.what e.told.error
 
 -- Spi_Init finds no error
@@ -85,10 +85,10 @@ abbrev pub is_begun : Happening Call → Option ErrorName → Bool
 is_begun (Acts Init times) None = true
 is_begun _ _ = false
 
-abbrev pub initialises : Seen → Bool
+abbrev pub initialises : SequenceEvent → Bool
 initialises e = is_begun e.what e.told.error
 
-abbrev pub is_reset : Seen → Bool
+abbrev pub is_reset : SequenceEvent → Bool
 is_reset e = is_restart e.what
 
 -- a result says that its sequence is pending
@@ -97,7 +97,7 @@ is_pending SpiSeqPending = true
 is_pending _ = false
 
 -- the sequence ends: it is pending before and not after, and that isn't by a reset
-abbrev pub is_end : ℕ → Seen → Bool
+abbrev pub is_end : ℕ → SequenceEvent → Bool
 is_end q e = not (is_reset e) && (is_pending (e.had q) && not (is_pending (e.has q)))
 
 -- a job starts
@@ -110,24 +110,24 @@ is_serving (Serves l received) = true
 is_serving _ = false
 
 -- a job of the sequence starts, and one ends: its word is served, and no further one begins
-abbrev pub starts_job : ℕ → Seen → Bool
+abbrev pub starts_job : ℕ → SequenceEvent → Bool
 starts_job q e = is_starting e.what && is_of q e.sequence
 
-abbrev pub ends_job : ℕ → Seen → Bool
+abbrev pub ends_job : ℕ → SequenceEvent → Bool
 ends_job q e = is_serving e.what && (is_of q e.sequence && not e.begins)
 
 -- ---- a sequence by what has happened since its last accepted request
 
 -- how many events there were before that request
-abbrev pub requested_at : ℕ → List Seen → ℕ
+abbrev pub requested_at : ℕ → List SequenceEvent → ℕ
 requested_at q [] = 0
 requested_at q (e ∷ past) = cond (accepts q e) (length past) (requested_at q past)
 
 -- how many of its jobs have ended since, and whether one has started since
-abbrev pub jobs_ended : ℕ → List Seen → ℕ
+abbrev pub jobs_ended : ℕ → List SequenceEvent → ℕ
 jobs_ended q [] = 0
 jobs_ended q (e ∷ past) = cond (accepts q e) 0 (cond (ends_job q e) (suc (jobs_ended q past)) (jobs_ended q past))
 
-abbrev pub has_started : ℕ → List Seen → Bool
+abbrev pub has_started : ℕ → List SequenceEvent → Bool
 has_started q [] = false
 has_started q (e ∷ past) = cond (accepts q e) false (starts_job q e || has_started q past)

@@ -54,15 +54,15 @@ abbrev pub world_by : GptTable → World → GptState → Happening Call → Wor
 world_by d w s (Moves order) = world_after w ((gpt_machine d).rate s) order
 world_by d w s _ = w
 
-abbrev pub told_by : Option (Outcome GptState) → Option Told
-told_by None = None
-told_by (Some out) = Some out.told
+abbrev pub outcome_told : Option (Outcome GptState) → Option Told
+outcome_told None = None
+outcome_told (Some out) = Some out.told
 
 -- what is told at each happening, and none where one isn't allowed, which changes nothing
 abbrev pub told_from : GptTable → World → GptState → List (Happening Call) → List (Option Told)
 told_from d w s [] = []
 told_from d w s (h ∷ hs) =
-    told_by ((gpt_machine d).happens w s h) ∷ told_from d (world_by d w s h) (state_by s ((gpt_machine d).happens w s h)) hs
+    outcome_told ((gpt_machine d).happens w s h) ∷ told_from d (world_by d w s h) (state_by s ((gpt_machine d).happens w s h)) hs
 
 -- the same from power on
 abbrev pub told : GptTable → List (Happening Call) → List (Option Told)

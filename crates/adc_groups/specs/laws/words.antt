@@ -1,3 +1,4 @@
+pub mod Cases
 pub mod DisjointWords
 pub mod FirstRequest
 pub mod OrderBetweenWrites

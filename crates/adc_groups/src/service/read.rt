@@ -99,7 +99,8 @@ impl Newest {
         }
     }
 
-    /// Takes what the move gave.
+    /// Takes what the move gave. It isn't inlined, so that other steps make no room for what the release of a pin holds.
+    #[inline(never)]
     pub fn took(&mut self, value: u32) -> BodyTaken
         ensures state { self.new ≡ newest_left self.old value }
         ensures taken { result ≡ newest_taken self.old }

@@ -1,5 +1,5 @@
 -- What all laws speak of, passed on, and what a family of bodies owes.
--- From service_outline: Acts, service_outline: Reports, service_outline: Sweep.
+-- From service_outline: Acts, service_outline: Reports, service_outline: SweepWords.
 -- Used by DeInit, Start, Mode, Switch, Count and 5 more.
 use Rattle.std.proofs.Common.{◌≡◌, ℕ, ◌<◌, ◌≤◌, Bool, true, false, [], Option, Some, None, refl, sym, ◌∙◌, ap, subst, arith}
 use Rattle.std.specs.Prelude.{if◌then◌else◌}
@@ -36,7 +36,7 @@ pub use Rattle.service_outline.specs.Acts.{Cleans}
 pub use Rattle.service_outline.specs.Done.{goes, acts as acts_on, ends, owed_error}
 pub use Rattle.service_outline.specs.laws.Acts.{never_clean}
 pub use Rattle.service_outline.specs.laws.Reports.{error_told}
-pub use Rattle.service_outline.specs.laws.Sweep.{each_but}
+pub use Rattle.service_outline.specs.laws.SweepWords.{each_but}
 pub use Rattle.service_outline.specs.Fuel.{Shortens}
 pub use Rattle.service_outline.specs.Outline.{Bodies, At, Happens, AreRight, StepsTo, RightAt, TellsAs, error_in, notices_in, Before, Is_before, After, Is_after, Serving, Is_serving, Served, Is_served}
 pub use Rattle.gpt_machine.specs.Checks.{error_by, service_of, allows, takes, answer_refused, has_value}

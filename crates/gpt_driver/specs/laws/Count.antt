@@ -1,5 +1,5 @@
 -- Gpt_GetTimeElapsed and Gpt_GetTimeRemaining: their steps, what holds at each, and that they are right.
--- From Base, service_outline: Acts, service_outline: Seen, Courses, RefinementRight and 1 more.
+-- From Base, service_outline: Acts, service_outline: Seen, ChannelTimes, RefinementRight and 1 more.
 -- Used by Lawful, service/count/rt.
 use Rattle.std.proofs.Common.{◌≡◌, ℕ, ◌+◌, ◌*◌, ◌-◌, ◌/◌, ◌%◌, ◌<◌, ◌^◌, true, Option, None, refl, sym, ◌∙◌, ap, subst, arith}
 use Rattle.run_model.specs.Machine.{number}
@@ -8,7 +8,7 @@ use Rattle.service_outline.specs.WindowHistory.{HasRead}
 use Rattle.service_outline.specs.laws.Seen.{never_after}
 use Rattle.gpt_driver.specs.declared.service.count.CountBody.{CountBody}
 use Rattle.gpt_driver.specs.declared.service.count.CountBody.TheVariants.{ElapsedLow, ElapsedHigh, RemainingTarget, RemainingLow, RemainingHigh}
-use Rattle.gpt_driver.specs.laws.Courses.{elapsed_small}
+use Rattle.gpt_driver.specs.laws.ChannelTimes.{elapsed_small}
 use Rattle.gpt_driver.specs.laws.RefinementRight.{may_words}
 use Rattle.gpt_driver.specs.laws.Parts.{elapsed_here}
 

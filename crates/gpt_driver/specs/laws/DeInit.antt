@@ -1,5 +1,5 @@
 -- Gpt_DeInit: its steps, what holds at each, and that they are right.
--- From Base, Parts, Courses, RefinementRight, Init and 1 more.
+-- From Base, Parts, ChannelTimes, RefinementRight, Init and 1 more.
 -- Used by service/deinit/rt, Lawful.
 use Rattle.std.proofs.Common.{◌≡◌, ℕ, zero, suc, add-one, ◌+◌, ◌-◌, ◌<◌, ◌≤◌, ◌≢◌, Bool, true, false, ◌&&◌, ◌==◌, not, nat_lt, Option, Some, None, cond, refl, sym, ◌∙◌, ap, arith}
 use Rattle.std.specs.Prelude.{if◌then◌else◌}
@@ -10,7 +10,7 @@ use Rattle.mcal_base.proofs.BitLaws.{bits_of-zero, bits_of-clear}
 use Rattle.mcal_base.specs.declared.service.Service.TheVariants.{GptDeInit}
 use Rattle.gpt_driver.specs.declared.service.deinit.DeInitBody.{DeInitBody}
 use Rattle.gpt_driver.specs.declared.service.deinit.DeInitBody.TheVariants as places
-use Rattle.gpt_driver.specs.laws.Courses.{running_is, rests_later}
+use Rattle.gpt_driver.specs.laws.ChannelTimes.{running_is, rests_later}
 use Rattle.gpt_driver.specs.laws.RefinementRight.{may_word}
 use Rattle.gpt_driver.specs.laws.Init.{all_lines}
 use Rattle.gpt_machine.specs.laws.Channels.{by_eight}

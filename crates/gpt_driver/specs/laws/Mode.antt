@@ -1,5 +1,5 @@
 -- Gpt_SetMode: its steps, what holds at each, and that they are right.
--- From Parts, Base, Stop, Courses, service_outline: Acts and 2 more.
+-- From Parts, Base, Stop, ChannelTimes, service_outline: Acts and 2 more.
 -- Used by service/mode/rt, Lawful.
 use Rattle.std.proofs.Common.{◌≡◌, ℕ, ◌+◌, ◌-◌, ◌<◌, ◌≤◌, Bool, true, false, not, nat_lt, Option, Some, None, refl, sym, ◌∙◌, ap, subst, arith}
 use Rattle.std.specs.Prelude.{if◌then◌else◌, bit_or}
@@ -7,7 +7,7 @@ use Rattle.gpt_driver.specs.laws.Base.{ltb-true, ltb-false, nat_tests, Chip, wor
 use Rattle.mcal_base.proofs.BitLaws.{bits_of-left, bits_of-marked}
 use Rattle.gpt_driver.specs.declared.service.mode.ModeBody.{ModeBody}
 use Rattle.gpt_driver.specs.declared.service.mode.ModeBody.TheVariants as places
-use Rattle.gpt_driver.specs.laws.Courses.{expired_is, quiet}
+use Rattle.gpt_driver.specs.laws.ChannelTimes.{expired_is, quiet}
 use Rattle.gpt_driver.specs.laws.RefinementRight.{may_words}
 use Rattle.gpt_machine.specs.laws.Channels.{table_at}
 use Rattle.gpt_driver.specs.laws.Parts.{stands_acted, block_acted, caught_up, never_off, bit_shifted, runs_here, elapsed_here, unpacked}

@@ -1,5 +1,5 @@
 -- The agreement by its parts: what a move leaves of the block, the words and the lines.
--- From Courses, gpt_machine: Channels, service_outline: Sweep.
+-- From ChannelTimes, gpt_machine: Channels, service_outline: SweepWords.
 -- Used by Mode, Start, DeInit, Stop, Switch and 5 more.
 use Rattle.std.proofs.Common.{◌≡◌, ℕ, ◌*◌, ◌%◌, ◌<◌, ◌≤◌, ◌≢◌, ◌^◌, Bool, true, false, [], length, refl, sym, ◌∙◌, ap, subst, arith}
 use Rattle.std.specs.Prelude.{if◌then◌else◌}
@@ -9,7 +9,7 @@ use Rattle.chip_timers.specs.declared.timer.Act.{Act}
 use Rattle.mcal_base.proofs.BitLaws.{has_bit-pow_same, has_bit-pow_other, one_shifted}
 use Rattle.mcal_base.specs.declared.TheConstants.{WORDS}
 use Rattle.gpt_machine.specs.laws.Channels.{channel_same, channel_other}
-use Rattle.gpt_driver.specs.laws.Courses.{running_is, counter_is, flagged_is}
+use Rattle.gpt_driver.specs.laws.ChannelTimes.{running_is, counter_is, flagged_is}
 
 -- ---- numbers
 

@@ -1,5 +1,5 @@
 -- The ground keeps what it owes: at the start, in time, under moves elsewhere and over a reset.
--- From Parts, service_outline: Words, gpt_machine: Channels, service_outline: There, Courses.
+-- From Parts, service_outline: Words, gpt_machine: Channels, service_outline: There, ChannelTimes.
 -- Used by Serve, Mode, DeInit, Switch, Count and 2 more.
 use Rattle.std.proofs.Common.{◌≡◌, ℕ, ◌/◌, ◌%◌, ◌<◌, ◌≤◌, ◌^◌, Bool, true, false, ◌&&◌, ◌||◌, ◌==◌, not, nat_lt, Option, Some, None, refl, sym, ◌∙◌, ap, subst, arith}
 use Rattle.std.specs.Prelude.{is_some, IsSome}
@@ -19,7 +19,7 @@ use Rattle.service_outline.specs.laws.Words.{word_later, fills_there}
 use Rattle.gpt_machine.specs.Bounds.{gpt_setting}
 use Rattle.gpt_machine.specs.Machine.{work, happens}
 use Rattle.run_model.specs.Machine.{Acts, Outcome, ErrorLeaves}
-use Rattle.gpt_driver.specs.laws.Courses.{marked_used}
+use Rattle.gpt_driver.specs.laws.ChannelTimes.{marked_used}
 use Rattle.gpt_machine.specs.laws.Channels.{by_eight, within}
 use Rattle.gpt_driver.specs.laws.Parts.{first_value, word_at, marked_here}
 use Rattle.std.proofs.lemmas.Bool.{and_parts, ltb-true, ltb-false}

@@ -1,5 +1,5 @@
 -- Gpt_StopTimer: its steps, what holds at each, and that they are right.
--- From Parts, Base, Courses, service_outline: Acts, gpt_machine: Channels.
+-- From Parts, Base, ChannelTimes, service_outline: Acts, gpt_machine: Channels.
 -- Used by Mode, service/stop/rt, Lawful.
 use Rattle.std.proofs.Common.{◌≡◌, ℕ, ◌<◌, Bool, true, false, Option, Some, None, refl, sym, ◌∙◌, ap, subst, arith}
 use Rattle.std.specs.Prelude.{if◌then◌else◌}
@@ -7,7 +7,7 @@ use Rattle.mcal_base.specs.facts.Numbers.{eq_self}
 use Rattle.gpt_driver.specs.laws.Base.{ne_eqb, Chip, Timers, timer_at, acted, acting, counter, is_flagged, expired_between, flag_clear, Still, Timer, timer_at-acted_on, has_bit, Act, Move, TimerGateClear, TimerFlags, World, Told, no_answer, tells_nothing, Origin, Nothing, BodyTaken, acts_on, ends, never_clean, Shortens, Bodies, AreRight, Before, Is_before, After, Is_after, Lag, settled, none, only, open_at, TimerAgrees, GptRepresents, gpt_ground, GptState, channel_at, Timing, Stopped, elapsed, target_of, runs, runs_at, is_marked, stopped, with_channel, channel_of, one_shot_of, bit, Call, OfChannel, StopTimer, Channel, GptTable, Unflags, Shuts, Write, MayRun, steady, AllGood, all_right, acts_so}
 use Rattle.gpt_driver.specs.declared.service.stop.StopBody.{StopBody}
 use Rattle.gpt_driver.specs.declared.service.stop.StopBody.TheVariants.{OneShot, Continuous, Flag}
-use Rattle.gpt_driver.specs.laws.Courses.{elapsed_small, unexpired, no_expiries, expired_is}
+use Rattle.gpt_driver.specs.laws.ChannelTimes.{elapsed_small, unexpired, no_expiries, expired_is}
 use Rattle.gpt_machine.specs.laws.Channels.{channel_same}
 use Rattle.gpt_driver.specs.laws.Parts.{acted_with, acted_here, has_one, runs_here, elapsed_here, marked_here}
 

@@ -1,5 +1,5 @@
 -- The services that change a channel's switches: their steps, what holds at each, and that they are right.
--- From Base, Parts, gpt_machine: Channels, service_outline: Acts, service_outline: Sweep and 1 more.
+-- From Base, Parts, gpt_machine: Channels, service_outline: Acts, service_outline: SweepWords and 1 more.
 -- Used by service/switch/rt, Lawful, Serve.
 use Rattle.std.proofs.Common.{◌≡◌, ℕ, ◌<◌, Bool, true, false, List, [], ◌∷◌, Option, Some, None, refl, sym, ◌∙◌, ap, subst, arith}
 use Rattle.std.specs.Prelude.{if◌then◌else◌}

@@ -1,5 +1,5 @@
 -- What all laws speak of, passed on.
--- Used by Sample, Stamp, Keep, Detect.
+-- Used by SampleSteps, Stamp, KeepSteps, DetectSteps.
 use Rattle.std.proofs.Common.{if◌then◌else◌}
 use Rattle.icu_driver.specs.Terms
 use Terms.{Bool, false, true, ℕ}

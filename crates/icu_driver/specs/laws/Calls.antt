@@ -1,6 +1,6 @@
 -- What holds of a call about a channel before it acts, and what an act does to the channel.
 -- From One, Steady, RefinementRight.
--- Used by Gate, Stamp, Measure, Count, Keeping and 9 more.
+-- Used by Gate, Stamp, Measure, Count, KeepRight and 9 more.
 use Rattle.std.proofs.Common.{◌≡◌, ◌<◌, ◌&&◌, ◌||◌, ◌∙◌}
 use Rattle.icu_driver.specs.Terms
 use Terms.{Acts, acts_by, answers, ap, arith, asked, bare, bare_block, behind, Bool, Capture, capture_at, Captures}

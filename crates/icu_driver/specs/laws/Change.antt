@@ -1,6 +1,6 @@
 -- The services that set or ask for what a channel keeps: their steps, what holds at each, and that they are right.
 -- From One, Calls, Steady, RefinementRight, Channels and 1 more.
--- Used by Detecting, service/change/rt, Lawful, Windows, Sampling and 2 more.
+-- Used by DetectRight, service/change/rt, Lawful, Windows, SampleRight and 2 more.
 use Rattle.std.proofs.Common.{◌≡◌, ◌≢◌, ◌<◌, ◌≤◌, ◌^◌, ◌&&◌, ◌||◌, ◌==◌, ◌∙◌, if◌then◌else◌}
 use Rattle.icu_driver.specs.Terms
 use Terms.{ActiveIs, After, AllByRecursion, answers, ap, AreRight, arith, Before, behind, below_test, bit_of, Bodies}

@@ -1,5 +1,5 @@
 -- One channel of the block: its gate, its pops, its emptying and its count, as calls and servings change them.
--- Used by Keeping, Gate, Stamp, Detecting, Sampling and 3 more.
+-- Used by KeepRight, Gate, Stamp, DetectRight, SampleRight and 3 more.
 use Rattle.std.proofs.Common.{◌≡◌, [], ◌∷◌, ◌∙◌}
 use Rattle.icu_driver.specs.Terms
 use Terms.{ap, Bool, Capture, CaptureAgrees, Channel, ChoosesAs, chosen, counts_edges, drop, Edge, false, flushed}

@@ -1,6 +1,6 @@
 -- The services of an edge counter: their steps, what holds at each, and that they are right.
 -- From One, Calls, Steady, Channels, RefinementRight and 1 more.
--- Used by service/count/rt, Lawful, Windows, Sampling, Keeping.
+-- Used by service/count/rt, Lawful, Windows, SampleRight, KeepRight.
 use Rattle.std.proofs.Common.{◌≡◌, ◌/◌, ◌%◌, ◌<◌, ◌^◌, ◌||◌, ◌∙◌}
 use Rattle.icu_driver.specs.Terms
 use Terms.{acted, acting, After, answers, ap, AreRight, arith, Before, below_test, Bodies, Bool, Call, Capture}

@@ -8,7 +8,7 @@ use Rattle.icu_machine.specs.declared.call.Call.TheVariants.{Channel}
 use Rattle.icu_driver.specs.declared.service.duty.DutyBody.TheVariants.{Waits, Active, Hand}
 use Rattle.icu_driver.specs.laws.{Base.{Move, BodyTaken, goes, acts_on, ends, numbers, Nothing, Shortens, word}}
 use Rattle.icu_driver.specs.laws.{Base.{SWITCHES, VALUES, TIMES}, Calls.{MayCall, acts_is, measures, to_mode, may_row}}
-use Rattle.icu_driver.specs.laws.{Measure.{Held, IsPair, IsMeasured, waits_double, handed_waits, one_is, row_switches}}
+use Rattle.icu_driver.specs.laws.{Measure.{OfSome, IsPair, IsMeasured, waits_double, handed_waits, one_is, row_switches}}
 use Rattle.icu_machine.specs.laws.{Channels.{with_same}}
 use Rattle.icu_driver.specs.laws.{Measure.{row_values, all_handed, unwaiting, handing}, One.{IsRow}}
 use Rattle.icu_driver.specs.laws.{Rows.{rows_of}, Steady.{calm_at, Good, AllGood, steady, steady_right}}
@@ -57,7 +57,7 @@ duty_holds d f s (Hand c a v) o t = After (Channel c GetDutyCycleValues) (answer
 abbrev pub duty_bodies : (d : IcuTable) → Bodies (icu_ground d) DutyBody
 duty_bodies d = steady d duty_work duty_takes duty_left duty_gap (duty_holds d)
 
-told_pair : (t v : ℕ) (o : Option (List ℕ)) → is_some o ≡ true → Held IsPair o → ValueIs v o → ActiveIs t o → value_or (0 ∷ 0 ∷ []) o ≡ t ∷ v ∷ []
+told_pair : (t v : ℕ) (o : Option (List ℕ)) → is_some o ≡ true → OfSome IsPair o → ValueIs v o → ActiveIs t o → value_or (0 ∷ 0 ∷ []) o ≡ t ∷ v ∷ []
 told_pair t v None e h i j = off_on e
 told_pair t v (Some (a ∷ n ∷ [])) e h i j = ap (λ z. z ∷ n ∷ []) (sym j) ∙ ap (λ z. t ∷ z ∷ []) (sym i)
 told_pair t v (Some []) e h i j = absurd h

@@ -1,6 +1,6 @@
 -- The bodies of the handlers, by what a channel is for.
 -- From Bodies.
--- Used by Lawful, handler/rt, Sampling, Keeps, mcal_system: proofs/Carried.
+-- Used by Lawful, handler/rt, SampleRight, Keeps, mcal_system: proofs/Carried.
 use Rattle.icu_driver.specs.Terms
 use Terms.{Bool, Channel, DutyCycle, EdgeCounter, false, first_of, IcuMeasurementMode, IcuSignalMeasurementProperty}
 use Terms.{is_duty_cycle, is_linear, Kept, None, Option, PeriodTime, Sampled, SignalEdgeDetect, SignalMeasurement, Some}

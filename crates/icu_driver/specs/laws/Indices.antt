@@ -1,11 +1,11 @@
 -- The index of stamps and the stamps left until a notice: what one stamp more makes of them, and that the handler counts so.
--- From Keep.
--- Used by Keeping.
+-- From KeepSteps.
+-- Used by KeepRight.
 use Rattle.std.proofs.Common.{◌≡◌, ◌≢◌, ◌+◌, ◌-◌, ◌%◌, ◌<◌, ◌≤◌, ◌^◌, ◌&&◌, ◌==◌, ◌∙◌, if◌then◌else◌}
 use Rattle.icu_driver.specs.Terms
 use Terms.{ap, arith, Bool, Channel, eq_is, eq_isnt, false, index_by, is_full, is_linear, is_notified, IsStart, Kept}
 use Terms.{left_by, mod-eq_of_lt, mod-lt, mod_self, nat_tests, not, refl, Some, Start, suc, suc-mod, sym, true, ℕ}
-use Rattle.icu_driver.specs.laws.Keep.{fills, next_index, left_now}
+use Rattle.icu_driver.specs.laws.KeepSteps.{fills, next_index, left_now}
 
 -- ---- one stamp more
 

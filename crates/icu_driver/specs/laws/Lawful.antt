@@ -10,13 +10,13 @@ use Terms.{EnableEdgeDetection, EnableNotification, Entered, error_by, error_tol
 use Terms.{FitsIcu, GetDutyCycleValues, GetEdgeNumbers, GetInputState, GetTimeElapsed, GetTimestampIndex, ground_right, HighTime, icu_ground, icu_machine, IcuTable, IcuMeasurementMode, IcuRepresents, IcuSignalMeasurementProperty, IcuState, Is_before, is_counter, is_detection, is_duty_cycle, is_measurement, is_on, Is_serving, is_some, is_stamp, IsOutlined, IsSmall, List, Looked, LooksRight, LowTime, nat_lt, nat_tests, never_after, never_serving, None, not, Open, Option, Outlined, own_word, PeriodTime, refl, ResetEdgeCount, Second, SetActivationCondition, settled, Short, SignalEdgeDetect, SignalMeasurement, Some, Starts, StartSignalMeasurement, StartTimestamp, STATE, steps_of, StopSignalMeasurement, StopTimestamp, subst, suits, sym, tells_error, Timestamp, true, within, word_of, World, ℕ}
 use Rattle.icu_driver.specs.laws.{Bodies.{IcuBody}, Calls.{MayCall, stamps}, Change.{change_bodies, change_right}}
 use Rattle.icu_driver.specs.laws.{Count.{count_bodies, count_right}, DeInit.{deinit_bodies, deinit_right}}
-use Rattle.icu_driver.specs.laws.{Detecting.{detect_bodies, detect_right}, Duty.{duty_bodies, duty_right}}
+use Rattle.icu_driver.specs.laws.{DetectRight.{detect_bodies, detect_right}, Duty.{duty_bodies, duty_right}}
 use Rattle.icu_driver.specs.laws.{Gate.{gate_bodies, gate_right}, Handler.{is_whole, handler_by, handler_of, body_by}}
-use Rattle.icu_driver.specs.laws.{Init.{init_bodies, init_right}, Keeping.{keep_bodies, keep_right}, Look.{icu_looked}}
+use Rattle.icu_driver.specs.laws.{Init.{init_bodies, init_right}, KeepRight.{keep_bodies, keep_right}, Look.{icu_looked}}
 use Rattle.icu_driver.specs.laws.{Look.{looked_by, begins, begun_on, begun_with, Passed, off_of, on_of, deinit_on}}
 use Rattle.icu_driver.specs.laws.{Look.{allowed, sizes_of, edges_of, is_stop, unhindered, stop_unhindered, early}}
-use Rattle.icu_driver.specs.laws.{Look.{asked_word}, Measure.{measure_bodies, measure_right}, Sampling.{sample_bodies}}
-use Rattle.icu_driver.specs.laws.{Sampling.{sample_right}, Stamp.{stamp_bodies, stamp_right}, Windows.{icu_seen}}
+use Rattle.icu_driver.specs.laws.{Look.{asked_word}, Measure.{measure_bodies, measure_right}, SampleRight.{sample_bodies}}
+use Rattle.icu_driver.specs.laws.{SampleRight.{sample_right}, Stamp.{stamp_bodies, stamp_right}, Windows.{icu_seen}}
 use Rattle.icu_driver.specs.laws.{Windows.{icu_sees}}
 use Rattle.icu_machine.specs.declared.call.Call.TheVariants as calls
 use Rattle.icu_driver.specs.declared.service.count.CountBody.TheVariants as counts

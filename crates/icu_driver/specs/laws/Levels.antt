@@ -1,5 +1,5 @@
 -- An outside level is set: words and registers agree with the machine as before.
--- From Course, icu_machine: Edges, Turns, Later, icu_machine: Channels.
+-- From EdgeWords, icu_machine: Edges, Alternation, Later, icu_machine: Channels.
 -- Used by Over.
 use Rattle.std.proofs.Common.{◌≡◌, ℕ, ◌+◌, ◌<◌, Bool, true, false, length, refl, sym, ◌∙◌, ap, subst}
 use Rattle.std.specs.Prelude.{if◌then◌else◌, is_some}
@@ -17,11 +17,11 @@ use Rattle.icu_driver.specs.Refinement.{Lag, FitsIcu, IcuRepresents, ChannelWord
 use Rattle.icu_machine.specs.Machine.{IcuState, Capture, capture_at, by_channel, edge_at_pin, moved, stamp_in}
 use Rattle.icu_machine.specs.Table.{channel_of}
 use Rattle.icu_machine.specs.declared.table.IcuTable.{IcuTable}
-use Rattle.icu_driver.specs.laws.Course.{words_still, pin_off_same, pin_course, place_still}
+use Rattle.icu_driver.specs.laws.EdgeWords.{words_still, pin_off_same, pin_course, place_still}
 use Rattle.icu_driver.specs.laws.Later.{level_block}
 use Rattle.icu_machine.specs.laws.Edges.{still, pin_still}
 use Rattle.icu_machine.specs.laws.Channels.{by_channel_at}
-use Rattle.icu_driver.specs.laws.Turns.{pin_turns, pin_kept}
+use Rattle.icu_driver.specs.laws.Alternation.{pin_turns, pin_kept}
 
 module _ (d : IcuTable) (fits : FitsIcu d) (gap : Lag) (chip : Chip) (w : World) (s : IcuState) (pin : ℕ) (v : Bool) (h : IcuRepresents d gap chip w s) where
   abbrev after : Bool → IcuState

@@ -1,6 +1,6 @@
 -- Icu_StartSignalMeasurement and Icu_GetTimeElapsed: their steps, what holds at each, and that they are right.
 -- From Calls, One, Rows, Steady, Channels and 5 more.
--- Used by Duty, Sampling, service/measure/rt, Lawful, Windows and 4 more.
+-- Used by Duty, SampleRight, service/measure/rt, Lawful, Windows and 4 more.
 use Rattle.std.proofs.Common.{◌≡◌, ◌<◌, ◌||◌, ◌==◌, [], ◌∷◌, ◌∙◌, if◌then◌else◌}
 use Rattle.icu_driver.specs.Terms
 use Terms.{acted, acting, ActiveIs, After, AllByRecursion, and_parts, answers, ap, AreRight, arith, bare, Before}
@@ -59,9 +59,9 @@ measure_shortens (Hand c v) x = omega arith
 
 -- ---- the shape of values
 
-abbrev pub Held : {A : Type 0} → (A → Type 0) → Option A → Type 0
-Held P None = Unit {0}
-Held P (Some v) = P v
+abbrev pub OfSome : {A : Type 0} → (A → Type 0) → Option A → Type 0
+OfSome P None = Unit {0}
+OfSome P (Some v) = P v
 
 abbrev pub IsOne : List ℕ → Type 0
 IsOne (n ∷ []) = Unit {0}
@@ -71,59 +71,59 @@ abbrev pub IsPair : List ℕ → Type 0
 IsPair (a ∷ n ∷ []) = Unit {0}
 IsPair _ = ⊥
 
-cons_held : {A : Type 0} (P : A → Type 0) (o : Option A) (ys : List A) → Held P o → AllByRecursion P ys → AllByRecursion P (cons_option o ys)
+cons_held : {A : Type 0} (P : A → Type 0) (o : Option A) (ys : List A) → OfSome P o → AllByRecursion P ys → AllByRecursion P (cons_option o ys)
 cons_held P None ys h a = a
 cons_held P (Some y) ys h a = (h, a)
 
-all_filtered : {A B : Type 0} (P : B → Type 0) (f : A → Option B) → ((m : A) → Held P (f m)) → (ms : List A) → AllByRecursion P (filter_map f ms)
+all_filtered : {A B : Type 0} (P : B → Type 0) (f : A → Option B) → ((m : A) → OfSome P (f m)) → (ms : List A) → AllByRecursion P (filter_map f ms)
 all_filtered P f h [] = tt
 all_filtered P f h (m ∷ ms) = cons_held P (f m) (filter_map f ms) (h m) (all_filtered P f h ms)
 
-newest_held : {A : Type 0} (P : A → Type 0) (ys : List A) → AllByRecursion P ys → Held P (newest ys)
+newest_held : {A : Type 0} (P : A → Type 0) (ys : List A) → AllByRecursion P ys → OfSome P (newest ys)
 newest_held P [] a = tt
 newest_held P (x ∷ []) a = a.0
 newest_held P (x ∷ y ∷ ys) a = newest_held P (y ∷ ys) a.1
 
-low_one : (m : List Edge) → Held IsOne (value_of LowTime m)
+low_one : (m : List Edge) → OfSome IsOne (value_of LowTime m)
 low_one [] = tt
 low_one (e ∷ es) = tt
 
-high_one : (m : List Edge) → Held IsOne (value_of HighTime m)
+high_one : (m : List Edge) → OfSome IsOne (value_of HighTime m)
 high_one [] = tt
 high_one (e ∷ es) = tt
 
-period_one : (m : List Edge) → Held IsOne (value_of PeriodTime m)
+period_one : (m : List Edge) → OfSome IsOne (value_of PeriodTime m)
 period_one [] = tt
 period_one (e ∷ es) = tt
 
-duty_pair : (m : List Edge) → Held IsPair (value_of DutyCycle m)
+duty_pair : (m : List Edge) → OfSome IsPair (value_of DutyCycle m)
 duty_pair [] = tt
 duty_pair (e ∷ []) = tt
 duty_pair (e ∷ x ∷ []) = tt
 duty_pair (e ∷ x ∷ y ∷ ys) = tt
 
-single : (p : Option IcuSignalMeasurementProperty) (k : configured.Channel) (es : List Edge) → is_duty_cycle p ≡ false → Held IsOne (newest (values_by p k es))
+single : (p : Option IcuSignalMeasurementProperty) (k : configured.Channel) (es : List Edge) → is_duty_cycle p ≡ false → OfSome IsOne (newest (values_by p k es))
 single None k es e = tt
 single (Some LowTime) k es e = newest_held IsOne (values_by (Some LowTime) k es) (all_filtered IsOne (value_of LowTime) low_one (measured_edges (begins_rising LowTime k) (ends_rising LowTime k) es))
 single (Some HighTime) k es e = newest_held IsOne (values_by (Some HighTime) k es) (all_filtered IsOne (value_of HighTime) high_one (measured_edges (begins_rising HighTime k) (ends_rising HighTime k) es))
 single (Some PeriodTime) k es e = newest_held IsOne (values_by (Some PeriodTime) k es) (all_filtered IsOne (value_of PeriodTime) period_one (measured_edges (begins_rising PeriodTime k) (ends_rising PeriodTime k) es))
 single (Some DutyCycle) k es e = off_on (sym e)
 
-double : (p : Option IcuSignalMeasurementProperty) (k : configured.Channel) (es : List Edge) → is_duty_cycle p ≡ true → Held IsPair (newest (values_by p k es))
+double : (p : Option IcuSignalMeasurementProperty) (k : configured.Channel) (es : List Edge) → is_duty_cycle p ≡ true → OfSome IsPair (newest (values_by p k es))
 double None k es e = tt
 double (Some DutyCycle) k es e = newest_held IsPair (values_by (Some DutyCycle) k es) (all_filtered IsPair (value_of DutyCycle) duty_pair (measured_edges (begins_rising DutyCycle k) (ends_rising DutyCycle k) es))
 double (Some LowTime) k es e = off_on e
 double (Some HighTime) k es e = off_on e
 double (Some PeriodTime) k es e = off_on e
 
-held_if : {A : Type 0} (P : A → Type 0) (q : Bool) (o : Option A) → Held P o → Held P (if q then None else o)
+held_if : {A : Type 0} (P : A → Type 0) (q : Bool) (o : Option A) → OfSome P o → OfSome P (if q then None else o)
 held_if P true o h = tt
 held_if P false o h = h
 
-pub waits_single : (k : configured.Channel) (x : Capture) → is_duty_cycle k.measured ≡ false → Held IsOne (waiting_value k x)
+pub waits_single : (k : configured.Channel) (x : Capture) → is_duty_cycle k.measured ≡ false → OfSome IsOne (waiting_value k x)
 waits_single k x e = held_if IsOne x.handed_out (newest (values k x.served)) (single k.measured k x.served e)
 
-pub waits_double : (k : configured.Channel) (x : Capture) → is_duty_cycle k.measured ≡ true → Held IsPair (waiting_value k x)
+pub waits_double : (k : configured.Channel) (x : Capture) → is_duty_cycle k.measured ≡ true → OfSome IsPair (waiting_value k x)
 waits_double k x e = held_if IsPair x.handed_out (newest (values k x.served)) (double k.measured k x.served e)
 
 -- what is handed out is what waits
@@ -134,7 +134,7 @@ handed_if n false o = refl
 pub handed_waits : (n : List ℕ) (k : configured.Channel) (x : Capture) → handed n k x ≡ value_or n (waiting_value k x)
 handed_waits n k x = handed_if n x.handed_out (newest (values k x.served))
 
-told_one : (v : ℕ) (o : Option (List ℕ)) → Held IsOne o → ValueIs v o → value_or (0 ∷ []) o ≡ (if is_some o then v else 0) ∷ []
+told_one : (v : ℕ) (o : Option (List ℕ)) → OfSome IsOne o → ValueIs v o → value_or (0 ∷ []) o ≡ (if is_some o then v else 0) ∷ []
 told_one v None h i = refl
 told_one v (Some (n ∷ [])) h i = ap (λ z. z ∷ []) (sym i)
 told_one v (Some []) h i = absurd h

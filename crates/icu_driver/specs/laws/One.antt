@@ -1,6 +1,6 @@
 -- One channel under a step: the other ones are as they were.
--- From service_outline: Words, icu_machine: Channels, service_outline: Sweep.
--- Used by Keeping, Change, DeInit, Stamp, Sampling and 8 more.
+-- From service_outline: Words, icu_machine: Channels, service_outline: SweepWords.
+-- Used by KeepRight, Change, DeInit, Stamp, SampleRight and 8 more.
 use Rattle.std.proofs.Common.{◌≡◌, ◌≢◌, ◌+◌, ◌%◌, ◌<◌, ◌≤◌, ◌^◌, ◌||◌, ◌∙◌, if◌then◌else◌}
 use Rattle.icu_machine.specs.laws.Channels.{with_other}
 use Rattle.icu_driver.specs.Terms

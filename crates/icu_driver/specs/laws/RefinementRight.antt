@@ -1,6 +1,6 @@
 -- The ground keeps what it owes: under moves elsewhere, at rest, at notices and errors.
 -- From service_outline: Words, Over, service_outline: There, Fresh, icu_machine: Channels.
--- Used by Lawful, Keeps, Keeping, Init, Fits and 9 more.
+-- Used by Lawful, Keeps, KeepRight, Init, Fits and 9 more.
 use Rattle.std.proofs.Common.{◌≡◌, ℕ, suc, ◌+◌, ◌-◌, ◌/◌, ◌%◌, ◌*◌, ◌<◌, ◌≤◌, ◌^◌, Bool, true, false, ◌&&◌, ◌||◌, ◌==◌, not, nat_lt, List, [], ◌∷◌, length, map, Option, Some, None, refl, sym, ◌∙◌, ap, subst, arith}
 use Rattle.std.specs.Prelude.{is_some, IsSome, if◌then◌else◌}
 use Rattle.std.proofs.lemmas.Bool.Decides.{nat_tests}

@@ -1,6 +1,6 @@
 -- Rows of words that are behind at a channel, and the store that catches one up.
 -- From One, Calls.
--- Used by Sampling, Measure, Stamp, Detecting, Keeping and 2 more.
+-- Used by SampleRight, Measure, Stamp, DetectRight, KeepRight and 2 more.
 use Rattle.std.proofs.Common.{◌≡◌, ◌≢◌, ◌<◌, ◌||◌, ◌==◌, [], ◌∷◌, ◌∙◌}
 use Rattle.icu_driver.specs.Terms
 use Terms.{ActiveIs, AllByRecursion, ap, arith, bit_of, Bool, Capture, capture_at, Channel, channel_of, Chip, chip_after, eq_other, false, IcuTable, IcuRepresents, IcuState, INTERVALS, is_some, Lag, List, MARKS, MeasureWords, ModeWords, nat_tests, OppositeIs, PLACES, refl, seen_by, seen_number, settled, SIZES, Some, StartIs, STATE, Store, SWITCHES, TIMES, true, ValueIs, VALUES, waiting_value, word, word_of, World, ℕ}

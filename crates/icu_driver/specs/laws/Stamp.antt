@@ -1,6 +1,6 @@
 -- The services of timestamps: their steps, what holds at each, and that they are right.
 -- From Calls, One, Rows, Steady, Channels and 7 more.
--- Used by Keeping, Sampling, DeInit, service/stamp/rt, Lawful and 1 more.
+-- Used by KeepRight, SampleRight, DeInit, service/stamp/rt, Lawful and 1 more.
 use Rattle.std.proofs.Common.{◌≡◌, ◌-◌, ◌%◌, ◌<◌, ◌≤◌, ◌^◌, ◌&&◌, ◌||◌, ◌==◌, [], ◌∷◌, ◌∙◌, if◌then◌else◌}
 use Rattle.icu_driver.specs.Terms
 use Terms.{acted, acting, acts_by, After, AllByRecursion, answers, ap, AreRight, arith, Ask, asked, bare, Before}

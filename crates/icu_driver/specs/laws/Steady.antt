@@ -1,6 +1,6 @@
 -- What a family of bodies owes: what its places rest on stays while the hardware moves.
 -- From icu_machine: Channels, icu_machine: Edges, Parts, service_outline: Acts, Tables and 1 more.
--- Used by Sampling, Keeping, Change, Detecting, Duty and 8 more.
+-- Used by SampleRight, KeepRight, Change, DetectRight, Duty and 8 more.
 use Rattle.std.proofs.Common.{◌≡◌, ◌+◌, ◌%◌, ◌<◌, ◌^◌, ◌==◌, [], ◌∷◌, ◌++◌, ◌∙◌, if◌then◌else◌}
 use Rattle.icu_driver.specs.Terms
 use Terms.{acting, ap, AreRight, arith, At, at_bits, bare, bare_block, Bodies, BodyTaken, Bool, by_channel}

@@ -1,6 +1,6 @@
 -- The values over served edges: one more edge adds the value that what was seen tells, and no other.
 -- From Seen.
--- Used by Sampling.
+-- Used by SampleRight.
 use Rattle.std.proofs.Common.{◌≡◌, ◌&&◌, [], ◌∷◌, ◌++◌, ◌∙◌, if◌then◌else◌}
 use Rattle.icu_driver.specs.Terms
 use Terms.{Alternate, ap, begins_rising, Bool, Channel, DutyCycle, Edge, false, filter_map, filter_map-append}

@@ -1,5 +1,5 @@
 -- What frames have done in their windows: the halves of a count and of an edge's time are read one after the other.
--- From Keep, Sample, service_outline: Seen, Change, Count and 8 more.
+-- From KeepSteps, SampleSteps, service_outline: Seen, Change, Count and 8 more.
 -- Used by Lawful.
 use Rattle.std.proofs.Common.{◌≡◌, ◌/◌, ◌==◌, if◌then◌else◌}
 use Rattle.icu_driver.specs.Terms
@@ -8,11 +8,11 @@ use Terms.{either_takes, either_work, false, First, GateBody, goes, HasRead, Ini
 use Terms.{MeasureBody, Move, Plain, plain_sees, refl, SampleBody, Second, sees_if, SeesTo, StampBody, true}
 use Terms.{WindowHistory, ℕ}
 use Rattle.icu_driver.specs.laws.{Bodies.{IcuBody}, Change.{change_work, change_takes}, Count.{count_work, count_takes}}
-use Rattle.icu_driver.specs.laws.{DeInit.{deinit_work, deinit_takes}, Detect.{detect_work, detect_takes}}
+use Rattle.icu_driver.specs.laws.{DeInit.{deinit_work, deinit_takes}, DetectSteps.{detect_work, detect_takes}}
 use Rattle.icu_driver.specs.laws.{Duty.{duty_work, duty_takes}, Gate.{gate_work, gate_takes}, Init.{init_work}}
 use Rattle.icu_driver.specs.laws.{Init.{init_takes}, Measure.{measure_work, measure_takes}, Stamp.{stamp_work}}
-use Rattle.icu_driver.specs.laws.{Stamp.{stamp_takes}, Keep.{fills, keep_work, keep_takes}, Sample.{is_complete}}
-use Rattle.icu_driver.specs.laws.{Sample.{sample_work, sample_takes}}
+use Rattle.icu_driver.specs.laws.{Stamp.{stamp_takes}, KeepSteps.{fills, keep_work, keep_takes}, SampleSteps.{is_complete}}
+use Rattle.icu_driver.specs.laws.{SampleSteps.{sample_work, sample_takes}}
 use Rattle.icu_driver.specs.declared.service.count.CountBody.TheVariants as counts
 use Rattle.icu_driver.specs.declared.service.keep.KeepBody.TheVariants as keeps
 use Rattle.icu_driver.specs.declared.service.sample.SampleBody.TheVariants as samples

@@ -16,7 +16,7 @@ pub enum DetectBody {
 }
 
 impl Body for DetectBody {
-    ghost use Rattle.icu_driver.specs.laws.Detect.{detect_work, detect_takes};
+    ghost use Rattle.icu_driver.specs.laws.DetectSteps.{detect_work, detect_takes};
 
     ghost work_of = { detect_work };
 

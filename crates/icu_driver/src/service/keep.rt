@@ -1,5 +1,5 @@
 ghost use Rattle.std.specs.Prelude.{◌≡◌};
-ghost use Rattle.icu_driver.specs.laws.Keep as spec;
+ghost use Rattle.icu_driver.specs.laws.KeepSteps as spec;
 
 use crate::service::count::joined;
 use crate::words::{
@@ -65,7 +65,7 @@ pub enum KeepBody {
 }
 
 impl Body for KeepBody {
-    ghost use Rattle.icu_driver.specs.laws.Keep.{keep_work, keep_takes};
+    ghost use Rattle.icu_driver.specs.laws.KeepSteps.{keep_work, keep_takes};
 
     ghost work_of = { keep_work };
 

@@ -1,5 +1,5 @@
 ghost use Rattle.std.specs.Prelude.{◌≡◌};
-ghost use Rattle.icu_driver.specs.laws.Sample as spec;
+ghost use Rattle.icu_driver.specs.laws.SampleSteps as spec;
 
 use crate::service::count::joined;
 use crate::words::{INTERVALS, MARKS, PLACES, SIZES, SWITCHES, TIMES, VALUES, line, word};
@@ -63,7 +63,7 @@ pub enum SampleBody {
 }
 
 impl Body for SampleBody {
-    ghost use Rattle.icu_driver.specs.laws.Sample.{sample_work, sample_takes};
+    ghost use Rattle.icu_driver.specs.laws.SampleSteps.{sample_work, sample_takes};
 
     ghost work_of = { sample_work };
 

@@ -1,6 +1,6 @@
 -- What an edge leaves of a channel beside its queue and count.
 -- From Channels.
--- Used by icu_driver: Course, icu_driver: Parts, icu_driver: Steady, icu_driver: Levels, icu_driver: Turns and 2 more.
+-- Used by icu_driver: EdgeWords, icu_driver: Parts, icu_driver: Steady, icu_driver: Levels, icu_driver: Alternation and 2 more.
 use Rattle.std.proofs.Common.{◌≡◌, ℕ, Bool, true, false, ◌==◌, not, nat_lt, [], length, Option, Some, None, refl}
 use Rattle.std.specs.Prelude.{if◌then◌else◌}
 use Rattle.icu_machine.specs.Machine.{Capture, is_taken, edge_taken, edge_at_pin}

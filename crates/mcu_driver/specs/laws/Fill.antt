@@ -1,5 +1,5 @@
 -- Mcu_InitRamSection: a sweep over the section's words with the mask open, and then the act.
--- From RefinementRight, service_outline: Sweeping, Base, Look.
+-- From RefinementRight, service_outline: SweepRight, Base, Look.
 -- Used by service/fill/rt, Lawful.
 use Rattle.std.proofs.Common.{◌≡◌, ◌≢◌, ◌+◌, ◌<◌, ◌≤◌, ◌&&◌, ◌==◌, [], ◌∷◌, ◌∙◌, if◌then◌else◌}
 use Rattle.mcu_driver.specs.Terms

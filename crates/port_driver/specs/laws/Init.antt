@@ -1,5 +1,5 @@
 -- Port_Init: its sweep of writes, what it holds meanwhile, its act, and that they are right.
--- From RefinementRight, Halves, Ranks, service_outline: Sweep, service_outline: StepKinds and 2 more.
+-- From RefinementRight, Halves, Ranks, service_outline: SweepWords, service_outline: StepKinds and 2 more.
 -- Used by service/init/rt, Lawful, Latches.
 use Rattle.std.proofs.Common.{◌≡◌, ◌≢◌, ◌+◌, ◌-◌, ◌/◌, ◌<◌, ◌≤◌, [], ◌∷◌, ◌∙◌, if◌then◌else◌}
 use Rattle.port_driver.specs.Terms

@@ -1,10 +1,10 @@
 -- Port_Init writes the latch of each configured pin: the sweep has made each of its first four writes.
--- From service_outline: Duties, service_outline: Sweep, Halves, Init.
+-- From service_outline: Duties, service_outline: SweepWords, Halves, Init.
 -- Used by Lawful.
 use Rattle.std.proofs.Common.{◌≡◌, ◌+◌, ◌/◌, ◌%◌, ◌<◌, ◌≤◌, ◌==◌, ◌&&◌, ◌++◌, ◌∙◌, if◌then◌else◌}
 use Rattle.port_driver.specs.Terms
 use Terms.{AllMade, ap, arith, asks, At, Bool, Closes, false, Follows, half_write, has_bit, InitDone, latch_duties}
-use Terms.{latch_duty, Levels, List, list_any, made_here, made_on, Move, nat_lt, nat_tests, next_by, None, ones, Opens, Option, Pin, pin_of, Place, place_of, PortTable, puts_latch, refl, sets, Some, subst, suc, sym, true, wants, writes_after, zero, ℕ}
+use Terms.{latch_duty, Levels, List, list_any, made_here, made_on, Move, nat_lt, nat_tests, next_by, None, ones, Opens, Option, Pin, pin_of, SweepStage, place_of, PortTable, puts_latch, refl, sets, Some, subst, suc, sym, true, wants, writes_after, zero, ℕ}
 use Rattle.port_driver.specs.laws.{Halves.{asked_bit}, Init.{setup_at}}
 
 -- ---- a write that was made
@@ -23,7 +23,7 @@ was_made_on writes made next h = λ kind e. made_on kind writes next (h kind e)
 abbrev pub LevelsBelow : PortTable → ℕ → List Move → Type 0
 LevelsBelow d i writes = (j : ℕ) → j < i → j < 4 → WasMade writes (half_write d Levels j)
 
-abbrev pub written_at : PortTable → Place InitDone → List Move → Type 0
+abbrev pub written_at : PortTable → SweepStage InitDone → List Move → Type 0
 written_at d Opens writes = Unit {0}
 written_at d (At i) writes = LevelsBelow d i writes
 written_at d Closes writes = LevelsBelow d 4 writes

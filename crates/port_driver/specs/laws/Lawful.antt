@@ -8,7 +8,7 @@ use Terms.{AssertedAt, At, Beside, blocks, both, both_right, Call, call_steps, C
 use Terms.{CaptureTimeHigh, Chip, class_of, Closes, configured, Decides, Done, error_by, error_told, ErrorName, false}
 use Terms.{First, FitsPort, Follows, FrameHistory, free_windows, Goes, HeldRight, Init, InitDone, Is_alone, is_guests, is_of_init}
 use Terms.{Is_this_frame, is_windowed, IsLawful, List, Load, LongBodies, MadeUnless, MakesWrites, mark_of, may, Move}
-use Terms.{must_by, names_there, nat_lt, no_answer, no_units, None, none_on, none_unless, not, Open, Opens, Option, Origin, outcome, owns, Place, Plain, port_basis, port_machine, port_setting, PortTable, PortRepresents, PortState, PulseCommit, PulseIdle, Read, refl, RefreshPortDirection, Refused, Reservations, Second, Services, services_driver, services_lawful, SetPinDirection, SetPinMode, Setup, Short, short_gave, short_left, short_move, Some, STATE, subst, sym, tells_error, TimerHigh, true, value_of, word_of, World, Write, writes_after, writes_latches, WritesOn, ℕ}
+use Terms.{must_by, names_there, nat_lt, no_answer, no_units, None, none_on, none_unless, not, Open, Opens, Option, Origin, outcome, owns, SweepStage, Plain, port_basis, port_machine, port_setting, PortTable, PortRepresents, PortState, PulseCommit, PulseIdle, Read, refl, RefreshPortDirection, Refused, Reservations, Second, Services, services_driver, services_lawful, SetPinDirection, SetPinMode, Setup, Short, short_gave, short_left, short_move, Some, STATE, subst, sym, tells_error, TimerHigh, true, value_of, word_of, World, Write, writes_after, writes_latches, WritesOn, ℕ}
 use Rattle.mcal_base.specs.declared.register.Reg.TheVariants.{SerialWait}
 use Rattle.port_driver.specs.laws.{Bodies.{PortBody, init_body}, RefinementRight.{basis_right, may_dry}}
 use Rattle.port_driver.specs.laws.{Init.{init_bodies, init_right, begins_init, setup_at, Is_setup}}
@@ -124,7 +124,7 @@ module _ (d : PortTable) where
   refused_written RefreshPortDirection x n error e = none_unless error [] [] refl
   refused_written (calls.Pin p call) x n error e = none_unless error [] [] refl
 
-  init_steps : (below : Reservations) (chip : Chip) (w : World) (s : PortState) (a : Setup) (p : Place InitDone) (c : Call) (past : FrameHistory) (writes : List Move) → AssertedAt (port_basis d) (init_bodies d) below chip w s (record { objects = a; place = p }) (Called c) past → c ≡ Init → written_at d p writes → let x = (init_bodies d).takes (record { objects = a; place = p }) (value_of chip ((init_bodies d).work_of (record { objects = a; place = p }))) in WritesOn (port d) c (writes_after writes ((init_bodies d).work_of (record { objects = a; place = p }))) (First x.0) x.1.done
+  init_steps : (below : Reservations) (chip : Chip) (w : World) (s : PortState) (a : Setup) (p : SweepStage InitDone) (c : Call) (past : FrameHistory) (writes : List Move) → AssertedAt (port_basis d) (init_bodies d) below chip w s (record { objects = a; place = p }) (Called c) past → c ≡ Init → written_at d p writes → let x = (init_bodies d).takes (record { objects = a; place = p }) (value_of chip ((init_bodies d).work_of (record { objects = a; place = p }))) in WritesOn (port d) c (writes_after writes ((init_bodies d).work_of (record { objects = a; place = p }))) (First x.0) x.1.done
   init_steps below chip w s a Opens c past writes h is has = (is, next_written d (8 + configured a.driver) 0 writes (omega arith) (omega arith) (λ j lt four. absurd (omega (arith, lt))))
   init_steps below chip w s a (At i) c past writes (represents, ((Is_setup, held), lt)) is has = (is, next_written d (8 + configured d) (i + 1) (writes_after writes (setup_at d i (nat_lt i 4) (nat_lt i (4 + configured d)))) (omega arith) (omega (arith, lt)) (level_more d i (nat_lt i (4 + configured d)) writes has))
   init_steps below chip w s a Closes c past writes h is has = (is, has)

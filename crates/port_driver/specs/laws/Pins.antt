@@ -1,5 +1,5 @@
 -- Port_SetPinDirection and Port_SetPinMode: their one write, and that it is right.
--- From RefinementRight, Halves, service_outline: Sweep, service_outline: Acts, service_outline: StepKinds.
+-- From RefinementRight, Halves, service_outline: SweepWords, service_outline: Acts, service_outline: StepKinds.
 -- Used by service/pin/rt, Lawful.
 use Rattle.std.proofs.Common.{◌≡◌, ◌≢◌, ◌/◌, ◌%◌, ◌<◌, ◌^◌, ◌==◌, [], ◌∙◌}
 use Rattle.port_driver.specs.Terms

@@ -1,5 +1,5 @@
 -- Pwm_DeInit: its steps, what holds at each, and that they are right.
--- From Units, Base, Parts, service_outline: Words, service_outline: Sweep and 2 more.
+-- From Units, Base, Parts, service_outline: Words, service_outline: SweepWords and 2 more.
 -- Used by Lawful, Windows, service/deinit/rt, Made.
 use Rattle.std.proofs.Common.{◌≡◌, ◌≢◌, ◌+◌, ◌-◌, ◌<◌, ◌≤◌, ◌&&◌, [], ◌∷◌, ◌∙◌, if◌then◌else◌}
 use Rattle.pwm_driver.specs.Terms

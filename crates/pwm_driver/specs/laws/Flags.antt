@@ -1,5 +1,5 @@
 -- The flags of all channels: what a read gives, and what a write clears.
--- From Parts, pwm_machine: Channels, pwm_machine: Changes, service_outline: Sweep, Units.
+-- From Parts, pwm_machine: Channels, pwm_machine: Changes, service_outline: SweepWords, Units.
 -- Used by Serve, Notify.
 use Rattle.std.proofs.Common.{◌≡◌, ◌≢◌, ◌+◌, ◌*◌, ◌/◌, ◌%◌, ◌<◌, ◌≤◌, ◌^◌, ◌&&◌, ◌||◌, ◌==◌, ◌∙◌, if◌then◌else◌}
 use Rattle.pwm_driver.specs.Terms

@@ -1,5 +1,5 @@
 -- A write of the defaults of Pwm_Init, of those that are held.
--- From Units, service_outline: Words, Init, service_outline: Sweep, Output.
+-- From Units, service_outline: Words, Init, service_outline: SweepWords, Output.
 -- Used by InitRight.
 use Rattle.std.proofs.Common.{◌≡◌, ◌≢◌, ◌+◌, ◌*◌, ◌/◌, ◌<◌, ◌==◌, [], ◌∷◌, ◌∙◌}
 use Rattle.pwm_driver.specs.Terms

@@ -10,7 +10,7 @@ use Terms.{DisableNotification, Done, EnableNotification, EnableSet, ends, Enter
 use Terms.{false, First, FitsPwm, Follows, FrameHistory, fresh_history, Goes, goes, idles_at, InitBody, Is_before}
 use Terms.{is_closed, Is_own, Is_serving, is_some, Is_this_frame, IsLawful, Kinds, known_within, LINES, List}
 use Terms.{LongBodies, Looked, MadeUnless, MakesWrites, mark_of, Move, must_by, nat_lt, nat_tests, no_answer, no_units}
-use Terms.{None, none_on, none_unless, not, Nothing, Open, Opens, Option, Origin, Outcome, outcome, Place, plain_sees, pwm_basis, pwm_machine, pwm_setting, PwmTable, PwmRepresents, PwmState, refl, Refused, Reservations, Second, SeesTo, Services, services_driver, services_lawful, SetDutyCycle, SetOutputToIdle, SetPeriodAndDuty, settled, Setup, Short, short_gave, short_left, short_move, Some, Starts, STATE, steps_of, subst, Sweep, sym, tells_error, Told, true, value_of, word_of, World, Write, writes_after, WritesOn, ℕ}
+use Terms.{None, none_on, none_unless, not, Nothing, Open, Opens, Option, Origin, Outcome, outcome, SweepStage, plain_sees, pwm_basis, pwm_machine, pwm_setting, PwmTable, PwmRepresents, PwmState, refl, Refused, Reservations, Second, SeesTo, Services, services_driver, services_lawful, SetDutyCycle, SetOutputToIdle, SetPeriodAndDuty, settled, Setup, Short, short_gave, short_left, short_move, Some, Starts, STATE, steps_of, subst, Sweep, sym, tells_error, Told, true, value_of, word_of, World, Write, writes_after, WritesOn, ℕ}
 use Rattle.service_outline.specs.Both.{both}
 use Rattle.pwm_driver.specs.laws.{Base.{asks_none}, Bodies.{PwmBody, serve_body}, DeInit.{rest, deinit_work}}
 use Rattle.pwm_driver.specs.laws.{DeInit.{deinit_takes, deinit_holds, deinit_bodies, deinit_right}}
@@ -247,7 +247,7 @@ module _ (d : PwmTable) (fits : FitsPwm d) where
   commit_goes a c writes lt h true e = (refl, h)
   commit_goes a c writes lt h false e = (refl, to_last d commits_at c writes lt e h)
 
-  init_steps : (below : Reservations) (chip : Chip) (w : World) (s : PwmState) (a : Setup) (p : Place InitBody) (past : FrameHistory) (writes : List Move) → AssertedAt (pwm_basis d) (begin_bodies d) below chip w s (record { objects = a; place = p }) (Called calls.Init) past → init_written d p writes → let x = (begin_bodies d).takes (record { objects = a; place = p }) (value_of chip ((begin_bodies d).work_of (record { objects = a; place = p }))) in WritesOn (pwm d) calls.Init (writes_after writes ((begin_bodies d).work_of (record { objects = a; place = p }))) (First (First x.0)) x.1.done
+  init_steps : (below : Reservations) (chip : Chip) (w : World) (s : PwmState) (a : Setup) (p : SweepStage InitBody) (past : FrameHistory) (writes : List Move) → AssertedAt (pwm_basis d) (begin_bodies d) below chip w s (record { objects = a; place = p }) (Called calls.Init) past → init_written d p writes → let x = (begin_bodies d).takes (record { objects = a; place = p }) (value_of chip ((begin_bodies d).work_of (record { objects = a; place = p }))) in WritesOn (pwm d) calls.Init (writes_after writes ((begin_bodies d).work_of (record { objects = a; place = p }))) (First (First x.0)) x.1.done
   init_steps below chip w s a Opens past writes h has = (refl, next_unwritten d 32 0 writes)
   init_steps below chip w s a (At i) past writes h has = (refl, next_unwritten d 32 (i + 1) (writes_after writes (setup_move a i)))
   init_steps below chip w s a Closes past writes h has = (refl, none_below d commits_at writes)

@@ -4,7 +4,7 @@
 use Rattle.std.proofs.Common.{◌≡◌, ◌+◌, ◌<◌, ◌≤◌, ◌==◌, ◌++◌, if◌then◌else◌}
 use Rattle.pwm_driver.specs.Terms
 use Terms.{AllMade, arith, At, Bool, Channel, channel_of, Closes, commits_at, DeInitBody, duties, duty_of, eq_self}
-use Terms.{false, Follows, idles_at, InitBody, level, List, list_any, made_here, made_on, Move, nat_lt, nat_tests, None, Opens, Option, Place, place_of, PulseCommit, PulseIdle, PwmTable, refl, Some, subst, suc, sym, true, Write, writes_after, zero, ℕ}
+use Terms.{false, Follows, idles_at, InitBody, level, List, list_any, made_here, made_on, Move, nat_lt, nat_tests, None, Opens, Option, SweepStage, place_of, PulseCommit, PulseIdle, PwmTable, refl, Some, subst, suc, sym, true, Write, writes_after, zero, ℕ}
 use Rattle.pwm_driver.specs.laws.{DeInit.{rest_of, rest}, Init.{commit_of, commit}}
 use Rattle.pwm_driver.specs.declared.service.deinit.DeInitBody.TheVariants as deinits
 use Rattle.pwm_driver.specs.declared.service.init.InitBody.TheVariants as inits
@@ -65,7 +65,7 @@ all_made d kind writes h = all_below d kind writes 8 h
 
 -- ---- what is written at each place
 
-abbrev pub init_written : PwmTable → Place InitBody → List Move → Type 0
+abbrev pub init_written : PwmTable → SweepStage InitBody → List Move → Type 0
 init_written d Opens writes = Unit {0}
 init_written d (At i) writes = Unit {0}
 init_written d Closes writes = Unit {0}

@@ -1,5 +1,5 @@
 -- One pulse unit and one channel of the machine change together.
--- From pwm_machine: Relation, pwm_machine: Channels, service_outline: Words, service_outline: Sweep, FlagRelation.
+-- From pwm_machine: Relation, pwm_machine: Channels, service_outline: Words, service_outline: SweepWords, FlagRelation.
 -- Used by DeInit, InitWrites, Output, InitRight, Notify and 2 more.
 use Rattle.std.proofs.Common.{◌≡◌, ◌≢◌, ◌<◌, ◌||◌, [], ◌∷◌, ◌∙◌}
 use Rattle.pwm_driver.specs.Terms

@@ -4,7 +4,7 @@
 use Rattle.std.proofs.Common.{◌≡◌, ◌+◌, ◌/◌, ◌%◌, if◌then◌else◌}
 use Rattle.pwm_driver.specs.Terms
 use Terms.{Acted, Acting, At, BodyTaken, Bool, Channel, channel_of, Closes, DeInitBody, Done, ends, false, First}
-use Terms.{Follows, goes, InitBody, is_closed, is_windowed, Loads, nat_lt, no_answer, None, Nothing, NotifyBody, Opens, Option, OutputBody, Place, place_of, Plain, plain_sees, PwmTable, refl, RestBody, Second, Sees, sees_if, SeesTo, ServeBody, Setup, Some, Starts, STATE, subst, suc, Sweep, sym, true, WindowHistory, zero, ℕ}
+use Terms.{Follows, goes, InitBody, is_closed, is_windowed, Loads, nat_lt, no_answer, None, Nothing, NotifyBody, Opens, Option, OutputBody, SweepStage, place_of, Plain, plain_sees, PwmTable, refl, RestBody, Second, Sees, sees_if, SeesTo, ServeBody, Setup, Some, Starts, STATE, subst, suc, Sweep, sym, true, WindowHistory, zero, ℕ}
 use Rattle.pwm_driver.specs.laws.{Bodies.{PwmBody}, DeInit.{rest_of, rest, deinit_work, deinit_takes}, Init.{part_by}}
 use Rattle.pwm_driver.specs.laws.{Init.{defaults, setup_move, commit_of, begin_bodies}, Notify.{notify_work}}
 use Rattle.pwm_driver.specs.laws.{Output.{output_work, output_takes}, Rest.{rest_work, rest_takes}, Serve.{serve_work}}
@@ -16,7 +16,7 @@ use Rattle.pwm_driver.specs.declared.service.rest.RestBody.TheVariants as rests
 use Rattle.pwm_driver.specs.declared.service.serve.ServeBody.TheVariants as serves
 
 -- Pwm_Init commits before it acts, in the window after the defaults
-abbrev pub setup_seen : Place InitBody → WindowHistory
+abbrev pub setup_seen : SweepStage InitBody → WindowHistory
 setup_seen (Follows k) = Acting
 setup_seen place = Plain
 
@@ -72,7 +72,7 @@ commit_sees (Some k) c false a b = (λ e. refl, tt)
 pub setup_sees : (d : PwmTable) (k : Sweep Setup InitBody) (x : ℕ) → SeesTo (λ (p : Sweep Setup InitBody). setup_seen p.place) (is_closed ((begin_bodies d).assertion k)) ((begin_bodies d).work_of k) k ((begin_bodies d).takes k x)
 setup_sees d k x = by k.objects k.place
   where
-    by : (r : Setup) (p : Place InitBody) → let k1 : Sweep Setup InitBody = record { objects = r; place = p } in SeesTo (λ (q : Sweep Setup InitBody). setup_seen q.place) (is_closed ((begin_bodies d).assertion k1)) ((begin_bodies d).work_of k1) k1 ((begin_bodies d).takes k1 x)
+    by : (r : Setup) (p : SweepStage InitBody) → let k1 : Sweep Setup InitBody = record { objects = r; place = p } in SeesTo (λ (q : Sweep Setup InitBody). setup_seen q.place) (is_closed ((begin_bodies d).assertion k1)) ((begin_bodies d).work_of k1) k1 ((begin_bodies d).takes k1 x)
     by r Opens = (tt, subst (λ s. Starts s) (sym (next_plain 32 0)) tt)
     by r (At i) = subst (λ s. Sees Plain false (setup_move r i) None s None) (sym (next_plain 32 (i + 1))) (plain_sees false (setup_move r i) None None (setup_plain r i))
     by r Closes = tt
@@ -80,7 +80,7 @@ setup_sees d k x = by k.objects k.place
     by r (Follows inits.Enable) = (λ e. absurd (cc), tt)
     by r (Follows inits.Store) = refl
 
-pub setup_unseen : (p : Place InitBody) → Starts (setup_seen p)
+pub setup_unseen : (p : SweepStage InitBody) → Starts (setup_seen p)
 setup_unseen Opens = tt
 setup_unseen (At i) = tt
 setup_unseen Closes = tt

@@ -1,6 +1,6 @@
 -- Short bodies among services owe no more, and a driver of short services alone is lawful.
 -- From StepKinds, Duties, Lawful.
--- Used by Owing, Sweeping, wdg_driver: frames/rt, icu_driver: frames/rt, gpt_driver: frames/rt and 1 more.
+-- Used by Owing, SweepRight, wdg_driver: frames/rt, icu_driver: frames/rt, gpt_driver: frames/rt and 1 more.
 use Rattle.std.proofs.Common.{◌≡◌, ℕ, ◌<◌, ◌||◌, Bool, true, false, List, [], ◌∷◌, Option, Some, None, refl, sym, ◌∙◌, ap, subst}
 use Rattle.chip_model.specs.Chip.{Chip, value_of, chip_after}
 use Rattle.mcal_base.specs.declared.moves.Event.{Event}

@@ -1,5 +1,5 @@
 -- The kinds of step that a frame makes, for any driver. What is left is the relation after the step.
--- Used by Steps, ShortServices, Owing, Sweeping, pwm_driver: Parts and 1 more.
+-- Used by Steps, ShortServices, Owing, SweepRight, pwm_driver: Parts and 1 more.
 use Rattle.std.proofs.Common.{◌≡◌, ℕ, ◌+◌, ◌<◌, ◌≤◌, Bool, true, false, ◌&&◌, ◌||◌, not, List, [], ◌∷◌, Option, Some, None, refl, sym, ◌∙◌, ap, subst, arith}
 use Rattle.std.specs.Prelude.{IsSome, is_some, ◌==◌}
 use Rattle.std.specs.List.{list_any, list_all}

@@ -1,4 +1,5 @@
 pub mod AllSequences
+pub mod Cases
 pub mod ConfigurationFits
 pub mod FirstParts
 pub mod JobPlaces

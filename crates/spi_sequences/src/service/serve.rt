@@ -1,8 +1,11 @@
 ghost use Rattle.std.specs.Prelude.{◌≡◌, ◌-◌, None};
 ghost use Rattle.word_shapes.specs.PriorityQueue.{again_gave, drop_gave};
 ghost use Rattle.word_shapes.specs.TripleBuffer.{take_gave};
-ghost use Rattle.spi_jobs.specs.Parts.{has_ended, commit_ends, find_gave, keep_ends};
-ghost use Rattle.spi_sequences.specs.Words.{run_in};
+ghost use Rattle.word_shapes.specs.declared.again.Again.TheVariants as agains;
+ghost use Rattle.word_shapes.specs.declared.dropped.Dropped.TheVariants as drops;
+ghost use Rattle.spi_jobs.specs.Parts.{has_ended, commit_ends, find_gave, finding, keep_ends, taker_of};
+ghost use Rattle.spi_sequences.specs.Words.{cancelled_bit, has_mark, order_places, position_in, run_in, search_of};
+ghost use Rattle.spi_sequences.specs.declared.service.serve.ServePlace.TheVariants as places;
 ghost use Rattle.spi_sequences.specs.declared.service.serve.ServeStep.TheVariants.{Goes};
 ghost use Rattle.spi_sequences.specs.laws.services.ServeSteps as spec;
 
@@ -181,40 +184,17 @@ impl ServePlace {
             ServePlace::State if value / 2 % 2 == 0 => (*self, ServeStep::Over),
             ServePlace::State => goes(ServePlace::Running(value / 4 % 2 == 1)),
             ServePlace::Running(failed) => runs(failed, value),
-            ServePlace::Position(run, failed) => {
-                let at = Position::unpacked(value);
-                goes(ServePlace::Taker(Served { run, at, failed }))
-            }
-            ServePlace::Taker(served) => {
-                let taker = taker_of(served.channel(table), served.at.word, value);
-                goes(ServePlace::Receive(served, taker))
-            }
-            ServePlace::Receive(served, taker) => {
-                let word = value;
-                let arrived = Arrived {
-                    served,
-                    taker,
-                    word,
-                };
-                goes(arrived.begins(table))
-            }
-            ServePlace::Width(arrived, next) => {
-                let placed = table.channel_at(arrived.served.run.job, next.channel);
-                goes(ServePlace::Find(arrived, next, Find::of(placed, next.word)))
-            }
+            ServePlace::Position(run, failed) => goes(stands(run, failed, value)),
+            ServePlace::Taker(served) => goes(served.receives(table, value)),
+            ServePlace::Receive(served, taker) => goes(came(served, taker, value).begins(table)),
+            ServePlace::Width(arrived, next) => goes(arrived.finds(table, next)),
             ServePlace::Find(arrived, next, find) => found(arrived, next, find, value),
             ServePlace::Begin(arrived, next, _) => (arrived.lets(table, next), serves),
             ServePlace::Let(arrived, next, take) => let_go(table, arrived, next, take, value),
             ServePlace::Keep(keep, next) => kept(keep, next),
             ServePlace::Stand(_) => (*self, ServeStep::Over),
-            ServePlace::Marks(arrived) => {
-                let cancelled = has(value, cancelled_bit(arrived.served.run.sequence));
-                goes(ServePlace::Nexts(arrived, cancelled))
-            }
-            ServePlace::Nexts(arrived, cancelled) => {
-                let course = arrived.served.after_job(table, cancelled, value);
-                goes(ServePlace::Acknowledge(arrived, course))
-            }
+            ServePlace::Marks(arrived) => goes(arrived.marked(value)),
+            ServePlace::Nexts(arrived, cancelled) => goes(arrived.frees(table, cancelled, value)),
             ServePlace::Acknowledge(arrived, course) => (ServePlace::Free(arrived, course), serves),
             ServePlace::Free(arrived, course) => goes(arrived.ends(table, course)),
             ServePlace::Release(leaving, place, take) => {
@@ -225,15 +205,9 @@ impl ServePlace {
                 committed(table, leaving, place, commit, value)
             }
             ServePlace::Result(leaving) => goes(leaving.goes_on()),
-            ServePlace::Further(served, _) => {
-                let again = Again::Look(order(unit), u32::from(served.run.sequence));
-                goes(ServePlace::Again(served, again))
-            }
+            ServePlace::Further(served, _) => goes(served.waits_again(unit)),
             ServePlace::Again(served, again) => waits(table, served, again, value),
-            ServePlace::End(served, _) => {
-                let dropped = Dropped::Look(search(unit), u32::from(served.run.sequence));
-                goes(ServePlace::Drop(served, dropped))
-            }
+            ServePlace::End(served, _) => goes(served.drops(unit)),
             ServePlace::Drop(served, dropped) => leaves(table, served, dropped, value),
         };
         *self = after;
@@ -246,6 +220,25 @@ fn goes(place: ServePlace) -> (ServePlace, ServeStep)
     ensures { result ≡ (place, Goes None) }
 {
     (place, ServeStep::Goes(None))
+}
+
+/// What follows the load of the word's place.
+fn stands(run: Running, failed: bool, value: u32) -> ServePlace
+    ensures { result ≡ places.Taker (record { run = run; at = position_in value; failed = failed }) }
+{
+    let at = Position::unpacked(value);
+    ServePlace::Taker(Served { run, at, failed })
+}
+
+/// The word that was read, with where it goes.
+fn came(served: Served, taker: Taker, word: u32) -> Arrived
+    ensures { result ≡ record { served = served; taker = taker; word = word } }
+{
+    Arrived {
+        served,
+        taker,
+        word,
+    }
 }
 
 /// What follows the load of what the unit runs.
@@ -378,6 +371,30 @@ impl Served {
         table.channel_at(self.run.job, self.at.channel)
     }
 
+    /// What follows the load of what tells where the word goes.
+    fn receives(self, table: &SpiTable, value: u32) -> ServePlace
+        ensures { result ≡ places.Receive self (taker_of (spec.channel_served table.now self) self.at.word value) }
+    {
+        let taker = taker_of(self.channel(table), self.at.word, value);
+        ServePlace::Receive(self, taker)
+    }
+
+    /// The sequence waits again on the unit.
+    fn waits_again(self, unit: u8) -> ServePlace
+        ensures { result ≡ places.Again self (agains.Look (order_places unit) self.run.sequence) }
+    {
+        let again = Again::Look(order(unit), u32::from(self.run.sequence));
+        ServePlace::Again(self, again)
+    }
+
+    /// The sequence leaves the order of the unit.
+    fn drops(self, unit: u8) -> ServePlace
+        ensures { result ≡ places.Drop self (drops.Look (search_of unit) self.run.sequence) }
+    {
+        let dropped = Dropped::Look(search(unit), u32::from(self.run.sequence));
+        ServePlace::Drop(self, dropped)
+    }
+
     /// The first place among the last ones of four whose channel is pinned: not all of its words have begun.
     fn first_pinned(&self, table: &SpiTable, count: u8) -> Option<u8>
         ensures { result ≡ spec.first_pinned table.now self.now count }
@@ -504,6 +521,30 @@ impl Leaving {
 }
 
 impl Arrived {
+    /// The search for the word at a place, whose channel's width was set.
+    fn finds(self, table: &SpiTable, next: Position) -> ServePlace
+        ensures { result ≡ places.Find self next (finding (spec.channel_next table.now self next) next.word) }
+    {
+        let placed = table.channel_at(self.served.run.job, next.channel);
+        ServePlace::Find(self, next, Find::of(placed, next.word))
+    }
+
+    /// What follows the load of the marks.
+    fn marked(self, marks: u32) -> ServePlace
+        ensures { result ≡ places.Nexts self (has_mark marks (cancelled_bit self.served.run.sequence)) }
+    {
+        let cancelled = has(marks, cancelled_bit(self.served.run.sequence));
+        ServePlace::Nexts(self, cancelled)
+    }
+
+    /// What follows the load of the next jobs.
+    fn frees(self, table: &SpiTable, cancelled: bool, nexts: u32) -> ServePlace
+        ensures { result ≡ places.Acknowledge self (spec.after_job table.now self.served cancelled nexts) }
+    {
+        let course = self.served.after_job(table, cancelled, nexts);
+        ServePlace::Acknowledge(self, course)
+    }
+
     /// The word that begins next, where one does, or the end of the job.
     pub(crate) fn begins(&self, table: &SpiTable) -> ServePlace
         ensures { result ≡ spec.begins_of table.now self.now }

@@ -1,7 +1,7 @@
 -- A job begins on a unit that is between jobs, whichever frame begins it: what stood before, under one name, and what the
 -- unit does then.
--- From bookkeeping.RanState, ToStart.
--- Used by words.PinnedBanks, words.BegunWords, words.UnitWords, services.StartWords, services.StartBegun.
+-- From spi_sequences: words.FirstParts, bookkeeping.RanState, spi_sequences: words.WordsToState, ToStart.
+-- Used by spi_sending: services.SendBegun, words.BegunWords, words.PinnedBanks and 5 more.
 use Rattle.std.proofs.Common.{◌≡◌, ◌≢◌, ◌<◌, ◌==◌, [], ◌∷◌, if◌then◌else◌}
 use Rattle.spi_starting.specs.Terms
 use Terms.{AllRight, as_read, BanksAgree, Channel, channel_at, channel_of, channels_of, ExternalAgrees, external_part}

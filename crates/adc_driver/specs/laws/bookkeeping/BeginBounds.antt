@@ -1,5 +1,5 @@
 -- The steps and moves of places where calls and handlers begin, as the files of those take them.
--- From bookkeeping.CallBounds, bookkeeping.Rank, services.BeginSteps, bookkeeping.WindowBounds.
+-- From bookkeeping.CallBounds, bookkeeping.Rank, bookkeeping.WindowBounds, services.BeginSteps.
 -- Used by bookkeeping.Joined.
 use Rattle.std.proofs.Common.{◌+◌, ◌-◌, ◌≤◌}
 use Rattle.adc_driver.specs.Terms

@@ -1,5 +1,5 @@
 -- The bodies of the driver are right at every place, whether moves are owed there or not.
--- From bookkeeping.Rank, bookkeeping.CleanPlaces, bookkeeping.EndPlaces, hardware.StableUnderHardware and 4 more.
+-- From bookkeeping.Rank, adc_groups: services.BodySteps, bookkeeping.CleanPlaces, bookkeeping.EndPlaces and 7 more.
 -- Used by bookkeeping.Joined.
 use Rattle.adc_driver.specs.Terms
 use Terms.{AdcGround, AdcTable, AreFree, AreWindows, body_ends, body_work, calm_by, FitsAdc, owes_at, plain, refl}

@@ -1,5 +1,5 @@
 -- Calls and handlers keep within their bounds of steps, and their windows within theirs of moves.
--- From bookkeeping.Rank, bookkeeping.SizeBounds.
+-- From bookkeeping.Rank, bookkeeping.SizeBounds, adc_groups: services.LookSteps, adc_groups: services.Decisions.
 -- Used by bookkeeping.BeginBounds.
 use Rattle.std.proofs.Common.{◌+◌, ◌-◌, ◌*◌, ◌≤◌, ◌&&◌, if◌then◌else◌}
 use Rattle.adc_driver.specs.Terms

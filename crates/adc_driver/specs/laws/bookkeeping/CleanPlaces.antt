@@ -1,18 +1,18 @@
 -- A body comes to a clean place from clean ones alone, by moves that read no register and write nothing.
--- From bookkeeping.Rank.
+-- From adc_groups: services.Decisions, adc_groups: services.BodySteps, adc_groups: services.WriteBatchSteps and 3 more.
 -- Used by bookkeeping.BodiesRight.
 use Rattle.std.proofs.Common.{◌≡◌, ◌==◌, ◌&&◌, ◌∙◌, if◌then◌else◌}
 use Rattle.adc_driver.specs.Terms
 use Terms.{aborted_by, Aborts, AdcBody, AdcTable, after_making, Answer, begins, begins_next, body_takes, body_work}
 use Terms.{BodyTaken, Bool, choose_takes, Chooses, clean_at, clean_in, Cleans, Continuation, Decided, decided, Done}
-use Terms.{Ends, entered, Event, false, Flag, flagged, follows, Front, front_gave, front_left, front_start, given, Goes}
-use Terms.{group_in, group_of, is_full, is_on, is_quiet, is_ready, is_some, KeepsClean, leaves, length, List, look_move}
-use Terms.{look_takes, looking, Looks, Makes, makes, making_event, making_left, making_over, Move, nat_lt, None}
-use Terms.{one_more, opened, Opens, Option, or_owed, order_of, Out, Outside, outside_left, over, owes_at, PendingWrites}
-use Terms.{Pins, Place, place_move, place_takes, Put, put_gave, put_left, put_start, Quits, rank_of, ranks_of, Reads}
-use Terms.{refl, round_seen, rounds_of, RoundSeen, samples_of, seek_takes, Seeks, seen_more, serve, serving, Some}
-use Terms.{sought, step, subst, Surveys, Suspended, suspends, sym, take_by, Taken, trio_of, true, unit_named, Window}
-use Terms.{Word, word_at, word_seen, WriteBatch, yields_by, ℕ}
+use Terms.{Ends, entered, Event, false, Flag, flagged, follows, Front, front_gave, front_left, front_start, given}
+use Terms.{Goes, group_in, group_of, is_full, is_on, is_quiet, is_ready, is_some, KeepsClean, leaves, length, List}
+use Terms.{look_move, look_takes, looking, Looks, Makes, makes, making_event, making_left, making_over, Move, nat_lt}
+use Terms.{None, one_more, opened, Opens, Option, or_owed, order_of, Out, Outside, outside_left, over, owes_at}
+use Terms.{PendingWrites, Pins, Place, place_move, place_takes, Put, put_gave, put_left, put_start, Quits, rank_of}
+use Terms.{ranks_of, Reads, refl, round_seen, rounds_of, RoundSeen, samples_of, seek_takes, Seeks, seen_more, serve}
+use Terms.{serving, Some, sought, step, subst, Surveys, Suspended, suspends, sym, take_by, Taken, trio_of, true}
+use Terms.{unit_named, whether_as, Window, Word, word_at, word_seen, WriteBatch, yields_by, ℕ}
 use Rattle.adc_driver.specs.laws.bookkeeping.Rank.{bodies}
 use Rattle.mcal_base.specs.declared.moves.Event.TheVariants as events
 use Rattle.mcal_base.specs.declared.moves.Move.TheVariants as moves
@@ -48,11 +48,9 @@ follows_clean was made k (Ends t) e = ended was (clean_at k) made t.done e
 follows_clean was made k (Goes j) e = λ f. absurd (let g = sym e ∙ f in cc)
 
 entered_soiled : (w : Window) → clean_at (entered w) ≡ false
-entered_soiled w = by (clean_in w) refl
-  where
-    by : (q : Bool) → clean_in w ≡ q → clean_at (if q then Quits 0 else looking w) ≡ false
-    by true e = refl
-    by false e = e
+entered_soiled w = whether_as (clean_in w) (λ q. clean_at (if q then Quits 0 else looking w) ≡ false)
+    (λ e. refl)
+    (λ e. e)
 
 flagged_soiled : (w : Window) (v : ℕ) → Soils (flagged w v)
 flagged_soiled w v =
@@ -62,11 +60,9 @@ flagged_soiled w v =
 -- windows other than the first one of a call
 yields_soiled : (d : AdcTable) (u c : ℕ) (o : Option ℕ) → clean_at (yields_by d u c o) ≡ false
 yields_soiled d u c None = refl
-yields_soiled d u c (Some g) = by (c == 0)
-  where
-    by : (q : Bool) → clean_at (if q then Seeks (windows.Suspend u g) (front_start (order_of u) (ranks_of d)) else begins_next u) ≡ false
-    by true = refl
-    by false = refl
+yields_soiled d u c (Some g) = whether_as (c == 0) (λ q. clean_at (if q then Seeks (windows.Suspend u g) (front_start (order_of u) (ranks_of d)) else begins_next u) ≡ false)
+    (λ _. refl)
+    (λ _. refl)
 
 begins_soiled : (d : AdcTable) (u r c : ℕ) → Soils (begins d u r c)
 begins_soiled d u r c =
@@ -100,11 +96,9 @@ decided_soiled d (windows.Trigger i g) seen e = refl
 decided_soiled d _ seen e = absurd (cc)
 
 sought_soiled : (d : AdcTable) (w : Window) (x : ℕ) → Soils (sought d w x)
-sought_soiled d (windows.Suspend u g) x = by (nat_lt x 16 && nat_lt (rank_of d g) (rank_of d x))
-  where
-    by : (q : Bool) → clean_at (if q then looking (windows.Suspend u g) else begins_next u) ≡ false
-    by true = refl
-    by false = refl
+sought_soiled d (windows.Suspend u g) x = whether_as (nat_lt x 16 && nat_lt (rank_of d g) (rank_of d x)) (λ q. clean_at (if q then looking (windows.Suspend u g) else begins_next u) ≡ false)
+    (λ _. refl)
+    (λ _. refl)
 sought_soiled d (windows.Begin u) x =
     elim (nat_lt x 16) as (λ q. Soils (if q then Goes (looking (windows.Convert u x false)) else over))
     [ true ↦ refl | false ↦ refl ]
@@ -120,15 +114,13 @@ looks_quiet d None = refl
 looks_quiet d (Some k) = refl
 
 looks_clean : (d : AdcTable) (w : Window) (seen : List ℕ) (x : ℕ) → CleansTo (clean_in w) (place_move d (Looks w seen)) (place_takes d (Looks w seen) x)
-looks_clean d w seen x = by (clean_in w) refl
+looks_clean d w seen x = whether_as (clean_in w) (λ q. CleansTo q (place_move d (Looks w seen)) (place_takes d (Looks w seen) x))
+    (λ e. let t = place_takes d (Looks w seen) x in quiet (clean_at t.0) (place_move d (Looks w seen)) t.1.done (looks_quiet d (word_at w (length seen))))
+    (λ e. more e (word_at w (length (seen_more seen x))))
   where
     more : clean_in w ≡ false → (o : Option Word) → CleansTo false (place_move d (Looks w seen)) (look_takes d w (seen_more seen x) o)
     more e None = follows_clean false (place_move d (Looks w seen)) (Looks w (seen_more seen x)) (decided d w (seen_more seen x)) (decided_soiled d w (seen_more seen x) e)
     more e (Some k) = soiled false (clean_in w) (place_move d (Looks w seen)) None e
-
-    by : (q : Bool) → clean_in w ≡ q → CleansTo q (place_move d (Looks w seen)) (place_takes d (Looks w seen) x)
-    by true e = let t = place_takes d (Looks w seen) x in quiet (clean_at t.0) (place_move d (Looks w seen)) t.1.done (looks_quiet d (word_at w (length seen)))
-    by false e = more e (word_at w (length (seen_more seen x)))
 
 seeks_clean : (d : AdcTable) (w : Window) (made : Move) (r : Front) (o : Option Answer) → CleansTo false made (seek_takes d w r o)
 seeks_clean d w made r None = soiled false false made None refl

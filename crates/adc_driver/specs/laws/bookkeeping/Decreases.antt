@@ -1,20 +1,20 @@
 -- Each step of a body leaves fewer steps, and one inside a window fewer of its moves.
--- From bookkeeping.Rank, bookkeeping.WindowBounds, bookkeeping.SizeBounds.
--- Used by bookkeeping.RankDecreases, bookkeeping.MaskShut, bookkeeping.MaskDiscipline.
+-- From bookkeeping.Rank, adc_groups: services.BodySteps, adc_groups: services.Decisions and 8 more.
+-- Used by bookkeeping.MaskShut, bookkeeping.RankDecreases, bookkeeping.MaskDiscipline.
 use Rattle.std.proofs.Common.{◌≡◌, ◌⊎◌, ◌+◌, ◌-◌, ◌*◌, ◌<◌, ◌≤◌, ◌==◌, ◌&&◌, ◌||◌, [], ◌∷◌, ◌++◌, ◌∙◌, if◌then◌else◌}
 use Rattle.adc_driver.specs.Terms
 use Terms.{aborted_by, Aborts, AdcTable, after_by, after_copies, after_making, all_kept, all_rooms, Answer, ap, arith}
 use Terms.{banks_left, begins_next, BodyTaken, Bool, choose_takes, Chooses, Continuation, Copied, copies_on, count_of}
 use Terms.{Decided, decided, Done, drop, Ends, Event, false, Flag, flagged, follows, Front, front-lowers, front_gave}
 use Terms.{front_left, front_room, given, Goes, group_of, has_read, inl, inr, is_first, is_some, Keeps, keeps_some}
-use Terms.{left_by, length, length-append, length-drop, limited, List, look_takes, Looks, LowersTo, Makes, making_event}
-use Terms.{making_left, making_over, nat_le, nat_lt, nat_tests, Newest, None, not, one_made, opened, Opens, Option}
-use Terms.{order_left, Out, Outside, outside_left, Phase, Pins, Place, place_takes, Put, put-lowers, put_gave, put_left}
-use Terms.{put_room, Quits, read_more, Reading, reading, Reads, refl, rooms, rounds_of, seek_takes, Seeks, seen_more}
-use Terms.{shape_lowers, shape_room, ShortensTo, slice_get, Some, some_room, some_within, sought, Stage}
-use Terms.{stage_by, stage_read, step, StructureOp, subst, surveyed, Surveys, Suspended, suspends, sym, Take}
-use Terms.{take-lowers, take_gave, take_left, take_room, taken_by, Tells, true, unit_named, Window, WindowWrite, Word}
-use Terms.{word_at, words_of, WriteBatch, ℕ}
+use Terms.{left_by, length, length-append, length-drop, limited, List, look_takes, Looks, LowersTo, Makes}
+use Terms.{making_event, making_left, making_over, nat_le, nat_lt, nat_tests, Newest, None, not, one_made, opened}
+use Terms.{Opens, Option, order_left, Out, Outside, outside_left, Phase, Pins, Place, place_takes, Put, put-lowers}
+use Terms.{put_gave, put_left, put_room, Quits, read_more, Reading, reading, Reads, refl, rooms, rounds_of}
+use Terms.{seek_takes, Seeks, seen_more, shape_lowers, shape_room, ShortensTo, slice_get, Some, some_room}
+use Terms.{some_within, sought, Stage, stage_by, stage_read, step, StructureOp, subst, surveyed, Surveys, Suspended}
+use Terms.{suspends, sym, Take, take-lowers, take_gave, take_left, take_room, taken_by, Tells, true, unit_named}
+use Terms.{whether_as, Window, WindowWrite, Word, word_at, words_of, WriteBatch, ℕ}
 use Rattle.adc_driver.specs.laws.bookkeeping.WindowBounds.{Covers, copies_few, decided_covers, entered_few}
 use Rattle.adc_driver.specs.laws.bookkeeping.WindowBounds.{flagged_covers, sought_covers, surveyed_covers}
 use Rattle.adc_driver.specs.laws.bookkeeping.Rank.{begin_cost, claiming, copied_cost, copy_by, cost, decided_cost}
@@ -149,7 +149,9 @@ one_makes m some = by (nat_lt m.made (length m.deeds)) refl some
     by false e (inr none) = (refl, λ going. absurd (let all : nat_le (length m.deeds) m.made ≡ true = grind (arith, nat_tests, e) in let done = over m.order m.banks (nat_le (length m.deeds) m.made) none.0 none.1 all in let no = sym done ∙ going in cc))
 
 made_less : (m : WriteBatch) (x : ℕ) → MakesLess m (making_left m x)
-made_less m x = by (is_first m) refl
+made_less m x = whether_as (is_first m) (λ q. MakesLess m (if q then one_made m else order_left m m.order x))
+    (λ e. let k = first_made (is_some m.event) (m.ahead == 0) (m.made == 0) (is_some (slice_get m.deeds 0)) e in let some = is_there m.deeds k.1 in let none : m.made ≡ 0 = grind (arith, nat_tests, k.0) in one_makes m (inl (omega (arith, some, none))))
+    (λ e. by_order m.order refl)
   where
     by_banks : m.order ≡ None → (b : Option StructureOp) → m.banks ≡ b → MakesLess m (banks_left m b x)
     by_banks i (Some s) j = (refl, λ going. let lt = shape_lowers s x in let same : rooms m.banks ≡ shape_room s = ap rooms j in omega (arith, lt, same))
@@ -158,10 +160,6 @@ made_less m x = by (is_first m) refl
     by_order : (o : Option StructureOp) → m.order ≡ o → MakesLess m (order_left m o x)
     by_order (Some s) i = (refl, λ going. let lt = shape_lowers s x in let same : rooms m.order ≡ shape_room s = ap rooms i in omega (arith, lt, same))
     by_order None i = by_banks i m.banks refl
-
-    by : (q : Bool) → is_first m ≡ q → MakesLess m (if q then one_made m else order_left m m.order x)
-    by true e = let k = first_made (is_some m.event) (m.ahead == 0) (m.made == 0) (is_some (slice_get m.deeds 0)) e in let some = is_there m.deeds k.1 in let none : m.made ≡ 0 = grind (arith, nat_tests, k.0) in one_makes m (inl (omega (arith, some, none)))
-    by false e = by_order m.order refl
 
 makes_lower : (q : Bool) (d : AdcTable) (m : WriteBatch) (x : ℕ) → Lowers q d (making_cost q d m) (place_takes d (Makes m) x)
 makes_lower q d m x = by (making_over n) refl

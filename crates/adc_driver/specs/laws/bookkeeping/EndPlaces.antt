@@ -1,5 +1,5 @@
 -- What a frame may do while its window owes moves, and how it stands after the last of them: it may end, or opens the mask next.
--- From bookkeeping.PendingWritesRight.
+-- From adc_groups: services.BodySteps, adc_groups: services.WriteBatchSteps, bookkeeping.PendingWritesRight.
 -- Used by bookkeeping.BodiesRight.
 use Rattle.std.proofs.Common.{◌≡◌, ◌∙◌, if◌then◌else◌}
 use Rattle.adc_driver.specs.Terms

@@ -1,6 +1,6 @@
 -- The converter driver: it is lawful.
--- From bookkeeping.Lawful, services.BeginSteps, bookkeeping.BodiesRight, services.InitRight and 4 more.
--- Used by frames/rt, mcal_drivers: Laws, mcal_system: proofs/Resting, mcal_drivers: proofs/Sources and 2 more.
+-- From bookkeeping.Lawful, services.BeginSteps, adc_groups: services.LookSteps, bookkeeping.BodiesRight and 5 more.
+-- Used by src/frames.rt, mcal_drivers: Laws, mcal_drivers: proofs/Hosting, mcal_drivers: proofs/Joining and 3 more.
 use Rattle.std.proofs.Common.{◌≤◌}
 use Rattle.adc_driver.specs.Terms
 use Terms.{Adc, adc_looked, AdcState, AdcTable, any_ends, AnyBody, AreEndingServices, arith, Asked, Call, Chip}

@@ -1,19 +1,19 @@
 -- The driver keeps to its module: registers, words and lines of others are nothing to it.
--- From bookkeeping.Lawful.
+-- From bookkeeping.Lawful, adc_groups: words.WordsOfModule, adc_groups: bookkeeping.RefinementRight and 2 more.
 -- Used by bookkeeping.Joined.
 use Rattle.std.proofs.Common.{◌≡◌, ◌+◌, ◌*◌, ◌<◌, ◌≤◌, ◌^◌, ◌==◌, ◌&&◌, ◌||◌, [], ◌∷◌, ◌∙◌}
 use Rattle.adc_driver.specs.Terms
-use Terms.{Adc, adc_machine, adc_owns, AdcBody, AdcGround, AdcState, AdcTable, all_groups, all_small}
-use Terms.{AllSmall, and_first, and_second, ap, arith, Asked, bare_right, Bool, buffer_number, by_line, Call, Called}
+use Terms.{Adc, adc_machine, adc_owns, AdcBody, AdcGround, AdcState, AdcTable, all_groups, all_small, AllSmall}
+use Terms.{and_first, and_second, ap, arith, Asked, bare_right, Bool, buffer_number, by_line, Call, Called}
 use Terms.{ConverterAbort, ConverterAck, ConverterDone, ConverterGo, ConverterList, ConverterResult, ConverterState}
-use Terms.{EnableClear, EnableSet, EnablesOthers, EnablesWithin, entering, false, FitsAdc, Group, group_of, handled_by}
-use Terms.{has_bit, has_lines, Init, input_count, inputs_of, is_converter, is_for_lines, is_in_buffer, is_line_of}
-use Terms.{is_own_word, is_result_word, is_some, is_trigger_line, is_unit_line, is_used, is_within, is_word, IsSome}
-use Terms.{KeepsTo, length, List, list_any, Load, LongBodies, may_name, may_write, module_of_line, module_of_register}
-use Terms.{module_of_unit, module_of_word, Move, names_there, NamesOthers, NamesWithin, nat_lt, nat_tests, None, not}
-use Terms.{not-unless, object_count, One, only, Option, owns_written, place_count, Read, refl, Reg, ResultBuffer}
-use Terms.{samples_of, services_driver, Some, Spi0, Spi1, Starts, Store, TriggerClear, TriggerFlags, TriggerSet, true}
-use Terms.{World, Write, WritesOthers, WritesWithin, ℕ}
+use Terms.{EnableClear, EnableSet, EnablesOthers, EnablesWithin, entering, false, FitsAdc, Group, group_of}
+use Terms.{handled_by, has_bit, has_lines, Init, input_count, inputs_of, is_converter, is_for_lines, is_in_buffer}
+use Terms.{is_line_of, is_own_word, is_result_word, is_some, is_trigger_line, is_unit_line, is_used, is_within}
+use Terms.{is_word, IsSome, KeepsTo, length, List, list_any, Load, LongBodies, may_name, may_write, module_of_line}
+use Terms.{module_of_register, module_of_unit, module_of_word, Move, names_there, NamesOthers, NamesWithin, nat_lt}
+use Terms.{nat_tests, None, not, not-unless, object_count, One, only, Option, owns_written, place_count, Read, refl}
+use Terms.{Reg, ResultBuffer, samples_of, services_driver, Some, Spi0, Spi1, Starts, Store, TriggerClear}
+use Terms.{TriggerFlags, TriggerSet, true, whether, World, Write, WritesOthers, WritesWithin, ℕ}
 use Rattle.mcal_base.specs.{Layout.{start_of}, declared.layout.Array.TheVariants.{Round}}
 use Rattle.run_model.specs.Machine.{Aborts}
 use Rattle.step_runner.specs.Whose.{is_of}
@@ -125,11 +125,9 @@ module _ (d : AdcTable) (fits : FitsAdc d) where
   own_line = by_line (λ l. is_of (only Adc) (module_of_line l) ≡ true) refl refl refl refl refl refl
 
   own_bit : (v l : ℕ) → is_for_lines v ≡ true → has_bit v l ≡ true → is_of (only Adc) (module_of_line l) ≡ true
-  own_bit v l e on = by (is_unit_line l || is_trigger_line l) refl
-    where
-      by : (q : Bool) → is_unit_line l || is_trigger_line l ≡ q → is_of (only Adc) (module_of_line l) ≡ true
-      by true i = own_line l i
-      by false i = let off = (bare_right d fits).enables (Called Init) v l (ap (λ q. q && names_there (Write EnableSet v)) e) i in absurd (cc)
+  own_bit v l e on = whether (is_unit_line l || is_trigger_line l)
+      (λ i. own_line l i)
+      (λ i. let off = (bare_right d fits).enables (Called Init) v l (ap (λ q. q && names_there (Write EnableSet v)) e) i in absurd (cc))
 
   enables : (v : ℕ) → is_for_lines v ≡ true → EnablesWithin (only Adc) v
   enables v e = record { fits = small v e; lines = λ l on. own_bit v l e on }

@@ -1,10 +1,10 @@
 -- What a frame holds that keeps values of an aborted round becomes more, or all, while words and registers stay.
--- From words.KeptWords.
+-- From words.KeptWords, adc_groups: words.Cases.
 -- Used by services.AbortCountSteps, services.KeepCopySteps.
 use Rattle.std.proofs.Common.{◌≡◌, ◌+◌, ◌<◌, ◌≤◌, [], ◌∷◌, if◌then◌else◌}
 use Rattle.adc_driver.specs.Terms
-use Terms.{AdcState, AdcTable, Agrees, Answer, arith, Bool, Call, Chip, false, KeepsRight, length, limited, List}
-use Terms.{nat_lt, nat_tests, Option, Origin, refl, Reservations, slice_get, Some, suc, true, Whole, WholeRight}
+use Terms.{AdcState, AdcTable, Agrees, Answer, arith, Call, Chip, KeepsRight, length, limited, List, nat_lt}
+use Terms.{nat_tests, Option, Origin, refl, Reservations, slice_get, Some, suc, whether_as, Whole, WholeRight}
 use Terms.{word_number, word_of, World, zero, ℕ}
 use Rattle.adc_groups.specs.Refinement.{Keeps}
 use Rattle.adc_driver.specs.laws.words.KeptWords.{keeper}
@@ -12,18 +12,12 @@ use Rattle.adc_groups.specs.declared.words.Word.TheVariants as words
 
 -- a number that is at most a limit is left by it, and any one is at most the limit then
 pub limited_is : (v m : ℕ) → v ≤ m → limited v m ≡ v
-limited_is v m le = by (nat_lt v m) refl
-  where
-    by : (q : Bool) → nat_lt v m ≡ q → (if q then v else m) ≡ v
-    by true e = refl
-    by false e = grind (arith, nat_tests)
+limited_is v m le = whether_as (nat_lt v m) (λ q. (if q then v else m) ≡ v) (λ e. refl) (λ e. grind (arith, nat_tests))
 
 pub limited_most : (v m : ℕ) → limited v m ≤ m
-limited_most v m = by (nat_lt v m) refl
-  where
-    by : (q : Bool) → nat_lt v m ≡ q → (if q then v else m) ≤ m
-    by true e = grind (arith, nat_tests)
-    by false e = omega arith
+limited_most v m = whether_as (nat_lt v m) (λ q. (if q then v else m) ≤ m)
+    (λ e. grind (arith, nat_tests))
+    (λ e. omega arith)
 
 -- a list has as many members as its places are below
 pub few_places : {A : Type 0} (xs : List A) (m : ℕ) → ((j : ℕ) (v : A) → slice_get xs j ≡ Some v → j < m) → length xs ≤ m

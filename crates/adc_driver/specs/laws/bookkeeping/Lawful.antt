@@ -1,6 +1,6 @@
 -- The driver, as the outline and the runner see it. It is lawful where its bodies are right, and where calls and handlers begin.
--- From bookkeeping.RefinementRight.
--- Used by bookkeeping.Joined, services.BeginSteps, bookkeeping.KeepsToModule, bookkeeping.NoneWaitsPlaces.
+-- From adc_groups: services.LookSteps, bookkeeping.RefinementRight, adc_groups: services.BodySteps and 5 more.
+-- Used by bookkeeping.Joined, bookkeeping.KeepsToModule, bookkeeping.NoneWaitsPlaces, services.BeginSteps.
 use Rattle.std.proofs.Common.{◌≡◌, ◌+◌, ◌-◌, ◌≤◌, ◌&&◌}
 use Rattle.adc_driver.specs.Terms
 use Terms.{adc_bodies, adc_looked, adc_setting, adc_windows, AdcBody, AdcGround, AdcRepresents, AdcState, AdcTable}

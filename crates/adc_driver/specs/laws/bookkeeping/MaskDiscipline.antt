@@ -1,5 +1,5 @@
 -- How the steps of the driver's bodies turn the mask, and the moves that their windows have left.
--- From bookkeeping.MaskShut, bookkeeping.Rank, bookkeeping.MaskWhileMaking, bookkeeping.Decreases and 2 more.
+-- From bookkeeping.MaskShut, adc_groups: services.BodySteps, bookkeeping.MaskWhileMaking, bookkeeping.Rank and 6 more.
 -- Used by bookkeeping.BodiesRight.
 use Rattle.std.proofs.Common.{◌≡◌, ◌-◌, ◌<◌, ◌≤◌, [], ◌∷◌, ◌∙◌, if◌then◌else◌}
 use Rattle.adc_driver.specs.Terms

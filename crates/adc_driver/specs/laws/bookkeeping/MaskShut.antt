@@ -1,5 +1,5 @@
 -- The places at which a frame is in a window, and that a step there that doesn't open the mask leaves it in that window.
--- From bookkeeping.Decreases, bookkeeping.Rank.
+-- From adc_groups: services.Decisions, adc_groups: services.BodySteps, adc_groups: services.WriteBatchSteps and 4 more.
 -- Used by bookkeeping.MaskDiscipline.
 use Rattle.std.proofs.Common.{◌≡◌, ◌+◌, ◌==◌, ◌&&◌, if◌then◌else◌}
 use Rattle.adc_driver.specs.Terms

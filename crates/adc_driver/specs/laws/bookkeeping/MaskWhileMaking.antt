@@ -1,15 +1,14 @@
 -- A making that has its event before it has moves left, so that each step of it names a register or a word.
--- From adc_turns: services.WriteBatchRight.
+-- From adc_groups: services.WriteBatchSteps, adc_groups: services.Decisions and 3 more.
 -- Used by bookkeeping.MaskDiscipline.
 use Rattle.std.proofs.Common.{◌≡◌, ◌<◌, ◌&&◌, [], ◌∷◌, ◌∙◌, if◌then◌else◌}
 use Rattle.adc_driver.specs.Terms
-use Terms.{AdcGround, AdcState, AdcTable, ap, arith, banks_spot, Bool, Call, deed_move}
-use Terms.{deed_or_open, either_shape, Event, false, Footprint, FrameHistory, group_of, is_first}
-use Terms.{is_shared, is_simple, is_some, IsDealing, IsStarting, len_start, length, List, Load, making_by}
-use Terms.{making_move, making_over, Move, nat_le, nat_tests, None, not, number_of, of_driver}
-use Terms.{off_where, Option, Orders, Origin, place_at, PointAssertion, Prepares, pulse_by, Pulses, refl}
-use Terms.{Reservations, shape_move, shape_simple, slice_get, Some, spot_making, spot_start}
-use Terms.{start_deeds, Stops, Store, StructureOp, suc, sym, trigger_bit, trigger_input, true}
+use Terms.{AdcGround, AdcState, AdcTable, ap, arith, banks_spot, Bool, Call, deed_move, deed_or_open, either_shape}
+use Terms.{Event, false, Footprint, FrameHistory, group_of, is_first, is_shared, is_simple, is_some, IsDealing}
+use Terms.{IsStarting, len_start, length, List, Load, making_by, making_move, making_over, Move, nat_le, nat_tests}
+use Terms.{None, not, number_of, of_driver, off_where, Option, Orders, Origin, place_at, PointAssertion, Prepares}
+use Terms.{pulse_by, Pulses, refl, Reservations, shape_move, shape_simple, slice_get, Some, spot_making, spot_start}
+use Terms.{start_deeds, Stops, Store, StructureOp, suc, sym, trigger_bit, trigger_input, true, whether_as}
 use Terms.{WindowWrite, Within, World, Write, WriteBatch, zero, ℕ}
 use Rattle.mcal_base.specs.declared.moves.Event.TheVariants as events
 use Rattle.adc_groups.specs.declared.making.WindowWrite.TheVariants as deeds
@@ -41,7 +40,9 @@ some_deed (x ∷ xs) zero e = refl
 some_deed (x ∷ xs) (suc n) e = some_deed xs n (grind (arith, nat_tests))
 
 pub making_plain : (d : AdcTable) (m : WriteBatch) → making_over m ≡ false → is_shared (making_move d m) ≡ false
-making_plain d m e = by (is_first m) refl
+making_plain d m e = whether_as (is_first m) (λ q. is_shared (making_by d m (if q then None else either_shape m.order m.banks)) ≡ false)
+    (λ h. let k = first h in some_plain d (slice_get m.deeds m.made) (ap (λ n. is_some (slice_get m.deeds n)) k.0 ∙ k.1))
+    (λ h. later m.order m.banks e)
   where
     first : is_first m ≡ true → (m.made ≡ 0) × (is_some (slice_get m.deeds 0) ≡ true)
     first e = (grind (arith, nat_tests), grind (arith, nat_tests))
@@ -50,10 +51,6 @@ making_plain d m e = by (is_first m) refl
     later (Some s) b e = shape_plain s
     later None (Some s) e = shape_plain s
     later None None e = some_plain d (slice_get m.deeds m.made) (some_deed m.deeds m.made e)
-
-    by : (q : Bool) → is_first m ≡ q → is_shared (making_by d m (if q then None else either_shape m.order m.banks)) ≡ false
-    by true h = let k = first h in some_plain d (slice_get m.deeds m.made) (ap (λ n. is_some (slice_get m.deeds n)) k.0 ∙ k.1)
-    by false h = later m.order m.banks e
 
 -- ---- makings before their event
 

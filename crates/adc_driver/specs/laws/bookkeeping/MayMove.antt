@@ -1,27 +1,27 @@
 -- The move of each place that owes nothing is one that a frame of the module may make: it names a word of the module, or a register
 -- of the converters that is there, or the mask or a notice.
--- From adc_turns: services.WriteBatchRight.
+-- From adc_groups: words.WordsOfModule, adc_groups: services.Decisions, adc_turns: services.WriteBatchRight and 7 more.
 -- Used by bookkeeping.BodiesRight.
 use Rattle.std.proofs.Common.{◌≡◌, ◌+◌, ◌-◌, ◌*◌, ◌<◌, ◌≤◌, ◌&&◌, ◌||◌, [], ◌∷◌, ◌∙◌, ◌⊎◌, if◌then◌else◌}
 use Rattle.adc_driver.specs.Terms
 use Terms.{Aborts, adc_bodies, adc_windows, AdcBody, AdcGround, AdcState, AdcTable, Agrees, and_from, ap, arith}
 use Terms.{AssertedAt, Bank, bank_word, bank_words, banks_spot, Begins_stream, body_work, Bool, buffer_in, Call, Chip}
-use Terms.{Chooses, claim_at, claim_words, Closes_module, Column, column_is, column_word, ConverterGo, ConverterResult}
-use Terms.{Copied, count_of, deed_move, deed_work, ends_claim, Event, false, few_inputs, first_words}
-use Terms.{FitsAdc, Flag, foot_of, FrameHistory, Front, gap_at, go_at, Group, group_of, group_word, has_input, hold_in}
-use Terms.{holds_at, InFlag, inl, inputs_of, inr, InWindow, is_of, is_shared, is_some, is_word, IsCopy, IsDealing}
-use Terms.{IsReleasing, IsSeeking, IsStarting, KeepsThem, kept_word, kept_words, length, List, list_any, list_at}
-use Terms.{list_deed, lists_for, Load, look_move, Looks, low_words, lt_from, Makes, making_move, may}
+use Terms.{Chooses, claim_at, claim_words, Closes_module, Column, column_is, column_word, ConverterGo}
+use Terms.{ConverterResult, Copied, count_of, deed_move, deed_work, ends_claim, Event, false, few_inputs, first_words}
+use Terms.{FitsAdc, Flag, foot_of, FrameHistory, Front, gap_at, go_at, Group, group_of, group_word, has_input}
+use Terms.{hold_in, holds_at, InFlag, inl, inputs_of, inr, InWindow, is_of, is_shared, is_some, is_word, IsCopy}
+use Terms.{IsDealing, IsReleasing, IsSeeking, IsStarting, KeepsThem, kept_word, kept_words, length, List, list_any}
+use Terms.{list_at, list_deed, lists_for, Load, look_move, Looks, low_words, lt_from, Makes, making_move, may}
 use Terms.{MayCopy, MayPin, MaySeek, MayServe, Move, move_by, moves_ahead, NamesOwn, nat_lt, Newest, None}
 use Terms.{nothing_more, Notifies, number_of, of_driver, on_there, Opens, Option, order_of, order_words, order_work}
 use Terms.{Orders, Origin, Out, OutPlace, outside_move, owes_at, Pins, Place, place_at, place_move, place_out}
 use Terms.{place_sum, place_within, place_words, PointAssertion, Points, Prepares, Pulses, put_move, Quits, Read}
-use Terms.{read_spot, ReadsPlace, refl, Reservations, Round, round_at, Rounds, rounds_of, running_at}
-use Terms.{running_words, samples_of, Seeks, Serves, Sets_up, shape_move, slice_get, Some, sought_unit, spot_at}
-use Terms.{spot_making, spot_or, spot_start, Stage, stage_move, start_deeds, start_of, STATE, Stops, Stops_turn, Store}
+use Terms.{read_spot, ReadsPlace, refl, Reservations, Round, round_at, Rounds, rounds_of, running_at, running_words}
+use Terms.{samples_of, Seeks, Serves, Sets_up, shape_move, slice_get, Some, sought_unit, spot_at, spot_making}
+use Terms.{spot_or, spot_start, Stage, stage_move, start_deeds, start_of, STATE, Stops, Stops_turn, Store}
 use Terms.{StructureOp, subst, suc, Surveys, sym, Take, take_move, Tells, trio_of, true, unit_in, unit_named}
-use Terms.{unit_within, Window, WindowWrite, with_holds, Within, Word, word_number, word_there, WORDS, words_of}
-use Terms.{World, Write, WriteBatch, Zero, zero, ℕ}
+use Terms.{unit_within, whether_as, Window, WindowWrite, with_holds, Within, Word, word_number, word_there, WORDS}
+use Terms.{words_of, World, Write, WriteBatch, Zero, zero, ℕ}
 use Rattle.word_shapes.specs.PriorityQueue.{own_of}
 use Rattle.mcal_base.specs.declared.moves.Event.TheVariants as events
 use Rattle.word_shapes.specs.declared.take.Take.TheVariants as takes
@@ -238,11 +238,9 @@ module _ (d : AdcTable) (fits : FitsAdc d) where
 
     round_own : (u g e j : ℕ) (b : Bank) (v : Option ℕ) → u < 2 → is_some (group_of d g) ≡ true → j < length (inputs_of (group_of d g)) → Mine (move_by (copied.Round (rounds_of d g) u e b) j v)
     round_own u g e j b (Some x) few there lt = store_mine (bank_word (rounds_of d g) b j) x (bank_words d fits g b j there lt)
-    round_own u g e j b None few there lt = by (nat_lt j e)
-      where
-        by : (q : Bool) → Mine (if q then Load (kept_word (rounds_of d g) j) else Read (ConverterResult u (j - e)))
-        by true = load_mine (kept_word (rounds_of d g) j) (kept_words d fits g j there lt)
-        by false = let most = few_inputs d fits g there in result_mine u (j - e) few (omega (arith, lt, most))
+    round_own u g e j b None few there lt = whether_as (nat_lt j e) (λ q. Mine (if q then Load (kept_word (rounds_of d g) j) else Read (ConverterResult u (j - e))))
+        (λ _. load_mine (kept_word (rounds_of d g) j) (kept_words d fits g j there lt))
+        (λ _. let most = few_inputs d fits g there in result_mine u (j - e) few (omega (arith, lt, most)))
 
     bank_own : (g j : ℕ) (b : Bank) (c : Column) (v : Option ℕ) → is_some (group_of d g) ≡ true → c.group ≡ g → c.samples ≡ samples_of (group_of d g) → c.place < c.samples → j < length (inputs_of (group_of d g)) → Mine (move_by (copied.Bank (rounds_of d g) b c) j v)
     bank_own g j b c None there same samples within lt = load_mine (bank_word (rounds_of d g) b j) (bank_words d fits g b j there lt)

@@ -1,6 +1,6 @@
 -- A frame leaves no unit waiting whose line it has served: a call has served none, and a handler of a unit's line ends where its unit has nothing to start and nothing to abort.
--- From hardware.StableUnderHardware.
--- Used by bookkeeping.NoneWaitsPlaces, bookkeeping.NoneWaitsMaking, bookkeeping.NoneWaitsLooking.
+-- From hardware.StableUnderHardware, adc_groups: services.BodySteps.
+-- Used by bookkeeping.NoneWaitsMaking, bookkeeping.NoneWaitsPlaces, bookkeeping.NoneWaitsLooking.
 use Rattle.std.proofs.Common.{◌≡◌, ◌+◌, ◌-◌, ◌≤◌, ◌&&◌, ◌||◌, [], ◌∙◌}
 use Rattle.adc_driver.specs.Terms
 use Terms.{aborts, aborts_by, Act, acted, adc_machine, AdcState, AdcTable, and_false, Answer, ap, arith}

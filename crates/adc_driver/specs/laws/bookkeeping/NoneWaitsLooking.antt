@@ -1,5 +1,5 @@
 -- A handler that has served its line ends where it looks what may start on its unit: nothing may, and nothing may be aborted.
--- From bookkeeping.NoneWaits.
+-- From adc_groups: services.Decisions, adc_groups: services.BodySteps, bookkeeping.NoneWaits and 4 more.
 -- Used by bookkeeping.NoneWaitsPlaces.
 use Rattle.std.proofs.Common.{◌≡◌, ◌+◌, ◌<◌, ◌==◌, ◌&&◌, [], ◌∷◌, ◌∙◌, if◌then◌else◌}
 use Rattle.adc_driver.specs.Terms
@@ -10,11 +10,11 @@ use Terms.{front_move, front_start, GetGroupStatus, GetStreamLastPointer, given,
 use Terms.{HasSeen, hold_in, holds-below, HoldsOrder, InWindow, is_full, is_handler, is_on, is_some, IsSeeking}
 use Terms.{IsServing, leaves, length, List, look_takes, looking, Looks, Makes, makes, MaySeek, nat_lt, nat_tests}
 use Terms.{next_group, no_answer, None, not, one_more, Option, order_of, Origin, over, Place, place_ends, place_move}
-use Terms.{place_takes, put_start, Quits, rank_of, ranks_of, ReadGroup, refl, Reservations, Round, round_at, round_seen}
-use Terms.{rounds_of, running_of, samples_of, Search, seek_takes, Seeks, seen_more, serving, SetupResultBuffer}
-use Terms.{slice_index_or, Some, some_hold, sought, StartGroupConversion, starts, starts_by, subst, suc, sym, take_by}
-use Terms.{trio_of, true, unclaimed, value_of, will_yield, Window, with_holds, Word, word_at, word_number, word_of}
-use Terms.{word_seen, World, yields_by, zero, ℕ}
+use Terms.{place_takes, put_start, Quits, rank_of, ranks_of, ReadGroup, refl, Reservations, Round, round_at}
+use Terms.{round_seen, rounds_of, running_of, samples_of, Search, seek_takes, Seeks, seen_more, serving}
+use Terms.{SetupResultBuffer, slice_index_or, Some, some_hold, sought, StartGroupConversion, starts, starts_by, subst}
+use Terms.{suc, sym, take_by, trio_of, true, unclaimed, value_of, whether_as, will_yield, Window, with_holds, Word}
+use Terms.{word_at, word_number, word_of, word_seen, World, yields_by, zero, ℕ}
 use Rattle.word_shapes.specs.{Playing.{Ends}, PriorityQueue.{own_of}}
 use Rattle.adc_driver.specs.laws.bookkeeping.NoneWaits.{LeavesSo, being_so, done_so, going_so, serving_so}
 use Rattle.word_shapes.specs.Playing as playing
@@ -32,11 +32,9 @@ own_line _ few = refl
 
 yields_end : (d : AdcTable) (u c : ℕ) (q : Option ℕ) → place_ends (yields_by d u c q) ≡ None
 yields_end d u c None = refl
-yields_end d u c (Some g) = by (c == 0)
-  where
-    by : (q : Bool) → place_ends (if q then Seeks (windows.Suspend u g) (front_start (order_of u) (ranks_of d)) else begins_next u) ≡ None
-    by true = refl
-    by false = refl
+yields_end d u c (Some g) = whether_as (c == 0) (λ q. place_ends (if q then Seeks (windows.Suspend u g) (front_start (order_of u) (ranks_of d)) else begins_next u) ≡ None)
+    (λ _. refl)
+    (λ _. refl)
 
 module _ (d : AdcTable) (below : Reservations) (chip : Chip) (w : World) (s : AdcState) (b : Brought) (o : Origin Call) (p : FrameHistory) where
   abbrev So : Place × BodyTaken → Type 0
@@ -50,14 +48,12 @@ module _ (d : AdcTable) (below : Reservations) (chip : Chip) (w : World) (s : Ad
   module _ (u : ℕ) (few : u < 2) (on : s.initialised ≡ true) (has : HasDone u below o p) (h : Agrees d (with_holds o p.acted (hold_in (windows.Begin u)) below) chip w s) where
     -- nothing that its own handler leaves may be aborted
     none_aborts : o ≡ Entered (24 + u) → is_some (aborts d w s u) ≡ false
-    none_aborts mine = by (is_some (aborts d w s u)) refl
+    none_aborts mine = whether_as (is_some (aborts d w s u)) (λ q. q ≡ false)
+        (λ e. absurd (let on = ((h.settled on).promised u).yields e in let none = off in cc))
+        (λ e. refl)
       where
         off : will_yield u (with_holds o p.acted (hold_in (windows.Begin u)) below) ≡ false
         off = ap (λ q. not ((u == u) && is_handler u q) && will_yield u below) mine ∙ (ap (λ q. not ((u == u) && q) && will_yield u below) (own_line u few) ∙ ap (λ q. not (q && true) && will_yield u below) (eq_self u))
-
-        by : (q : Bool) → is_some (aborts d w s u) ≡ q → q ≡ false
-        by true e = absurd (let on = ((h.settled on).promised u).yields e in let none = off in cc)
-        by false e = refl
 
     ends_so : (o ≡ Entered (24 + u) → some_hold (claims_on u) below ≡ false → is_some (starts d s u) ≡ false) → (k : Place) → place_ends k ≡ None → So (follows k over)
     ends_so rests k none = done_so d w s o p b u below has (λ mine free. (rests mine free, none_aborts mine)) k no_answer none
@@ -122,11 +118,9 @@ module _ (d : AdcTable) (below : Reservations) (chip : Chip) (w : World) (s : Ad
 
   takes_so : (u : ℕ) → IsServing (24 + u) o p → (k : Place) (q : Option ℕ) → place_ends k ≡ None → So (follows k (take_by d u q))
   takes_so u is k None none = serving_so d w s b (24 + u) o p is (follows k over) refl
-  takes_so u is k (Some g) none = by (is_on u (group_of d g))
-    where
-      by : (q : Bool) → So (follows k (if q then decisions.Goes (Chooses u g (put_start (trio_of (rounds_of d g)) puts.Choose)) else over))
-      by true = to (Chooses u g (put_start (trio_of (rounds_of d g)) puts.Choose)) refl
-      by false = serving_so d w s b (24 + u) o p is (follows k over) refl
+  takes_so u is k (Some g) none = whether_as (is_on u (group_of d g)) (λ q. So (follows k (if q then decisions.Goes (Chooses u g (put_start (trio_of (rounds_of d g)) puts.Choose)) else over)))
+      (λ _. to (Chooses u g (put_start (trio_of (rounds_of d g)) puts.Choose)) refl)
+      (λ _. serving_so d w s b (24 + u) o p is (follows k over) refl)
 
   decided_so : (win : Window) (seen : List ℕ) → InWindow d win below w s o p → is_begin win ≡ false → (k : Place) → place_ends k ≡ None → So (follows k (decided d win seen))
   decided_so windows.Close seen is other k none = being_so d w s b calls.DeInit fresh_history o p refl is.0 (follows k over)

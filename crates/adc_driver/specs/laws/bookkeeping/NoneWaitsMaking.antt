@@ -1,22 +1,22 @@
 -- A frame that makes its moves leaves no unit waiting whose line it has served: what starts on a unit is what waits first.
--- From bookkeeping.NoneWaits, adc_turns: services.WriteBatchRight, adc_turns: words.BegunWords and 2 more.
+-- From adc_groups: services.Decisions, adc_groups: services.WriteBatchSteps, bookkeeping.NoneWaits and 8 more.
 -- Used by bookkeeping.NoneWaitsPlaces.
 use Rattle.std.proofs.Common.{◌≡◌, ◌+◌, ◌-◌, ◌<◌, ◌≤◌, ◌&&◌, [], ◌∙◌, if◌then◌else◌}
 use Rattle.adc_driver.specs.Terms
 use Terms.{acted, adc_machine, AdcBody, AdcGround, AdcState, AdcTable, after_making, ap, arith, asks_for, banks_left}
 use Terms.{banks_spot, Begins_stream, BodyTaken, Bool, Brought, Call, Called, Chip, Closes_module, Continuation}
-use Terms.{conversion, deed_takes, Done, done, EnableHardwareTrigger, Enables_trigger, ends, ends_claim, Entered, Event}
-use Terms.{false, foot_of, Footprint, FrameHistory, fresh_history, gap_at, GetStreamLastPointer, group_at, happening_at}
-use Terms.{Has_acted, Has_served, has_served, holds_at, InWindow, is_first, Is_this_frame, IsDealing, IsFirst}
-use Terms.{IsServing, IsSound, IsStarting, IsThisFrame, last_takes, Leaves_acted, len_start, length, line_waits}
-use Terms.{list_any, Makes, making_event, making_left, making_over, MayLeave, MayTurn, moves_ahead, named_of, nat_lt}
-use Terms.{nat_tests, Next, no_answer, no_unit, None, none_aborts, none_starts, Nothing, nothing_more, Notification}
-use Terms.{Notifies, number_of, one_made, Opens, Option, order_left, order_takes, Orders, Origin, outcome, outcome_of}
-use Terms.{Place, place_at, place_ends, place_takes, place_then, PointAssertion, Points, Prepares, pulse_by, Pulses}
-use Terms.{ReadGroup, refl, Request, Reservations, round_words, Sets_up, SetupResultBuffer, shape_after, Some}
-use Terms.{spot_making, spot_start, start_deeds, startable_on, started, StartGroupConversion, starting, starts_on}
-use Terms.{state_by, step, Stops, Stops_turn, stores, StructureOp, subst, sym, tells_nothing, true, unit_named}
-use Terms.{with_holds, World, WriteBatch, ℕ}
+use Terms.{conversion, deed_takes, Done, done, EnableHardwareTrigger, Enables_trigger, ends, ends_claim, Entered}
+use Terms.{Event, false, foot_of, Footprint, FrameHistory, fresh_history, gap_at, GetStreamLastPointer, group_at}
+use Terms.{happening_at, Has_acted, Has_served, has_served, holds_at, InWindow, is_first, Is_this_frame, IsDealing}
+use Terms.{IsFirst, IsServing, IsSound, IsStarting, IsThisFrame, last_takes, Leaves_acted, len_start, length}
+use Terms.{line_waits, list_any, Makes, making_event, making_left, making_over, MayLeave, MayTurn, moves_ahead}
+use Terms.{named_of, nat_lt, nat_tests, Next, no_answer, no_unit, None, none_aborts, none_starts, Nothing}
+use Terms.{nothing_more, Notification, Notifies, number_of, one_made, Opens, Option, order_left, order_takes, Orders}
+use Terms.{Origin, outcome, outcome_of, Place, place_at, place_ends, place_takes, place_then, PointAssertion, Points}
+use Terms.{Prepares, pulse_by, Pulses, ReadGroup, refl, Request, Reservations, round_words, Sets_up}
+use Terms.{SetupResultBuffer, shape_after, Some, spot_making, spot_start, start_deeds, startable_on, started}
+use Terms.{StartGroupConversion, starting, starts_on, state_by, step, Stops, Stops_turn, stores, StructureOp, subst}
+use Terms.{sym, tells_nothing, true, unit_named, whether, with_holds, World, WriteBatch, ℕ}
 use Rattle.adc_driver.specs.laws.{services.LookRight.{convert_unit}, bookkeeping.NoneWaits.{LeavesSo, being_so}}
 use Rattle.adc_driver.specs.laws.{bookkeeping.NoneWaits.{called_so, calm_so, going_so, line_calm, serving_so}}
 use Rattle.mcal_base.specs.declared.moves.Event.TheVariants as events
@@ -147,11 +147,9 @@ module _ (d : AdcTable) (w : World) (s : AdcState) (b : Brought) where
 
     starting_so : (o : Origin Call) (p : FrameHistory) (m : WriteBatch) → IsStarting d below f w s o p u m → LeavesSo d w s o p b (place_takes d (Makes m) v)
     starting_so o p _ (Orders g e left c n r xs start is_order first found made) = ordering_so g e left c r o p
-    starting_so o p _ (Prepares g e left c j xs start le is_order holds made) = by (nat_lt j (moves_ahead left c)) refl
-      where
-        by : (q : Bool) → nat_lt j (moves_ahead left c) ≡ q → LeavesSo d w s o p b (place_takes d (Makes (at g e left c None j)) v)
-        by true i = preparing_so g e left c j o p (grind (arith, nat_tests))
-        by false i = subst (λ n. LeavesSo d w s o p b (place_takes d (Makes (at g e left c None n)) v)) (let ge : moves_ahead left c ≤ j = grind (arith, nat_tests) in let same : moves_ahead left c ≡ j = omega (arith, ge, le) in same) (last_so g e left c o p start.window)
+    starting_so o p _ (Prepares g e left c j xs start le is_order holds made) = whether (nat_lt j (moves_ahead left c))
+        (λ i. preparing_so g e left c j o p (grind (arith, nat_tests)))
+        (λ i. subst (λ n. LeavesSo d w s o p b (place_takes d (Makes (at g e left c None n)) v)) (let ge : moves_ahead left c ≤ j = grind (arith, nat_tests) in let same : moves_ahead left c ≡ j = omega (arith, ge, le) in same) (last_so g e left c o p start.window))
 
   -- ---- each making
 

@@ -1,5 +1,5 @@
 -- Wherever a frame of the driver ends, it leaves no unit waiting whose line it has served.
--- From bookkeeping.NoneWaits, services.InitRight, bookkeeping.Rank, bookkeeping.NoneWaitsMaking and 3 more.
+-- From adc_groups: services.BodySteps, adc_groups: services.Decisions, bookkeeping.NoneWaits and 9 more.
 -- Used by bookkeeping.Joined.
 use Rattle.std.proofs.Common.{◌≡◌, ◌+◌, ◌==◌, ◌∙◌, if◌then◌else◌}
 use Rattle.adc_driver.specs.Terms
@@ -23,8 +23,8 @@ use Rattle.adc_driver.specs.laws.{bookkeeping.NoneWaits.{waits_later}, bookkeepi
 use Rattle.adc_driver.specs.laws.{bookkeeping.NoneWaitsLooking.{looks_so}, bookkeeping.NoneWaitsMaking.{Stands}}
 use Rattle.adc_driver.specs.laws.{bookkeeping.NoneWaitsMaking.{makes_so, owing_so}}
 use Rattle.mcal_base.specs.declared.moves.Event.TheVariants as events
-use Rattle.service_outline.specs.declared.sweep.Place as sweeping
-use Rattle.service_outline.specs.declared.sweep.Place.TheVariants as sweeps
+use Rattle.service_outline.specs.declared.sweep.SweepStage as sweeping
+use Rattle.service_outline.specs.declared.sweep.SweepStage.TheVariants as sweeps
 use Rattle.adc_machine.specs.declared.call.Call.TheVariants as calls
 use Rattle.adc_groups.specs.declared.body.Decided.TheVariants as decisions
 use Rattle.adc_groups.specs.declared.outside.Outside.TheVariants as outsides
@@ -148,7 +148,7 @@ module _ (d : AdcTable) (below : Reservations) (chip : Chip) (w : World) (s : Ad
       by : (o : Origin Call) (p : FrameHistory) → IsThisFrame (Called calls.Init) fresh_history o p → LeavesBy d w s o p b (init_takes inits.Store v).1
       by _ _ Is_this_frame = called_by d w s calls.Init fresh_history b refl (init_takes inits.Store v).1
 
-  sweep_so : (a : Setup) (k : sweeping.Place InitBody) (v : ℕ) → place_at (sweep_spot (setting_up d) (last_bodies d) a k) below (foot_of chip) w s o p → LeavesBy d w s o p b (takes_at setup_count setup_after init_takes a k v).1
+  sweep_so : (a : Setup) (k : sweeping.SweepStage InitBody) (v : ℕ) → place_at (sweep_spot (setting_up d) (last_bodies d) a k) below (foot_of chip) w s o p → LeavesBy d w s o p b (takes_at setup_count setup_after init_takes a k v).1
   sweep_so a (sweeps.Follows k) v at = init_so k v at
   sweep_so a _ v at = λ n e. absurd (cc)
 

@@ -1,4 +1,5 @@
 -- A window that owes moves makes them: after each one it owes the others, and after the last one it ends or opens the mask.
+-- From adc_groups: services.WriteBatchSteps, adc_groups: services.BodySteps, adc_groups: words.Cases.
 -- Used by bookkeeping.NoneWaitsPlaces, bookkeeping.EndPlaces.
 use Rattle.std.proofs.Common.{◌≡◌, ◌+◌, ◌<◌, ◌≤◌, ◌==◌, ◌&&◌, [], ◌∷◌, ◌∙◌, if◌then◌else◌}
 use Rattle.adc_driver.specs.Terms
@@ -6,8 +7,8 @@ use Terms.{adc_windows, AdcBody, AdcTable, after_making, ap, arith, bare, body_e
 use Terms.{Bool, Continuation, deed_or_open, drop, either_shape, Event, false, GoesFree, GoesOwing, is_first, is_some}
 use Terms.{length, List, Makes, making_by, making_event, making_left, making_move, making_over, making_owed, nat_le}
 use Terms.{nat_lt, nat_tests, None, not, one_made, Opens, Option, order_left, Outside, owed_of, owes_at, owes_making}
-use Terms.{PendingWrites, Place, place_ends, refl, slice_get, Some, some_same, step, StructureOp, subst, suc, sym, true}
-use Terms.{Windows, WindowWrite, WriteBatch, zero, ℕ}
+use Terms.{PendingWrites, Place, place_ends, refl, slice_get, Some, some_same, step, StructureOp, subst, suc, sym}
+use Terms.{true, whether_as, Windows, WindowWrite, WriteBatch, zero, ℕ}
 use Rattle.adc_groups.specs.PendingWrites.{move_by, left_by}
 use Rattle.adc_groups.specs.declared.making.Continuation.TheVariants as thens
 
@@ -37,18 +38,14 @@ has_deeds [] = false
 has_deeds (x ∷ xs) = true
 
 lt_suc : (n m : ℕ) → nat_lt (suc n) (suc m) ≡ nat_lt n m
-lt_suc n m = by (nat_lt n m) refl
-  where
-    by : (q : Bool) → nat_lt n m ≡ q → nat_lt (suc n) (suc m) ≡ q
-    by true e = grind (arith, nat_tests)
-    by false e = grind (arith, nat_tests)
+lt_suc n m = whether_as (nat_lt n m) (λ q. nat_lt (suc n) (suc m) ≡ q)
+    (λ e. grind (arith, nat_tests))
+    (λ e. grind (arith, nat_tests))
 
 le_suc : (n m : ℕ) → nat_le (suc n) (suc m) ≡ nat_le n m
-le_suc n m = by (nat_le n m) refl
-  where
-    by : (q : Bool) → nat_le n m ≡ q → nat_le (suc n) (suc m) ≡ q
-    by true e = grind (arith, nat_tests)
-    by false e = grind (arith, nat_tests)
+le_suc n m = whether_as (nat_le n m) (λ q. nat_le (suc n) (suc m) ≡ q)
+    (λ e. grind (arith, nat_tests))
+    (λ e. grind (arith, nat_tests))
 
 deeds_left : (n : ℕ) (ds : List WindowWrite) → nat_lt n (length ds) ≡ has_deeds (drop n ds)
 deeds_left zero [] = refl
@@ -82,11 +79,9 @@ no_event : (e : Option Event) (made ahead : ℕ) → is_some e && nat_le made ah
 no_event None made ahead h =
     elim (made == ahead) as (λ q. (let z : Option Event = if q then None else None in z) ≡ None)
     [ true ↦ refl | false ↦ refl ]
-no_event (Some e) made ahead h = by (made == ahead) refl
-  where
-    by : (q : Bool) → (made == ahead) ≡ q → (if q then Some e else None) ≡ None
-    by true same = absurd (let le : nat_le made ahead ≡ true = grind (arith, nat_tests) in let no : true ≡ false = sym le ∙ h in cc)
-    by false same = refl
+no_event (Some e) made ahead h = whether_as (made == ahead) (λ q. (if q then Some e else None) ≡ None)
+    (λ same. absurd (let le : nat_le made ahead ≡ true = grind (arith, nat_tests) in let no : true ≡ false = sym le ∙ h in cc))
+    (λ same. refl)
 
 past_event : (e : Option Event) (made ahead : ℕ) → is_some e && nat_le made ahead ≡ false → is_some e && nat_le (suc made) ahead ≡ false
 past_event None made ahead h = refl

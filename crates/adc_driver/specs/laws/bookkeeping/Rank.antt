@@ -1,5 +1,6 @@
 -- The steps that a body of the driver has left, and the moves of its window, at most, at any place, reached or not.
--- Used by bookkeeping.WindowBounds, bookkeeping.Decreases, bookkeeping.CallBounds, bookkeeping.SizeBounds and 8 more.
+-- From adc_groups: services.Decisions, adc_groups: words.WindowWords.
+-- Used by bookkeeping.WindowBounds, bookkeeping.Decreases, bookkeeping.CallBounds, bookkeeping.BodiesRight and 8 more.
 use Rattle.std.proofs.Common.{◌+◌, ◌-◌, ◌*◌, if◌then◌else◌}
 use Rattle.adc_driver.specs.Terms
 use Terms.{Aborts, adc_bodies, adc_windows, AdcBody, AdcGround, AdcTable, all_rooms, bare, Bool, Chooses, Continuation}

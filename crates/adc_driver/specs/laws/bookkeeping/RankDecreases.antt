@@ -1,6 +1,6 @@
 -- The steps and moves that bodies have left are those of their places, also while they owe moves; and each step leaves fewer.
--- From bookkeeping.Rank, bookkeeping.Decreases.
--- Used by bookkeeping.MaskDiscipline, bookkeeping.BodiesRight.
+-- From bookkeeping.Rank, bookkeeping.Decreases, adc_groups: services.BodySteps.
+-- Used by bookkeeping.BodiesRight, bookkeeping.MaskDiscipline.
 use Rattle.std.proofs.Common.{◌≡◌, ◌+◌, ◌-◌, ◌&&◌, ◌||◌, ◌∷◌, if◌then◌else◌}
 use Rattle.adc_driver.specs.Terms
 use Terms.{AdcBody, AdcTable, all_rooms, ap, body_takes, Bool, Continuation, drop, false, is_some, List, Makes, nat_le}

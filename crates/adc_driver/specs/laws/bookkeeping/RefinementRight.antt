@@ -1,4 +1,5 @@
 -- What the driver stands on is a basis, and its bodies are right where they are at the places that owe moves and at the others.
+-- From adc_groups: bookkeeping.PendingWritesRight, adc_groups: services.BodySteps, service_outline: Owing.
 -- Used by bookkeeping.Lawful.
 use Rattle.adc_driver.specs.Terms
 use Terms.{adc_basis_right, adc_bodies, adc_windows, AdcBody, AdcGround, AdcTable, alike_chips, AreEnding, AreFree}

@@ -1,21 +1,19 @@
 -- What bounds the steps of places: the inputs of groups, and numbers that grow with them.
--- From bookkeeping.Rank.
--- Used by bookkeeping.WindowBounds, bookkeeping.CallBounds, bookkeeping.MaskDiscipline, bookkeeping.Decreases.
+-- From bookkeeping.Rank, adc_groups: words.Cases, adc_groups: services.Decisions, adc_groups: words.WordsOfModule.
+-- Used by bookkeeping.WindowBounds, bookkeeping.CallBounds, bookkeeping.Decreases, bookkeeping.MaskDiscipline.
 use Rattle.std.proofs.Common.{◌≡◌, ◌<◌, ◌≤◌, ◌==◌, [], ◌∷◌, if◌then◌else◌}
 use Rattle.adc_driver.specs.Terms
 use Terms.{AdcTable, ap, arith, Bool, cond, false, FitsAdc, Group, group_of, inputs_of, inputs_on, is_on, is_some}
 use Terms.{length, limited, List, lists_for, max, most_inputs, most_inputs_in, nat_lt, nat_tests, None, Option, refl}
-use Terms.{slice_index_or, Some, subst, suc, sym, true, within, zero, ℕ}
+use Terms.{slice_index_or, Some, some_or_none, subst, suc, sym, true, whether, whether_as, within, zero, ℕ}
 use Rattle.adc_driver.specs.laws.bookkeeping.Rank.{and_then, inputs_at, largest, largest_below}
 
 -- ---- numbers
 
 pub limited_few : (v m : ℕ) → limited v m ≤ m
-limited_few v m = by (nat_lt v m) refl
-  where
-    by : (q : Bool) → nat_lt v m ≡ q → (if q then v else m) ≤ m
-    by true e = grind (arith, nat_tests)
-    by false e = omega arith
+limited_few v m = whether_as (nat_lt v m) (λ q. (if q then v else m) ≤ m)
+    (λ e. grind (arith, nat_tests))
+    (λ e. omega arith)
 
 pub lists_more : (m n : ℕ) → m ≤ n → lists_for m ≤ lists_for n
 lists_more m n le = omega (arith, le)
@@ -28,19 +26,15 @@ and_then_more false m n le = omega arith
 
 pub below_largest : (d : AdcTable) (n g : ℕ) → g < n → inputs_at d g ≤ largest_below d n
 below_largest d zero g lt = absurd (omega (arith, lt))
-below_largest d (suc n) g lt = by (g == n) refl (below_largest d n g)
-  where
-    by : (q : Bool) → (g == n) ≡ q → (g < n → inputs_at d g ≤ largest_below d n) → inputs_at d g ≤ max (inputs_at d n) (largest_below d n)
-    by true e below = let same : g ≡ n = grind (arith, nat_tests) in subst (λ z. inputs_at d z ≤ max (inputs_at d n) (largest_below d n)) (sym same) (omega arith)
-    by false e below = let less : g < n = grind (arith, nat_tests, lt) in let le = below less in omega (arith, le)
+below_largest d (suc n) g lt = whether (g == n)
+    (λ e. let same : g ≡ n = grind (arith, nat_tests) in subst (λ z. inputs_at d z ≤ max (inputs_at d n) (largest_below d n)) (sym same) (omega arith))
+    (λ e. let less : g < n = grind (arith, nat_tests, lt) in let le = below_largest d n g less in omega (arith, le))
 
 -- no group has more than the largest
 pub in_largest : (d : AdcTable) (g : ℕ) → inputs_at d g ≤ largest d
-in_largest d g = by (group_of d g) refl
-  where
-    by : (k : Option Group) → group_of d g ≡ k → inputs_at d g ≤ largest d
-    by None e = let none : inputs_at d g ≡ 0 = ap (λ k. length (inputs_of k)) e in omega (arith, none)
-    by (Some k) e = below_largest d 16 g (within d g (ap (λ k. is_some k) e))
+in_largest d g = some_or_none (group_of d g)
+    (λ k e. below_largest d 16 g (within d g (ap (λ k. is_some k) e)))
+    (λ e. let none : inputs_at d g ≡ 0 = ap (λ k. length (inputs_of k)) e in omega (arith, none))
 
 -- no group of a unit has more than the largest of the unit
 on_most : (ks : List (Option Group)) (u g : ℕ) → is_on u (slice_index_or ks g None) ≡ true → length (inputs_of (slice_index_or ks g None)) ≤ most_inputs_in ks u

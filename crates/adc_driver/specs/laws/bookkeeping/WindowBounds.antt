@@ -1,5 +1,5 @@
 -- What each window decides costs no more than was counted for it.
--- From bookkeeping.Rank, bookkeeping.SizeBounds.
+-- From adc_groups: services.Decisions, bookkeeping.Rank, bookkeeping.SizeBounds and 2 more.
 -- Used by bookkeeping.Decreases, bookkeeping.BeginBounds.
 use Rattle.std.proofs.Common.{◌≡◌, ◌+◌, ◌-◌, ◌*◌, ◌<◌, ◌≤◌, ◌==◌, ◌&&◌, [], ◌∷◌, ◌++◌, ◌∙◌, if◌then◌else◌}
 use Rattle.adc_driver.specs.Terms
@@ -12,10 +12,10 @@ use Terms.{list_deed, lists_for, looked, looking, makes, making, map, most_input
 use Terms.{no_answer, None, not, nothing_more, off_where, one_more, Option, order_of, Outside, over, owed, Phase}
 use Terms.{phase_in, point_by, pulse_by, put_start, quieted, Quits, range_with_len, rank_of, ranks_of, read_by, refl}
 use Terms.{refused, ResultBuffer, round_seen, rounds_of, RoundSeen, samples_of, Seeks, serve, Serves, serving, Set}
-use Terms.{set_up, shape_room, Some, sought, start_deeds, stop, stop_seen, stop_service, stop_turn, stopping, StopSeen}
-use Terms.{stores, suc, survey, survey_by, surveyed, Suspended, take_by, Taken, taken_away, takes_one, Tells}
-use Terms.{trigger_bit, trigger_input, trio_of, true, turn_shape, unit_in, unit_of, Window, word_seen, yields_by, zero}
-use Terms.{ℕ}
+use Terms.{set_up, shape_room, Some, sought, start_deeds, stop, stop_seen, stop_service, stop_turn, stopping}
+use Terms.{StopSeen, stores, suc, survey, survey_by, surveyed, Suspended, take_by, Taken, taken_away, takes_one}
+use Terms.{Tells, trigger_bit, trigger_input, trio_of, true, turn_shape, unit_in, unit_of, whether_as, Window}
+use Terms.{word_seen, yields_by, zero, ℕ}
 use Rattle.adc_groups.specs.declared.making.WindowWrite.TheVariants.{Write}
 use Rattle.adc_driver.specs.laws.bookkeeping.Rank.{and_then, begin_cost, begins_after, claims_after, converting}
 use Rattle.adc_driver.specs.laws.bookkeeping.Rank.{copied_cost, cost, counts_after, decided_cost, inputs_at, largest}
@@ -43,11 +43,9 @@ Covers q d n (Goes k) = cost q d k ≤ n
 
 -- values are copied by two moves each, where there are any
 pub copies_few : (d : AdcTable) (c : streams.Copied) (a : Copied) (o : Outside) (m n : ℕ) → count_of c ≤ m → copied_cost d a ≤ n → out_cost d o ≤ n → out_cost d (copies_or (copying c) a o) ≤ 2 * m + n
-copies_few d c a o m n few le go = by (count_of c == 0) refl
-  where
-    by : (q : Bool) → (count_of c == 0) ≡ q → out_cost d (copies_or (if q then None else Some (record { what = c; done = 0; value = None })) a o) ≤ 2 * m + n
-    by true e = omega (arith, go)
-    by false e = let some : 0 < count_of c = grind (arith, nat_tests, e) in omega (arith, some, few, le)
+copies_few d c a o m n few le go = whether_as (count_of c == 0) (λ q. out_cost d (copies_or (if q then None else Some (record { what = c; done = 0; value = None })) a o) ≤ 2 * m + n)
+    (λ e. omega (arith, go))
+    (λ e. let some : 0 < count_of c = grind (arith, nat_tests, e) in omega (arith, some, few, le))
 
 pub begin_opens : (q : Bool) (d : AdcTable) (u : ℕ) → and_then q (open_cost d (Closes (windows.Begin u))) ≤ and_then q (begins_after d)
 begin_opens true d u = omega arith
@@ -99,11 +97,9 @@ conversion_few : (q : Bool) (d : AdcTable) (u g e left n : ℕ) (c : Bool) → l
 conversion_few q d u g e left n c le = let few = start_length d u g e left c in let more = lists_more left n le in omega (arith, few, more)
 
 quieted_length : (d : AdcTable) (g : ℕ) → length (quieted d g) ≤ 4
-quieted_length d g = by (is_some (trigger_input (group_of d g)))
-  where
-    by : (q : Bool) → length (Set (words.Phase g) 0 ∷ Set (words.Notified g) 0 ∷ off_where q (trigger_bit d g)) ≤ 4
-    by true = omega arith
-    by false = omega arith
+quieted_length d g = whether_as (is_some (trigger_input (group_of d g))) (λ q. length (Set (words.Phase g) 0 ∷ Set (words.Notified g) 0 ∷ off_where q (trigger_bit d g)) ≤ 4)
+    (λ _. omega arith)
+    (λ _. omega arith)
 
 stop_length : (d : AdcTable) (u g : ℕ) (run lost : Bool) → length (quieted d g ++ (taken_away run u ++ (claim_lost lost u ++ Set (words.Turn g) 0 ∷ []))) ≤ 9
 stop_length d u g run lost = let k = length-append (quieted d g) (taken_away run u ++ (claim_lost lost u ++ Set (words.Turn g) 0 ∷ [])) in let n = quieted_length d g in let m = by run lost in omega (arith, k, n, m)
@@ -115,11 +111,9 @@ stop_length d u g run lost = let k = length-append (quieted d g) (taken_away run
     by false false = omega arith
 
 stop_few : (q : Bool) (d : AdcTable) (u g : ℕ) (x : StopSeen) → making_cost q d (stopping d u g x) ≤ 15 + and_then q (begins_after d)
-stop_few q d u g x = by (x.turn == 0)
-  where
-    by : (b : Bool) → making_cost q d (if b then making (Some events.Act) (quieted d g) nothing_more else stop_turn d u g x) ≤ 15 + and_then q (begins_after d)
-    by true = let n = quieted_length d g in omega (arith, n)
-    by false = let n = stop_length d u g (x.running == 1 + g) (x.claim == 2 + g) in let le = begin_opens q d u in omega (arith, n, le)
+stop_few q d u g x = whether_as (x.turn == 0) (λ b. making_cost q d (if b then making (Some events.Act) (quieted d g) nothing_more else stop_turn d u g x) ≤ 15 + and_then q (begins_after d))
+    (λ _. let n = quieted_length d g in omega (arith, n))
+    (λ _. let n = stop_length d u g (x.running == 1 + g) (x.claim == 2 + g) in let le = begin_opens q d u in omega (arith, n, le))
 
 off_length : (b : Bool) (v : ℕ) (u : ℕ) → length (off_where b v ++ Set (words.Claim u) 0 ∷ []) ≤ 3
 off_length true v u = omega arith
@@ -170,11 +164,9 @@ looked_covers q d w c p = by (c == 0) (is_under_way (phase_in p)) (takes_one d)
     by _ _ o = refl
 
 pub surveyed_covers : (q : Bool) (d : AdcTable) (w : Window) (g p : ℕ) → Covers q d (15 - g + begin_cost q d w) (surveyed d w g p)
-surveyed_covers q d w g p = by (is_under_way (phase_in p))
-  where
-    by : (b : Bool) → Covers q d (15 - g + begin_cost q d w) (if b then refused d w errors.AdcBusy else Goes (survey d w (g + 1)))
-    by true = refl
-    by false = let le = survey_few q d w (g + 1) in omega (arith, le)
+surveyed_covers q d w g p = whether_as (is_under_way (phase_in p)) (λ b. Covers q d (15 - g + begin_cost q d w) (if b then refused d w errors.AdcBusy else Goes (survey d w (g + 1))))
+    (λ _. refl)
+    (λ _. let le = survey_few q d w (g + 1) in omega (arith, le))
 
 set_covers : (q : Bool) (d : AdcTable) (g : ℕ) (b : ResultBuffer) (p : ℕ) → Covers q d 1 (set_up d g b p)
 set_covers q d g b p = by (p == 0)
@@ -291,9 +283,7 @@ sought_covers q d (windows.Suspend u g) x = by (nat_lt x 16 && nat_lt (rank_of d
 sought_covers q d (windows.Begin u) x =
     elim (nat_lt x 16) as (λ b. Covers q d (converting (largest d)) (if b then Goes (looking (windows.Convert u x false)) else over))
     [ true ↦ converts_few q d u x false | false ↦ refl ]
-sought_covers q d (windows.Leave u) x = by (nat_lt x 16)
-  where
-    by : (b : Bool) → Covers q d (converting (largest d)) (if b then Goes (looking (windows.Convert u x true)) else Goes (Quits u))
-    by true = converts_few q d u x true
-    by false = omega arith
+sought_covers q d (windows.Leave u) x = whether_as (nat_lt x 16) (λ b. Covers q d (converting (largest d)) (if b then Goes (looking (windows.Convert u x true)) else Goes (Quits u)))
+    (λ _. converts_few q d u x true)
+    (λ _. omega arith)
 sought_covers q d _ x = refl

@@ -1,5 +1,6 @@
 -- What is known in windows stays so while the hardware moves: it leaves the module's state but for marks, which it drops none of,
 -- the module's words, and the list registers; and time goes on.
+-- From adc_groups: hardware.HardwareCommutes, service_outline: Owing, service_outline: SimpleMoves.
 -- Used by bookkeeping.NoneWaits, bookkeeping.BodiesRight.
 use Rattle.std.proofs.Common.{◌≡◌, ◌<◌, ◌≤◌, ◌==◌, [], ◌∷◌, ◌∙◌, if◌then◌else◌}
 use Rattle.adc_driver.specs.Terms

@@ -1,5 +1,5 @@
 -- How many inputs of an aborted round have ended is read, with the mask open; their values are copied next.
--- From bookkeeping.KeptReservations, words.KeptWords.
+-- From bookkeeping.KeptReservations, adc_groups: services.BodySteps, adc_groups: words.WordsOfModule and 3 more.
 -- Used by services.OutsideSteps.
 use Rattle.std.proofs.Common.{◌≡◌, ◌+◌, ◌-◌, ◌<◌, ◌≤◌, ◌==◌, ◌∙◌, if◌then◌else◌}
 use Rattle.adc_driver.specs.Terms

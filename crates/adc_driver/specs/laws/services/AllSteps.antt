@@ -1,5 +1,5 @@
 -- Each step of the driver's bodies, at each place that owes no move.
--- From services.LookSteps, services.MakeSteps.
+-- From services.LookSteps, adc_groups: services.BodySteps, services.MakeSteps.
 -- Used by bookkeeping.BodiesRight.
 use Rattle.std.proofs.Common.{◌≡◌, ◌<◌}
 use Rattle.adc_driver.specs.Terms

@@ -1,5 +1,5 @@
 -- What the load of the state word decides for a call, and where handlers begin: what the driver owes of these.
--- From services.CallBegins, services.ErrorsFound, services.InitRight, bookkeeping.Lawful and 3 more.
+-- From services.CallBegins, adc_groups: services.LookSteps, services.ErrorsFound, bookkeeping.Lawful and 10 more.
 -- Used by bookkeeping.Joined, bookkeeping.BeginBounds.
 use Rattle.std.proofs.Common.{◌≡◌, ◌+◌, ◌-◌, ◌<◌, ◌≤◌, ◌==◌, [], ◌∷◌, ◌∙◌, if◌then◌else◌}
 use Rattle.adc_driver.specs.Terms

@@ -1,4 +1,5 @@
 -- Where the body of a call begins, how its frame stands there.
+-- From adc_groups: services.Decisions, adc_groups: services.DeInitRight, adc_groups: services.LookSteps and 2 more.
 -- Used by services.BeginSteps.
 use Rattle.std.proofs.Common.{◌≡◌, []}
 use Rattle.adc_driver.specs.Terms

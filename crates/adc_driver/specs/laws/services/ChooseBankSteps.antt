@@ -1,5 +1,5 @@
 -- A handler chooses a bank for a finished round, and Adc_ReadGroup looks which bank is the newest: each takes the right step.
--- From services.LookRight.
+-- From services.LookRight, adc_serving: services.PinRight, adc_serving: services.TakeRoundSteps.
 -- Used by services.LookSteps.
 use Rattle.std.proofs.Common.{◌≡◌}
 use Rattle.adc_driver.specs.Terms

@@ -1,4 +1,5 @@
 -- Which errors of a call the state word and its arguments show: they are the machine's, and where there is none the call may go on.
+-- From adc_groups: services.LookSteps.
 -- Used by services.BeginSteps.
 use Rattle.std.proofs.Common.{◌≡◌, if◌then◌else◌}
 use Rattle.adc_driver.specs.Terms

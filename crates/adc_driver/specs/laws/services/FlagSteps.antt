@@ -1,5 +1,5 @@
 -- A handler reads whether its line is ready, and takes the right step by that.
--- From services.LookRight.
+-- From services.LookRight, adc_groups: services.CallSteps, adc_serving: services.TakeRoundSteps.
 -- Used by services.LookSteps.
 use Rattle.adc_driver.specs.Terms
 use Terms.{AdcBody, AdcState, AdcTable, Agrees, Bool, Call, Chip, FitsAdc, Flag, FrameHistory, InFlag, Origin}

@@ -1,13 +1,13 @@
 -- The handler of a line that an object uses begins at the register that tells whether the line is ready.
--- From bookkeeping.BelowFrames.
+-- From bookkeeping.BelowFrames, adc_groups: hardware.OtherModules, adc_groups: words.Cases.
 -- Used by services.BeginSteps.
 use Rattle.std.proofs.Common.{◌≡◌, ◌+◌, ◌-◌, ◌<◌, ◌≤◌, ◌&&◌, ◌||◌, [], ◌∷◌, if◌then◌else◌}
 use Rattle.adc_driver.specs.Terms
 use Terms.{adc_bodies, adc_setting, AdcBody, AdcGround, AdcState, AdcTable, Agrees, AllLower, ap, arith, AssertedAt}
-use Terms.{Bool, by_line, Chip, cond, Entered, false, first_on, first_on_input, FitsAdc, fresh_history, Group, group_of}
-use Terms.{group_of_input, group_on, handled_body, has_input, is_some, Is_this_frame, is_trigger_line, is_unit_line}
-use Terms.{is_used, length, level_of, List, nat_lt, nat_tests, None, Option, refl, Reservations, slice_index_or, subst}
-use Terms.{suc, sym, true, unit_level, World, zero, ℕ}
+use Terms.{Bool, by_line, Chip, cond, Entered, false, first_on, first_on_input, FitsAdc, fresh_history, Group}
+use Terms.{group_of, group_of_input, group_on, handled_body, has_input, is_some, Is_this_frame, is_trigger_line}
+use Terms.{is_unit_line, is_used, length, level_of, List, nat_lt, nat_tests, None, Option, refl, Reservations}
+use Terms.{slice_index_or, subst, suc, sym, true, unit_level, whether_as, World, zero, ℕ}
 use Rattle.adc_driver.specs.laws.bookkeeping.BelowFrames.{alone_on}
 
 -- ---- the group of a trigger input
@@ -24,17 +24,15 @@ found_at i (k ∷ ks) e = by (has_input i k) refl e (λ z. found_at i ks z)
 -- where one of so many groups is triggered by the input, so is the first that is found
 found_first : (d : AdcTable) (i many from n : ℕ) → from ≤ n → n < from + many → has_input i (group_of d n) ≡ true → has_input i (group_of d (first_on d i many from)) ≡ true
 found_first d i zero from n le lt on = absurd (omega (arith, le, lt))
-found_first d i (suc many) from n le lt on = by (has_input i (group_of d from)) refl (λ more. found_first d i many (from + 1) n more (omega (arith, lt)) on)
+found_first d i (suc many) from n le lt on = whether_as (has_input i (group_of d from)) (λ q. has_input i (group_of d (if q then from else first_on d i many (from + 1))) ≡ true)
+    (λ e. e)
+    (λ e. found_first d i many (from + 1) n (past from n e on le) (omega (arith, lt)) on)
   where
     past : (from n : ℕ) → has_input i (group_of d from) ≡ false → has_input i (group_of d n) ≡ true → from ≤ n → from + 1 ≤ n
     past from n off on le = grind (arith, le, ne from n off on)
       where
         ne : (from n : ℕ) → has_input i (group_of d from) ≡ false → has_input i (group_of d n) ≡ true → from ≡ n → ⊥
         ne from n off on e = let same : has_input i (group_of d from) ≡ has_input i (group_of d n) = ap (λ m. has_input i (group_of d m)) e in absurd (cc)
-
-    by : (q : Bool) → has_input i (group_of d from) ≡ q → (from + 1 ≤ n → has_input i (group_of d (first_on d i many (from + 1))) ≡ true) → has_input i (group_of d (if q then from else first_on d i many (from + 1))) ≡ true
-    by true e rest = e
-    by false e rest = rest (past from n e on le)
 
 module _ (d : AdcTable) (fits : FitsAdc d) where
   -- a used input has a group below the last number

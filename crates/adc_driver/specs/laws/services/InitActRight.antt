@@ -1,16 +1,17 @@
 -- The move at which Adc_Init acts: the words that it has cleared stand for the machine's fresh state.
--- From services.InitWords.
+-- From adc_groups: services.InitSteps, adc_groups: words.WordsAtRest, services.InitWords and 5 more.
 -- Used by services.InitRight.
 use Rattle.std.proofs.Common.{◌≡◌, ◌≢◌, ◌+◌, ◌-◌, ◌*◌, ◌/◌, ◌%◌, ◌<◌, ◌≤◌, ◌||◌, ◌==◌, [], ◌∷◌, ◌∙◌}
 use Rattle.std.proofs.Common.{if◌then◌else◌}
 use Rattle.adc_driver.specs.Terms
 use Terms.{AdcState, AdcTable, Agrees, all_groups, ap, arith, Bool, Chip, chip_after, clear_at, clear_count}
 use Terms.{cleared_word, cond, empty, false, first_of, FitsAdc, fresh, group_clear, group_of, GroupAgrees, has_bit}
-use Terms.{is_on, is_some, is_trigger_line, is_unit_line, IsCleared, IsOrder, IsSound, IsSoundGroup, IsZero, List, Load}
-use Terms.{nat_lt, nat_tests, next_among, next_of, None, none_found, Option, order_of, Promised, refl, rests_agree}
+use Terms.{is_on, is_some, is_trigger_line, is_unit_line, IsCleared, IsOrder, IsSound, IsZero, List, Load, nat_lt}
+use Terms.{nat_tests, next_among, next_of, None, none_found, Option, order_of, Promised, refl, rests_agree}
 use Terms.{result_past, result_word, rounds_of, Settled, Some, stands-move, start_from, STATE, Store, stored_other}
 use Terms.{stored_same, subst, suc, trio_past, true, unit_word, UnitAgrees, waits_for, within, word_number, word_of}
 use Terms.{World, zero, ℕ}
+use Rattle.adc_groups.specs.laws.hardware.AfterReset.{untouched_sound}
 use Rattle.adc_driver.specs.laws.services.InitWords.{clearing, off_quiet}
 use Rattle.adc_groups.specs.declared.words.Word.TheVariants as words
 use Rattle.mcal_base.specs.facts.Truths.{and_false}
@@ -22,24 +23,9 @@ AreOn v = (l : ℕ) → is_unit_line l || is_trigger_line l ≡ true → has_bit
 -- ---- the fresh state
 
 module _ (d : AdcTable) (w : World) (s : AdcState) where
-  group_fresh : (g : ℕ) → IsSoundGroup d (fresh s) g
-  group_fresh g = record {
-    configured = λ e. refl;
-    chosen = λ e. absurd (e refl);
-    turn = λ e. refl;
-    trigger = λ e. refl;
-    input = λ e. absurd (cc);
-    going = λ e. absurd (cc);
-    rounds = λ e. absurd (cc);
-    stream = λ e. absurd (cc);
-    linear = λ e. omega arith;
-    lasts = λ e. absurd (cc);
-    whole = λ r i e. absurd (cc);
-  }
-
   fresh_sound : IsSound d w (fresh s)
   fresh_sound = record {
-    groups = group_fresh;
+    groups = λ g. untouched_sound (group_of d g);
     waits = λ g q e. absurd (cc);
     runs = λ u r e. absurd (cc);
     marks = λ i e. absurd (cc);

@@ -1,6 +1,6 @@
 -- Adc_Init: it clears words with the mask open, and in its last window it enables the lines and acts.
--- From services.InitWords, services.InitActRight.
--- Used by bookkeeping.NoneWaitsPlaces, services.BeginSteps, bookkeeping.Joined.
+-- From adc_groups: services.InitSteps, services.InitWords, services.InitActRight and 7 more.
+-- Used by bookkeeping.NoneWaitsPlaces, bookkeeping.Joined, services.BeginSteps.
 use Rattle.std.proofs.Common.{◌≡◌, ◌+◌, ◌-◌, ◌*◌, ◌<◌, ◌≤◌, ◌&&◌, ◌||◌, [], ◌∷◌, ◌∙◌, if◌then◌else◌}
 use Rattle.adc_driver.specs.Terms
 use Terms.{acts_by, adc_basis_right, AdcGround, AdcState, AdcTable, Agrees, ap, AreLong, arith, AssertedAt, begins_word}
@@ -13,7 +13,7 @@ use Terms.{place_at, PointAssertion, refl, Reservations, resets_chip, rests_agre
 use Terms.{setup_count, setup_move, Shortens, slice_index_or, Some, stands-move, STATE, steps_of, Store, subst, suc}
 use Terms.{Sweep, sweep, sweep_right, Sweeping, sym, tells_nothing, true, TurnsTo, Under, value_of, with_holds, Within}
 use Terms.{World, world_after, Write, zero, ℕ}
-use Rattle.service_outline.specs.declared.sweep.Place.TheVariants.{Opens}
+use Rattle.service_outline.specs.declared.sweep.SweepStage.TheVariants.{Opens}
 use Rattle.adc_driver.specs.laws.{services.InitWords.{clearing, clears_calm, clears_may, clears_past, clears_step}}
 use Rattle.adc_driver.specs.laws.{services.InitWords.{off_quiet}, services.InitActRight.{AreOn, renewed}}
 use Rattle.mcal_base.specs.declared.service.Service.TheVariants as services

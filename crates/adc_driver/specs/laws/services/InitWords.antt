@@ -1,14 +1,15 @@
 -- What Adc_Init clears with the mask open, a word after the other, of a module that is uninitialised.
+-- From adc_groups: services.InitSteps, adc_groups: words.WordsAtRest, adc_groups: words.WordsOfModule and 3 more.
 -- Used by services.InitRight, services.InitActRight, services.BeginSteps.
-use Rattle.std.proofs.Common.{◌≡◌, ◌≢◌, ◌+◌, ◌-◌, ◌/◌, ◌%◌, ◌<◌, ◌==◌, [], ◌∷◌, ◌∙◌, ◌⊎◌, if◌then◌else◌}
+use Rattle.std.proofs.Common.{◌≡◌, ◌≢◌, ◌+◌, ◌-◌, ◌/◌, ◌%◌, ◌<◌, ◌==◌, [], ◌∷◌, ◌∙◌, if◌then◌else◌}
 use Rattle.adc_driver.specs.Terms
-use Terms.{AdcState, AdcTable, Agrees, ap, arith, begins_word, Bool, Called, Chip, chip_after, Chosen, clear_at}
-use Terms.{clear_words, cleared_word, Clears, false, first_words, FitsAdc, fresh_history, group_clear, group_of}
-use Terms.{group_word, inl, inr, is_some, is_word, IsCleared, IsOwnStore, IsQuiet, IsSound, IsZero, Load, may, Move}
-use Terms.{nat_lt, nat_tests, None, Notified, own_of, past_wrote, place_apart, refl, Reservations, resets_chip}
-use Terms.{rests_agree, result_past, result_word, ResultBuffer, rounds_of, same_or_other, stands-move, start_from}
-use Terms.{STATE, Store, stored_other, stored_same, subst, sym, trio_apart, trio_of, trio_past, true, Turn, unit_word}
-use Terms.{and_from, word_number, word_of, WORDS, words_below, World, ℕ}
+use Terms.{AdcState, AdcTable, Agrees, and_from, ap, arith, begins_word, Bool, Called, cases, Chip, chip_after}
+use Terms.{Chosen, clear_at, clear_words, cleared_word, Clears, false, first_words, FitsAdc, fresh_history}
+use Terms.{group_clear, group_of, group_word, inl, inr, is_some, is_word, IsCleared, IsOwnStore, IsQuiet, IsSound}
+use Terms.{IsZero, Load, may, Move, nat_lt, nat_tests, None, Notified, own_of, past_wrote, place_apart, refl}
+use Terms.{Reservations, resets_chip, rests_agree, result_past, result_word, ResultBuffer, rounds_of, same_or_other}
+use Terms.{stands-move, start_from, STATE, Store, stored_other, stored_same, subst, sym, trio_apart, trio_of}
+use Terms.{trio_past, true, Turn, unit_word, whether_as, word_number, word_of, WORDS, words_below, World, ℕ}
 use Rattle.adc_groups.specs.declared.words.Word.TheVariants.{Phase}
 use Rattle.adc_machine.specs.declared.call.Call.TheVariants as calls
 use Rattle.mcal_base.specs.facts.Numbers.{lt_from}
@@ -86,15 +87,13 @@ module _ (d : AdcTable) (fits : FitsAdc d) where
       by false false false = group_spare g 3 there (omega arith)
 
   pub spared : (i : ℕ) → IsSpared d (clear_at d i)
-  spared i = by (nat_lt i 6) refl
+  spared i = whether_as (nat_lt i 6) (λ q. IsSpared d (if q then Store (unit_word d (i / 3) (i % 3)) 0 else group_clear d ((i - 6) / 4) ((i - 6) % 4)))
+      (λ e. let lt : i < 6 = grind (arith, nat_tests) in (unit_spare (i / 3) (i % 3) (omega (arith, lt)), refl))
+      (λ e. of_group ((i - 6) / 4) ((i - 6) % 4) (is_some (group_of d ((i - 6) / 4))) refl)
     where
       of_group : (g at : ℕ) (q : Bool) → is_some (group_of d g) ≡ q → IsSpared d (if q then Store (word_number d (cleared_word g at)) 0 else Load STATE)
       of_group g at true e = (low_spare g at e, refl)
       of_group g at false e = tt
-
-      by : (q : Bool) → nat_lt i 6 ≡ q → IsSpared d (if q then Store (unit_word d (i / 3) (i % 3)) 0 else group_clear d ((i - 6) / 4) ((i - 6) % 4))
-      by true e = let lt : i < 6 = grind (arith, nat_tests) in (unit_spare (i / 3) (i % 3) (omega (arith, lt)), refl)
-      by false e = of_group ((i - 6) / 4) ((i - 6) % 4) (is_some (group_of d ((i - 6) / 4))) refl
 
   -- ---- a frame may make them
 
@@ -143,11 +142,9 @@ module _ (d : AdcTable) (fits : FitsAdc d) (chip : Chip) (w : World) (s : AdcSta
     zero_stays _ at e = tt
 
     zeros : (j : ℕ) → j < i + 1 → IsCleared d stored j
-    zeros j lt = by (same_or_other j i)
-      where
-        by : (j ≡ i) ⊎ (j ≢ i) → IsCleared d stored j
-        by (inl same) = subst (λ n. IsCleared d stored n) (sym same) (subst (λ z. IsZero stored z) (sym is) here)
-        by (inr ne) = zero_stays (clear_at d j) (spared d fits j) (h.right.0.2 j (omega (arith, lt, ne)))
+    zeros j lt = cases (same_or_other j i)
+        (λ same. subst (λ n. IsCleared d stored n) (sym same) (subst (λ z. IsZero stored z) (sym is) here))
+        (λ ne. zero_stays (clear_at d j) (spared d fits j) (h.right.0.2 j (omega (arith, lt, ne))))
 
     clears_word : Agrees d (clearing (i + 1)) stored w s
     clears_word = rests_agree d (clearing i) (clearing (i + 1)) chip stored w s s h (record {
@@ -193,11 +190,9 @@ module _ (d : AdcTable) (fits : FitsAdc d) (chip : Chip) (w : World) (s : AdcSta
   })
     where
       zeros : (j : ℕ) → j < i + 1 → IsCleared d chip j
-      zeros j lt = by (same_or_other j i)
-        where
-          by : (j ≡ i) ⊎ (j ≢ i) → IsCleared d chip j
-          by (inl same) = subst (λ n. IsCleared d chip n) (sym same) (subst (λ z. IsZero chip z) (sym is) tt)
-          by (inr ne) = h.right.0.2 j (omega (arith, lt, ne))
+      zeros j lt = cases (same_or_other j i)
+          (λ same. subst (λ n. IsCleared d chip n) (sym same) (subst (λ z. IsZero chip z) (sym is) tt))
+          (λ ne. h.right.0.2 j (omega (arith, lt, ne)))
 
   -- one more is cleared
   pub clears_step : Agrees d (clearing (i + 1)) (chip_after chip (clear_at d i) 0) w s

@@ -1,5 +1,5 @@
 -- Each step of a frame that copies the values of an aborted round behind those that were kept, with the mask open.
--- From bookkeeping.KeptReservations, words.KeptWords.
+-- From adc_groups: services.BodySteps, bookkeeping.KeptReservations, words.KeptWords and 2 more.
 -- Used by services.OutsideSteps.
 use Rattle.std.proofs.Common.{◌≡◌, ◌+◌, ◌<◌, ◌≤◌, ◌&&◌, ◌∙◌, if◌then◌else◌}
 use Rattle.adc_driver.specs.Terms
@@ -60,12 +60,12 @@ module _ (d : AdcTable) (fits : FitsAdc d) (f r : AdcBody → ℕ) (below : Rese
     many : length (inputs_of (group_of d q.group)) ≤ 32
     many = few_inputs d fits q.group (on_there q.unit (group_of d q.group) at)
 
-    abbrev Held : ℕ → Option ℕ → Chip → Type 0
-    Held j v c = Agrees d (keeper o p.acted q.unit (ground.Keeps q.unit q.group e (Some n) j v) below) c w s
+    abbrev AgreesKeeping : ℕ → Option ℕ → Chip → Type 0
+    AgreesKeeping j v c = Agrees d (keeper o p.acted q.unit (ground.Keeps q.unit q.group e (Some n) j v) below) c w s
 
     -- ---- the next value
 
-    module _ (h : Held i None chip) where
+    module _ (h : AgreesKeeping i None chip) where
       now : KeepsRight d chip s q.unit q.group e (Some n) i None → KeepsRight d chip s q.unit q.group e (Some n) i (Some (result_of chip q.unit i))
       now k =
           let v = got (kept_in d s q.group) (e + i) (within_ended e n ended (length (kept_in d s q.group)) i (k.told n refl) k.count less) in
@@ -84,15 +84,15 @@ module _ (d : AdcTable) (fits : FitsAdc d) (f r : AdcBody → ℕ) (below : Rese
 
     -- ---- it is stored
 
-    module _ (x : ℕ) (h : Held i (Some x) chip) where
+    module _ (x : ℕ) (h : AgreesKeeping i (Some x) chip) where
       abbrev later : Chip
       later = chip_after chip (Store (kept_word (rounds_of d q.group) (place_sum e i)) x) 0
 
       same_place : place_sum e i ≡ e + i
       same_place = few_sum e i (few_first e n (length (inputs_of (group_of d q.group))) most many) (few_second e n (length (inputs_of (group_of d q.group))) i most many less)
 
-      stored : Held (i + 1) None later
-      stored = subst (λ k. Held (i + 1) None (chip_after chip (Store (kept_word (rounds_of d q.group) k) x) 0)) (sym same_place) (kept_agrees d fits below chip w s o p.acted q.unit q.group e (Some n) i x h (within_all e n (length (inputs_of (group_of d q.group))) i most less))
+      stored : AgreesKeeping (i + 1) None later
+      stored = subst (λ k. AgreesKeeping (i + 1) None (chip_after chip (Store (kept_word (rounds_of d q.group) k) x) 0)) (sym same_place) (kept_agrees d fits below chip w s o p.acted q.unit q.group e (Some n) i x h (within_all e n (length (inputs_of (group_of d q.group))) i most less))
 
       whole : nat_lt (i + 1) n ≡ false → KeepsRight d later s q.unit q.group e (Some n) (i + 1) None → WholeRight d later s q.unit q.group q.kept
       whole over k =
@@ -112,7 +112,7 @@ module _ (d : AdcTable) (fits : FitsAdc d) (f r : AdcBody → ℕ) (below : Rese
       pub puts_right : StepAt what i (Some x) q o p
       puts_right = stands (nat_lt (i + 1) n) refl
 
-    keeps_right : (v : Option ℕ) → Held i v chip → StepAt what i v q o p
+    keeps_right : (v : Option ℕ) → AgreesKeeping i v chip → StepAt what i v q o p
     keeps_right None h = gets_right h
     keeps_right (Some x) h = puts_right x h
 

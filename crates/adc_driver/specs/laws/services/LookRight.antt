@@ -1,6 +1,6 @@
 -- Each window that looks at its words takes the right step, by what is known in it.
--- From adc_turns: services.StartLastStep, adc_turns: services.ClaimEndSteps, adc_turns: services.YieldSteps.
--- Used by services.LookSteps, services.SeekSteps, services.SurveySteps, services.ChooseBankSteps and 2 more.
+-- From adc_groups: services.CallSteps, adc_groups: services.BodySteps, adc_groups: services.SearchSteps and 6 more.
+-- Used by services.LookSteps, bookkeeping.NoneWaitsMaking, services.ChooseBankSteps, services.FlagSteps and 2 more.
 use Rattle.std.proofs.Common.{◌<◌}
 use Rattle.adc_driver.specs.Terms
 use Terms.{adc_bodies, AdcBody, AdcGround, AdcState, AdcTable, arith, AssertedAt, begin_looks, body_ends, body_work}

@@ -1,5 +1,5 @@
 -- The places with the mask closed at which a frame looks: each step is right.
--- From services.LookRight, services.ChooseBankSteps, services.FlagSteps, services.SeekSteps, services.SurveySteps.
+-- From services.LookRight, services.ChooseBankSteps, adc_groups: services.BodySteps, services.FlagSteps and 2 more.
 -- Used by services.AllSteps.
 use Rattle.std.proofs.Common.{◌≡◌}
 use Rattle.adc_driver.specs.Terms

@@ -1,6 +1,6 @@
 -- Each step of a window that makes its moves, while it owes none of them: it deals with what a call asks for, starts a round, serves
 -- one, or pins a bank.
--- From adc_turns: services.StartLastStep.
+-- From adc_groups: services.BodySteps, adc_groups: services.SingleWordSteps, adc_serving: services.PinRight and 2 more.
 -- Used by services.MakeSteps.
 use Rattle.std.proofs.Common.{◌≡◌, ◌<◌}
 use Rattle.adc_driver.specs.Terms

@@ -1,5 +1,5 @@
 -- Each step at the places where a window makes its moves, ends so, opens the mask, and where the mask is open.
--- From services.OutsideSteps, adc_turns: services.YieldSteps, adc_turns: services.ClaimEndRight, services.MakeRight.
+-- From services.OutsideSteps, adc_groups: services.BodySteps, services.MakeRight and 3 more.
 -- Used by services.AllSteps.
 use Rattle.std.proofs.Common.{◌≡◌}
 use Rattle.adc_driver.specs.Terms

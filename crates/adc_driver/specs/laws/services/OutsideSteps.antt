@@ -1,5 +1,5 @@
 -- Each step of a frame that opens the mask, and of one with the mask open.
--- From services.AbortCountSteps, services.KeepCopySteps.
+-- From adc_groups: services.BodySteps, adc_groups: services.MaskSteps, adc_serving: services.OpenMaskSteps and 4 more.
 -- Used by services.MakeSteps.
 use Rattle.adc_driver.specs.Terms
 use Terms.{adc_bodies, AdcBody, AdcGround, AdcState, AdcTable, AssertedAt, body_ends, body_work, Bool, Call, Chip}

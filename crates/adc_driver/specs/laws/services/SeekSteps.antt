@@ -1,5 +1,5 @@
 -- A window that seeks which request waits first on a unit takes the right step.
--- From adc_turns: services.ClaimEndSteps, services.LookRight.
+-- From adc_groups: services.SearchSteps, services.LookRight, adc_turns: services.ClaimEndSteps.
 -- Used by services.LookSteps.
 use Rattle.adc_driver.specs.Terms
 use Terms.{AdcBody, AdcState, AdcTable, Agrees, begin_seeks, Bool, Call, Chip, FitsAdc, foot_of, FrameHistory, Front}

@@ -1,5 +1,5 @@
 -- A request that surveys whether a group is under way takes the right step.
--- From services.LookRight.
+-- From adc_groups: services.BeginDecisions, services.LookRight, adc_groups: services.CallSteps and 1 more.
 -- Used by services.LookSteps.
 use Rattle.adc_driver.specs.Terms
 use Terms.{AdcBody, AdcState, AdcTable, Agrees, Begins, Begins_enable, Begins_start, Bool, Call, Chip, closing_surveys}

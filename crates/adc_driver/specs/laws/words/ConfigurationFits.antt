@@ -1,13 +1,14 @@
 -- What a driver that is made of a sound configuration is: its groups, their trigger inputs and the places of their words.
--- Used by mcal_system: proofs/Resting, mcal_drivers: proofs/SoundConverters, mcal_drivers: proofs/Joining.
+-- From adc_groups: words.Cases.
+-- Used by mcal_drivers: proofs/Joining, mcal_drivers: proofs/SoundConverters, mcal_system: proofs/Resting.
 use Rattle.std.proofs.Common.{◌≡◌, ◌+◌, ◌*◌, ◌<◌, ◌≤◌, ◌==◌, [], ◌∷◌, ◌∙◌, if◌then◌else◌}
 use Rattle.adc_driver.specs.Terms
 use Terms.{AdcConfig, AdcGroup, AdcHwUnit, AdcTable, AdcTriggerSource, All, ap, arith, Bool, cond, configured_input}
 use Terms.{count_by, count_by-le-length, end_of, false, FitsAdc, FitsGroup, found_in, get_or_default}
 use Terms.{get_or_from_slice_get, Group, group_of, groups_of, Hardware, input_by, input_count, inputs_of, is_some}
 use Terms.{length, level_in, List, nat_lt, nat_tests, None, object_count, Option, option_map, refl, slice_get}
-use Terms.{slice_get_within, slice_index_or, Software, Some, start_in, subst, suc, sum_by, sum_by-cons, sum_by-le, sym}
-use Terms.{table_of, taken, trigger_input, true, unit_level, words_for, zero, ℕ}
+use Terms.{slice_get_within, slice_index_or, Software, Some, start_in, subst, suc, sum_by, sum_by-cons, sum_by-le}
+use Terms.{sym, table_of, taken, trigger_input, true, unit_level, whether, whether_as, words_for, zero, ℕ}
 use Rattle.adc_machine.specs.Table.{group_in}
 use Rattle.mcal_base.specs.facts.Options.{some_is}
 
@@ -71,11 +72,9 @@ costs_are (k ∷ ks) =
 -- the words of a group of a greater number stand after those of one of a smaller
 starts_up : (xs : List AdcGroup) (g h : ℕ) → g ≤ h → start_in xs g ≤ start_in xs h
 starts_up xs g zero le = let none : g ≡ 0 = omega (arith, le) in rw (none) omega arith
-starts_up xs g (suc h) le = by (nat_lt h g) refl (starts_up xs g h)
-  where
-    by : (q : Bool) → nat_lt h g ≡ q → (g ≤ h → start_in xs g ≤ start_in xs h) → start_in xs g ≤ start_in xs (suc h)
-    by true e rest = let same : g ≡ suc h = grind (arith, nat_tests) in subst (λ n. start_in xs g ≤ start_in xs n) same (omega arith)
-    by false e rest = let low : g ≤ h = grind (arith, nat_tests) in let more = rest low in omega (arith, more)
+starts_up xs g (suc h) le = whether (nat_lt h g)
+    (λ e. let same : g ≡ suc h = grind (arith, nat_tests) in subst (λ n. start_in xs g ≤ start_in xs n) same (omega arith))
+    (λ e. let low : g ≤ h = grind (arith, nat_tests) in let more = starts_up xs g h low in omega (arith, more))
 
 last_start : (xs : List AdcGroup) → start_in xs 16 ≡ 64 + sum_by cost (groups_of xs)
 last_start xs =
@@ -122,11 +121,9 @@ module _ (x : AdcConfig) (sound : IsSound x) where
   IsTaken g k = (y : AdcGroup) × (found_in x.groups g ≡ Some y) × IsSoundGroup x.units y × (taken (start_in x.groups g) y ≡ k)
 
   group_at : (g : ℕ) → g < 16 → group_of d g ≡ group_in x.groups g
-  group_at g lt = by (nat_lt g 16) refl
-    where
-      by : (q : Bool) → nat_lt g 16 ≡ q → (if q then slice_index_or d.groups g None else None) ≡ group_in x.groups g
-      by true e = group_is x.groups g lt
-      by false e = absurd (let no : nat_lt g 16 ≡ true = grind (arith, nat_tests) in cc)
+  group_at g lt = whether_as (nat_lt g 16) (λ q. (if q then slice_index_or d.groups g None else None) ≡ group_in x.groups g)
+      (λ e. group_is x.groups g lt)
+      (λ e. absurd (let no : nat_lt g 16 ≡ true = grind (arith, nat_tests) in cc))
 
   taken_at : (g : ℕ) (k : Group) → group_of d g ≡ Some k → IsTaken g k
   taken_at g k e = by (found_in x.groups g) refl (sym (group_at g (low g k e)) ∙ e)

@@ -1,18 +1,19 @@
 -- A value of an aborted round is stored in a word of its group that keeps it: all else agrees as before.
--- Used by services.KeepCopySteps, services.AbortCountSteps, bookkeeping.KeptReservations.
+-- From adc_groups: words.WordsOfModule, adc_groups: hardware.StableUnderHardware and 5 more.
+-- Used by services.KeepCopySteps, bookkeeping.KeptReservations, services.AbortCountSteps.
 use Rattle.std.proofs.Common.{◌≡◌, ◌≢◌, ◌+◌, ◌*◌, ◌/◌, ◌%◌, ◌<◌, ◌≤◌, ◌&&◌, ◌||◌, ◌==◌, [], ◌∷◌, ◌∙◌, ◌⊎◌}
 use Rattle.std.proofs.Common.{if◌then◌else◌}
 use Rattle.adc_driver.specs.Terms
 use Terms.{AdcState, AdcTable, Agrees, AllRight, and_second, Answer, ap, arith, Bank, bank_below, bank_number}
-use Terms.{bank_word, Call, Chip, chip_after, claim_right, claims_on, Clears, Copies, eq_self, false}
-use Terms.{Fills, FitsAdc, Full, group_of, group_word, GroupAgrees, has_turn, HasWords, HeldRight, holds-agree, inl}
-use Terms.{inputs_of, inr, is_on, is_some, KeepsRight, kept_in, kept_within, kept_word, kept_words, length, length-set}
-use Terms.{listed_agree, nat_tests, None, not, on_there, Option, or_parts, order_of, order_own, Origin, own-control}
-use Terms.{own-word, own_of, ranges_apart, refl, Reservation, Reservations, ReservedBy, result_word, ResultBuffer}
-use Terms.{Round, round_at, rounds_of, same_or_other, slice_get, Some, some_hold, stands-agree, stands_words}
-use Terms.{start_from, start_of, STATE, Store, stored_other, stored_same, subst, sym, trio_of, trio_place, true}
-use Terms.{unit_is, unit_of, unit_small, unit_within, UnitAgrees, value_within, values_of, Whole, word_number, word_of}
-use Terms.{word_there, World, ℕ}
+use Terms.{bank_word, Call, cases, Chip, chip_after, claim_right, claims_on, Clears, Copies, eq_self, false, Fills}
+use Terms.{FitsAdc, Full, group_of, group_word, GroupAgrees, has_turn, HasWords, HeldRight, holds-agree, inl}
+use Terms.{inputs_of, inr, is_on, is_some, KeepsRight, kept_in, kept_within, kept_word, kept_words, length}
+use Terms.{length-set, listed_agree, nat_tests, None, not, on_there, Option, or_parts, order_of, order_own, Origin}
+use Terms.{own-control, own-word, own_of, ranges_apart, refl, Reservation, Reservations, ReservedBy, result_word}
+use Terms.{ResultBuffer, Round, round_at, rounds_of, same_or_other, slice_get, Some, some_hold, stands-agree}
+use Terms.{stands_words, start_from, start_of, STATE, Store, stored_other, stored_same, subst, sym, trio_of}
+use Terms.{trio_place, true, unit_is, unit_of, unit_small, unit_within, UnitAgrees, value_within, values_of, Whole}
+use Terms.{word_number, word_of, word_there, World, ℕ}
 use Rattle.adc_groups.specs.Refinement.{Starts, Keeps, Reads}
 use Rattle.adc_machine.specs.declared.call.ResultBuffer.TheVariants as buffers
 use Rattle.adc_groups.specs.declared.words.Word.TheVariants as words
@@ -50,11 +51,9 @@ module _ (d : AdcTable) (fits : FitsAdc d) (g m x : ℕ) (here : is_some (group_
   own_apart j less e = omega (arith, e, less)
 
   range_apart : (k j : ℕ) → is_some (group_of d k) ≡ true → j < 32 + 3 * length (inputs_of (group_of d k)) → group_word d k j ≢ at
-  range_apart k j there less = by (same_or_other k g)
-    where
-      by : (k ≡ g) ⊎ (k ≢ g) → group_word d k j ≢ at
-      by (inl e) = subst (λ n. group_word d n j ≢ at) (sym e) (own_apart j (subst (λ n. j < 32 + 3 * length (inputs_of (group_of d n))) e less))
-      by (inr ne) = other_apart k j there ne (omega (arith, less))
+  range_apart k j there less = cases (same_or_other k g)
+      (λ e. subst (λ n. group_word d n j ≢ at) (sym e) (own_apart j (subst (λ n. j < 32 + 3 * length (inputs_of (group_of d n))) e less)))
+      (λ ne. other_apart k j there ne (omega (arith, less)))
 
   pub low_kept : (k j : ℕ) → is_some (group_of d k) ≡ true → j < 32 → word_of kept_stored (group_word d k j) ≡ word_of chip (group_word d k j)
   low_kept k j there less = word_stays (group_word d k j) (range_apart k j there (omega (arith, less)))

@@ -1,10 +1,11 @@
 -- Which buffer of a group was set up last, as the words have it, is the machine's.
--- Used by told/rt, proofs/driver/AdcDriver/chosen/Answers.
+-- From adc_groups: words.WordsOfModule, adc_groups: words.Cases.
+-- Used by proofs/driver/AdcDriver/chosen/Answers, src/told.rt.
 use Rattle.std.proofs.Common.{◌≡◌, ◌<◌, ◌==◌, ◌&&◌, [], ◌∙◌, if◌then◌else◌}
 use Rattle.adc_driver.specs.Terms
 use Terms.{AdcRepresents, AdcState, AdcTable, ap, arith, Bool, Chip, chosen_of, false, FitsAdc, Group, group_at}
 use Terms.{group_of, is_some, low_words, Memory, nat_lt, nat_tests, None, One, Option, refl, ResultBuffer}
-use Terms.{slice_index_or, Some, SOURCES, sym, true, word_number, word_of, WORDS, words_below, World, ℕ}
+use Terms.{slice_index_or, Some, SOURCES, sym, true, whether, word_number, word_of, WORDS, words_below, World, ℕ}
 use Rattle.adc_machine.specs.declared.call.ResultBuffer.TheVariants.{Zero}
 use Rattle.adc_groups.specs.declared.words.Word.TheVariants as words
 
@@ -37,11 +38,7 @@ module _ (d : AdcTable) (fits : FitsAdc d) (chip : Chip) (w : World) (s : AdcSta
       by (Some k) f e = absurd (cc)
 
   word_is : is_some (group_of d g) ≡ true → word_of chip (word_number d (words.Chosen g)) ≡ chosen_of (group_at s g).chosen
-  word_is there = by s.initialised refl
-    where
-      by : (on : Bool) → s.initialised ≡ on → word_of chip (word_number d (words.Chosen g)) ≡ chosen_of (group_at s g).chosen
-      by true on = ((h.settled on).groups g there).chosen
-      by false off = h.left off refl g there
+  word_is there = whether s.initialised (λ on. ((h.settled on).groups g there).chosen) (λ off. h.left off refl g there)
 
   word_there : is_some (group_of d g) ≡ true → nat_lt (word_number d (words.Chosen g)) WORDS ≡ true
   word_there there = below (word_number d (words.Chosen g)) (words_below d fits (word_number d (words.Chosen g)) (low_words d fits g 1 there (omega arith)))

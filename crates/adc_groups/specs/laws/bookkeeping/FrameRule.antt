@@ -1,22 +1,22 @@
 -- A change of one group, of its unit and of their words leaves all else agreeing: other groups, the other unit, what frames hold,
 -- and the places of the users' buffers.
--- From words.OtherGroups, words.WordsOfModule, words.DisjointWords, hardware.StableUnderHardware.
--- Used by services.StopRight, services.RequestRight, services.PulseRight, services.EnableTriggerRight and 1 more.
+-- From words.OtherGroups, words.WordsOfModule, hardware.StableUnderHardware, words.DisjointWords, words.Cases.
+-- Used by services.StopRight, services.PulseRight, services.RequestRight, services.EnableTriggerRight and 4 more.
 use Rattle.std.proofs.Common.{◌≡◌, ◌≢◌, ◌+◌, ◌-◌, ◌*◌, ◌/◌, ◌%◌, ◌<◌, ◌≤◌, ◌&&◌, ◌||◌, ◌==◌, [], ◌∷◌, ◌∙◌, ◌⊎◌}
 use Rattle.std.proofs.Common.{if◌then◌else◌}
 use Rattle.adc_groups.specs.Terms
 use Terms.{AdcState, AdcTable, Agrees, AllRight, and_second, ap, arith, Backed, Bank, bank_number, bank_word}
-use Terms.{BanksAgree, bit_of, Bool, Call, Chip, chosen_of, claim_fits, claim_right, Claims, claims_on, Clears, Column}
-use Terms.{Converter, Converters, Copies, Entry, eq_is, eq_self, false, Fills, first_held, FitsAdc, Full, group_at}
-use Terms.{group_of, group_word, GroupAgrees, GroupState, has_bit, has_turn, HeldRight, holds-agree, inl, inputs_of}
-use Terms.{inr, is_on, is_round_of, is_some, is_trigger_line, is_unit_line, IsBlock, IsSound, IsSoundGroup}
+use Terms.{BanksAgree, bit_of, Bool, Call, cases, Chip, chosen_of, claim_fits, claim_right, Claims, claims_on, Clears}
+use Terms.{Column, Converter, Converters, Copies, Entry, eq_is, eq_self, false, Fills, first_held, FitsAdc, Full}
+use Terms.{group_at, group_of, group_word, GroupAgrees, GroupState, has_bit, has_turn, HeldRight, holds-agree, inl}
+use Terms.{inputs_of, inr, is_on, is_round_of, is_some, is_trigger_line, is_unit_line, IsBlock, IsSound, IsSoundGroup}
 use Terms.{IsSoundRequest, Keeps, KeepsRight, kept_by, kept_in, kept_of_round, kept_word, length, List, listener}
 use Terms.{mark_at, min, nat_lt, nat_tests, newest, None, none_some, not, number_at, number_by, Option, order_of}
 use Terms.{own_of, phase_of, place_value, PlacesAgree, Promised, put_of, Reads, refl, Request, Reservation}
 use Terms.{Reservations, ReservedBy, result_word, ResultBuffer, Round, round_at, RoundAgrees, rounds_of, running_of}
-use Terms.{same_or_other, samples_of, Settled, slice_get, Some, some_hold, SoundGroup, stands-agree, StandsIn, start_of}
-use Terms.{STATE, subst, sym, take_of, trigger_input, TriggersAgree, trio_of, true, unit_of, UnitAgrees}
-use Terms.{values_of, Whole, WholeRight, word_number, word_of, World, ℕ}
+use Terms.{same_or_other, samples_of, Settled, slice_get, Some, some_hold, SoundGroup, stands-agree, StandsIn}
+use Terms.{start_of, STATE, subst, sym, take_of, trigger_input, TriggersAgree, trio_of, true, unit_of, UnitAgrees}
+use Terms.{values_of, whether_as, Whole, WholeRight, word_number, word_of, World, ℕ}
 use Rattle.adc_groups.specs.laws.words.DisjointWords.{groups_apart, place_apart, start_from}
 use Rattle.adc_groups.specs.laws.words.OtherGroups.{SameRound, look_same, turn_look, kept_look, listed_there, and_off}
 use Rattle.adc_groups.specs.laws.words.OtherGroups.{past_unit, past_state, past_eight, units_apart, unit_low, small_low}
@@ -211,11 +211,9 @@ module _ (d : AdcTable) (fits : FitsAdc d) (before after : Reservations) (a b : 
   -- ---- the state of other groups
 
   same_round : (v : ℕ) → SameRound g (round_at t v) (round_at s v)
-  same_round v = by (same_or_other v u)
-    where
-      by : (v ≡ u) ⊎ (v ≢ u) → SameRound g (round_at t v) (round_at s v)
-      by (inl e) = subst (λ n. SameRound g (round_at t n) (round_at s n)) (sym e) (record { from = c.from; to = c.to })
-      by (inr ne) = record { from = λ x i n. sym (c.rounds v ne) ∙ i; to = λ x i n. c.rounds v ne ∙ i }
+  same_round v = cases (same_or_other v u)
+      (λ e. subst (λ n. SameRound g (round_at t n) (round_at s n)) (sym e) (record { from = c.from; to = c.to }))
+      (λ ne. record { from = λ x i n. sym (c.rounds v ne) ∙ i; to = λ x i n. c.rounds v ne ∙ i })
 
   waiting_same : (k : ℕ) → k ≢ g → (group_at t k).waiting ≡ (group_at s k).waiting
   waiting_same k ne = ap (λ (x : GroupState). x.waiting) (c.others k ne)
@@ -254,11 +252,9 @@ module _ (d : AdcTable) (fits : FitsAdc d) (before after : Reservations) (a b : 
 
   -- a round of a claimed unit was there before
   was_there : (v : ℕ) (z : Reservation) → Spares d a b s t g u z → claims_on v z ≡ true → (r : Round) → round_at t v ≡ Some r → round_at s v ≡ Some r
-  was_there v z free claims r e = by (same_or_other v u)
-    where
-      by : (v ≡ u) ⊎ (v ≢ u) → round_at s v ≡ Some r
-      by (inl i) = subst (λ n. round_at s n ≡ Some r) (sym i) (free.rounds (subst (λ n. claims_on n z ≡ true) i claims) r (subst (λ n. round_at t n ≡ Some r) i e))
-      by (inr ne) = sym (c.rounds v ne) ∙ e
+  was_there v z free claims r e = cases (same_or_other v u)
+      (λ i. subst (λ n. round_at s n ≡ Some r) (sym i) (free.rounds (subst (λ n. claims_on n z ≡ true) i claims) r (subst (λ n. round_at t n ≡ Some r) i e)))
+      (λ ne. sym (c.rounds v ne) ∙ e)
 
   no_round : (v : ℕ) (z : Reservation) → Spares d a b s t g u z → claims_on v z ≡ true → round_at s v ≡ None → round_at t v ≡ None
   no_round v z free claims e = by (round_at t v) refl
@@ -275,18 +271,14 @@ module _ (d : AdcTable) (fits : FitsAdc d) (before after : Reservations) (a b : 
         free.unkept (subst (λ n. claims_on n z ≡ true) unit claims) (subst (λ n. word_of b (word_number d (words.Claim n)) ≡ 2 + g) unit (claim ∙ ap (λ n. 2 + n) e))
 
     claimed_before : word_of a (word_number d (words.Claim v)) ≡ 2 + k
-    claimed_before = by (same_or_other v u)
-      where
-        by : (v ≡ u) ⊎ (v ≢ u) → word_of a (word_number d (words.Claim v)) ≡ 2 + k
-        by (inl e) = subst (λ n. word_of a (word_number d (words.Claim n)) ≡ 2 + k) (sym e) (c.claim_from k kept_other (subst (λ n. word_of b (word_number d (words.Claim n)) ≡ 2 + k) e claim))
-        by (inr ne) = sym (claim_stays v (unit_within d fits v k on) ne) ∙ claim
+    claimed_before = cases (same_or_other v u)
+        (λ e. subst (λ n. word_of a (word_number d (words.Claim n)) ≡ 2 + k) (sym e) (c.claim_from k kept_other (subst (λ n. word_of b (word_number d (words.Claim n)) ≡ 2 + k) e claim)))
+        (λ ne. sym (claim_stays v (unit_within d fits v k on) ne) ∙ claim)
 
     unit_before : chips.unit_at b.converters v ≡ chips.unit_at a.converters v
-    unit_before = by (same_or_other v u)
-      where
-        by : (v ≡ u) ⊎ (v ≢ u) → chips.unit_at b.converters v ≡ chips.unit_at a.converters v
-        by (inl e) = subst (λ n. chips.unit_at b.converters n ≡ chips.unit_at a.converters n) (sym e) (c.unit k kept_other (subst (λ n. word_of b (word_number d (words.Claim n)) ≡ 2 + k) e claim))
-        by (inr ne) = c.units v (unit_within d fits v k on) ne
+    unit_before = cases (same_or_other v u)
+        (λ e. subst (λ n. chips.unit_at b.converters n ≡ chips.unit_at a.converters n) (sym e) (c.unit k kept_other (subst (λ n. word_of b (word_number d (words.Claim n)) ≡ 2 + k) e claim)))
+        (λ ne. c.units v (unit_within d fits v k on) ne)
 
     whole_changed : (n : ℕ) → WholeRight d a s v k n → WholeRight d b t v k n
     whole_changed n q = record {
@@ -415,11 +407,9 @@ module _ (d : AdcTable) (fits : FitsAdc d) (before after : Reservations) (a b : 
 
   -- the claims' words, where that of the unit stays
   pub claims_stay : word_of b (word_number d (words.Claim u)) ≡ word_of a (word_number d (words.Claim u)) → (v : ℕ) → v < 2 → word_of b (word_number d (words.Claim v)) ≡ word_of a (word_number d (words.Claim v))
-  claims_stay same v less = by (same_or_other v u)
-    where
-      by : (v ≡ u) ⊎ (v ≢ u) → word_of b (word_number d (words.Claim v)) ≡ word_of a (word_number d (words.Claim v))
-      by (inl e) = subst (λ n. word_of b (word_number d (words.Claim n)) ≡ word_of a (word_number d (words.Claim n))) (sym e) same
-      by (inr ne) = claim_stays v less ne
+  claims_stay same v less = cases (same_or_other v u)
+      (λ e. subst (λ n. word_of b (word_number d (words.Claim n)) ≡ word_of a (word_number d (words.Claim n))) (sym e) same)
+      (λ ne. claim_stays v less ne)
 
   banks_changed : (k : ℕ) → is_some (group_of d k) ≡ true → k ≢ g → BanksAgree d before (word_of a) s k → BanksAgree d after (word_of b) t k
   banks_changed k here ne q = record {
@@ -449,18 +439,14 @@ module _ (d : AdcTable) (fits : FitsAdc d) (before after : Reservations) (a b : 
       v = unit_of (group_of d k)
 
       claimed : word_of a (word_number d (words.Claim (unit_of (group_of d k)))) ≡ 2 + k → word_of b (word_number d (words.Claim (unit_of (group_of d k)))) ≡ 2 + k
-      claimed e = by (same_or_other (unit_of (group_of d k)) u)
-        where
-          by : (unit_of (group_of d k) ≡ u) ⊎ (unit_of (group_of d k) ≢ u) → word_of b (word_number d (words.Claim (unit_of (group_of d k)))) ≡ 2 + k
-          by (inl i) = subst (λ n. word_of b (word_number d (words.Claim n)) ≡ 2 + k) (sym i) (c.claim_to k ne (subst (λ n. word_of a (word_number d (words.Claim n)) ≡ 2 + k) i e))
-          by (inr nu) = claim_stays (unit_of (group_of d k)) (unit_small d fits k here) nu ∙ e
+      claimed e = cases (same_or_other (unit_of (group_of d k)) u)
+          (λ i. subst (λ n. word_of b (word_number d (words.Claim n)) ≡ 2 + k) (sym i) (c.claim_to k ne (subst (λ n. word_of a (word_number d (words.Claim n)) ≡ 2 + k) i e)))
+          (λ nu. claim_stays (unit_of (group_of d k)) (unit_small d fits k here) nu ∙ e)
 
   off_unit : (v : ℕ) → v ≢ u → is_on v (group_of d g) ≡ false
-  off_unit v ne = by (is_on v (group_of d g)) refl
-    where
-      by : (q : Bool) → is_on v (group_of d g) ≡ q → q ≡ false
-      by true e = absurd (other_group v g ne e refl)
-      by false e = refl
+  off_unit v ne = whether_as (is_on v (group_of d g)) (λ q. q ≡ false)
+      (λ e. absurd (other_group v g ne e refl))
+      (λ e. refl)
 
   unit_changed : (v : ℕ) → v < 2 → v ≢ u → UnitAgrees d (word_of a) s v → UnitAgrees d (word_of b) t v
   unit_changed v less ne q = record {
@@ -495,23 +481,19 @@ module _ (d : AdcTable) (fits : FitsAdc d) (before after : Reservations) (a b : 
 
     sound_changed : IsSound d w t
     sound_changed = record {
-      groups = λ k. group_by k (same_or_other k g);
+      groups = λ k. cases (same_or_other k g)
+          (λ e. subst (λ m. IsSoundGroup d t m) (sym e) n.sound)
+          (λ ne. subst (λ x. SoundGroup (group_of d k) (has_turn t k) x) (sym (c.others k ne)) (subst (λ q. SoundGroup (group_of d k) q (group_at s k)) (sym (turn_same k ne)) (h.sound.groups k)));
       waits = λ k q e. waits_by k q e (same_or_other k g);
       runs = λ v r e. runs_by v r e (same_or_other r.group g);
       marks = n.marks;
-      hears = λ k e i. hears_by k e i (same_or_other k g);
+      hears = λ k e i. cases (same_or_other k g)
+          (λ q. subst (λ m. (group_at t m).trigger ≡ true) (sym q) (n.hears (subst (λ m. has_turn t m ≡ true) q e) (subst (λ m. is_some (trigger_input (group_of d m)) ≡ true) q i)))
+          (λ ne. ap (λ (x : GroupState). x.trigger) (c.others k ne) ∙ h.sound.hears k (sym (turn_same k ne) ∙ e) i);
       rest = λ off. absurd (let e = c.still in cc);
       off = λ off. absurd (let e = c.still in cc);
     }
       where
-        group_by : (k : ℕ) → (k ≡ g) ⊎ (k ≢ g) → IsSoundGroup d t k
-        group_by k (inl e) = subst (λ m. IsSoundGroup d t m) (sym e) n.sound
-        group_by k (inr ne) = subst (λ x. SoundGroup (group_of d k) (has_turn t k) x) (sym (c.others k ne)) (subst (λ q. SoundGroup (group_of d k) q (group_at s k)) (sym (turn_same k ne)) (h.sound.groups k))
-
-        hears_by : (k : ℕ) → has_turn t k ≡ true → is_some (trigger_input (group_of d k)) ≡ true → (k ≡ g) ⊎ (k ≢ g) → (group_at t k).trigger ≡ true
-        hears_by k e i (inl q) = subst (λ m. (group_at t m).trigger ≡ true) (sym q) (n.hears (subst (λ m. has_turn t m ≡ true) q e) (subst (λ m. is_some (trigger_input (group_of d m)) ≡ true) q i))
-        hears_by k e i (inr ne) = ap (λ (x : GroupState). x.trigger) (c.others k ne) ∙ h.sound.hears k (sym (turn_same k ne) ∙ e) i
-
         waits_by : (k : ℕ) (q : Request) → (group_at t k).waiting ≡ Some q → (k ≡ g) ⊎ (k ≢ g) → IsSoundRequest d t k q
         waits_by k q e (inl i) = subst (λ m. IsSoundRequest d t m q) (sym i) (n.waits q (subst (λ m. (group_at t m).waiting ≡ Some q) i e))
         waits_by k q e (inr ne) = let x = h.sound.waits k q (sym (waiting_same k ne) ∙ e) in (x.0, more q.number x.1, x.2, x.3)
@@ -531,20 +513,16 @@ module _ (d : AdcTable) (fits : FitsAdc d) (before after : Reservations) (a b : 
     settled_changed : Settled d after b w t
     settled_changed =
         let q = h.settled c.on in record {
-          groups = λ k here. by k here (same_or_other k g);
-          units = λ v less. unit_by v less (same_or_other v u);
+          groups = λ k here. cases (same_or_other k g)
+              (λ e. subst (λ m. GroupAgrees d (word_of b) t m) (sym e) n.group)
+              (λ ne. group_changed k here ne ((h.settled c.on).groups k here));
+          units = λ v less. cases (same_or_other v u)
+              (λ e. subst (λ m. UnitAgrees d (word_of b) t m) (sym e) n.unit)
+              (λ ne. unit_changed v less ne ((h.settled c.on).units v less));
           claims = n.claims;
           lines = λ l e. c.enabled l e ∙ q.lines l e;
           promised = n.promised;
         }
-      where
-        by : (k : ℕ) → is_some (group_of d k) ≡ true → (k ≡ g) ⊎ (k ≢ g) → GroupAgrees d (word_of b) t k
-        by k here (inl e) = subst (λ m. GroupAgrees d (word_of b) t m) (sym e) n.group
-        by k here (inr ne) = group_changed k here ne ((h.settled c.on).groups k here)
-
-        unit_by : (v : ℕ) → v < 2 → (v ≡ u) ⊎ (v ≢ u) → UnitAgrees d (word_of b) t v
-        unit_by v less (inl e) = subst (λ m. UnitAgrees d (word_of b) t m) (sym e) n.unit
-        unit_by v less (inr ne) = unit_changed v less ne ((h.settled c.on).units v less)
 
     -- all agrees after the change
     pub changed : Agrees d after b w t
@@ -553,20 +531,16 @@ module _ (d : AdcTable) (fits : FitsAdc d) (before after : Reservations) (a b : 
       outside = n.outside;
       state = state_stays ∙ (h.state ∙ ap (λ q. bit_of q) (c.on ∙ sym c.still));
       right = n.right;
-      banks = λ k here. banks_by k here (same_or_other k g);
+      banks = λ k here. cases (same_or_other k g)
+          (λ e. subst (λ m. BanksAgree d after (word_of b) t m) (sym e) n.banks)
+          (λ ne. banks_changed k here ne (h.banks k here));
       block = n.block;
-      rounds = λ v less. round_by v less (same_or_other v u);
+      rounds = λ v less. cases (same_or_other v u)
+          (λ e. subst (λ m. RoundAgrees d b.converters w (chips.unit_at b.converters m) (round_at t m)) (sym e) n.round)
+          (λ ne. subst (λ q. RoundAgrees d b.converters w (chips.unit_at b.converters v) q) (sym (c.rounds v ne)) (round_kept d a.converters b.converters w (chips.unit_at a.converters v) (chips.unit_at b.converters v) (round_at s v) (c.units v less ne) c.levels c.time (h.rounds v less)));
       triggers = n.triggers;
       places = n.places;
       backed = n.backed;
       settled = λ e. settled_changed;
       left = λ off. absurd (let on = c.still in cc);
     }
-      where
-        banks_by : (k : ℕ) → is_some (group_of d k) ≡ true → (k ≡ g) ⊎ (k ≢ g) → BanksAgree d after (word_of b) t k
-        banks_by k here (inl e) = subst (λ m. BanksAgree d after (word_of b) t m) (sym e) n.banks
-        banks_by k here (inr ne) = banks_changed k here ne (h.banks k here)
-
-        round_by : (v : ℕ) → v < 2 → (v ≡ u) ⊎ (v ≢ u) → RoundAgrees d b.converters w (chips.unit_at b.converters v) (round_at t v)
-        round_by v less (inl e) = subst (λ m. RoundAgrees d b.converters w (chips.unit_at b.converters m) (round_at t m)) (sym e) n.round
-        round_by v less (inr ne) = subst (λ q. RoundAgrees d b.converters w (chips.unit_at b.converters v) q) (sym (c.rounds v ne)) (round_kept d a.converters b.converters w (chips.unit_at a.converters v) (chips.unit_at b.converters v) (round_at s v) (c.units v less ne) c.levels c.time (h.rounds v less))

@@ -1,6 +1,6 @@
 -- A group without a turn keeps nothing.
 -- From words.WordsOfModule.
--- Used by services.StopRight, services.EnableTriggerRight.
+-- Used by services.EnableTriggerRight, services.StopRight.
 use Rattle.std.proofs.Common.{◌≡◌, ◌<◌, ◌||◌, [], ◌∙◌, if◌then◌else◌}
 use Rattle.adc_groups.specs.Terms
 use Terms.{AdcState, AdcTable, ap, arith, Bool, false, FitsAdc, group_at, group_of, has_turn, is_round_of, is_some}

@@ -1,5 +1,6 @@
 -- The moves that windows owe are as the outline asks for.
--- From hardware.PendingWritesStable, hardware.HardwareCommutes, hardware.StableUnderHardware and 2 more.
+-- From hardware.PendingWritesStable, hardware.HardwareCommutes, hardware.StableUnderHardware and 5 more.
+-- Used by adc_driver: bookkeeping.RefinementRight, adc_driver: services.InitRight.
 use Rattle.std.proofs.Common.{◌≡◌, ◌≢◌, ◌^◌, ◌<◌, ◌≤◌, ◌&&◌, ◌||◌, ◌==◌, [], ◌∷◌, ◌∙◌, ◌⊎◌, if◌then◌else◌}
 use Rattle.adc_groups.specs.Terms
 use Terms.{ack_left, acks, AdcState, AdcTable, Agrees, Alike, Alike_but, alike_chips, Alike_same, AllByRecursion}
@@ -11,8 +12,8 @@ use Terms.{Is_finished, Is_open, Is_over, is_some, IsBasis, IsDone, IsOver, IsUn
 use Terms.{length-set, List, MachineRound, making_owed, may, may_name, move_by, nat_lt, nat_tests, None, not, Option}
 use Terms.{Order, owed_of, owed_own, owing_basis, PendingWrites, Read, refl, Reservations, round_at, RoundAgrees}
 use Terms.{same_or_other, Sample, shape_move, SharedRefinement, simple_commutes, simple_value, Some, StandsIn}
-use Terms.{StructureOp, subst, sym, TriggerClear, TriggerFlags, true, UnitsAlike, unused, value_of, WindowWrite}
-use Terms.{without, word_of, words_happened, World, Write, ℕ}
+use Terms.{StructureOp, subst, sym, TriggerClear, TriggerFlags, true, UnitsAlike, unused, value_of, whether_as}
+use Terms.{WindowWrite, without, word_of, words_happened, World, Write, ℕ}
 use Rattle.chip_converter.specs.Rounds.{Round}
 use Rattle.adc_groups.specs.PendingWrites.{IsSound}
 use Rattle.adc_groups.specs.laws.hardware.HardwareCommutes.{block_after, happened_block, bits_of_flags, small_or}
@@ -41,15 +42,13 @@ record BlockLeft (a b : Converters) : Type 0 where
 
 block_left : (o : Order) (r : ℕ) (c : Converters) → BlockLeft c (block_after o r c)
 block_left (orders.Analog i v) r c = record { time = omega arith; all = length-map c.units (chips.settled c.levels c.time); gates = refl; few = λ e. e; round = λ u lt. ap (λ x. x.round) (get_or-map (chips.settled c.levels c.time) c.units u unused unused lt) }
-block_left (orders.Trigger i) r c = by (nat_lt i 4 && has_bit c.gates i) refl
+block_left (orders.Trigger i) r c = whether_as (nat_lt i 4 && has_bit c.gates i) (λ q. BlockLeft c (if q then record c { pulses = bit_or c.pulses (2 ^ i) } else c))
+    (λ e. record { time = omega arith; all = refl; gates = refl; few = λ few. small_or c.pulses i few (small (nat_lt i 4) (has_bit c.gates i) refl e); round = λ u lt. refl })
+    (λ e. record { time = omega arith; all = refl; gates = refl; few = λ e. e; round = λ u lt. refl })
   where
     small : (s g : Bool) → nat_lt i 4 ≡ s → s && g ≡ true → i < 4
     small true g e f = grind (arith, nat_tests)
     small false g e f = absurd (cc)
-
-    by : (q : Bool) → (nat_lt i 4 && has_bit c.gates i) ≡ q → BlockLeft c (if q then record c { pulses = bit_or c.pulses (2 ^ i) } else c)
-    by true e = record { time = omega arith; all = refl; gates = refl; few = λ few. small_or c.pulses i few (small (nat_lt i 4) (has_bit c.gates i) refl e); round = λ u lt. refl }
-    by false e = record { time = omega arith; all = refl; gates = refl; few = λ e. e; round = λ u lt. refl }
 block_left _ r c = record { time = omega arith; all = refl; gates = refl; few = λ e. e; round = λ u lt. refl }
 
 left_by_order : (chip : Chip) (order : Order) → is_fill order ≡ false → BlockLeft chip.converters (happened chip order).converters

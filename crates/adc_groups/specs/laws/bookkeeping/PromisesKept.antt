@@ -1,5 +1,5 @@
 -- What is promised of units: after a change of one group the other unit has no more to start or to abort than before.
--- Used by services.RequestRight, services.StopRight, services.YieldRight, services.PulseRight and 1 more.
+-- Used by services.RequestRight, services.StopRight, adc_turns: words.BegunWords and 6 more.
 use Rattle.std.proofs.Common.{◌≡◌, ◌≢◌, ◌+◌, ◌==◌, ◌&&◌, ◌||◌, [], ◌∷◌, ◌∙◌, ◌⊎◌}
 use Rattle.adc_groups.specs.Terms
 use Terms.{aborts, aborts_by, AdcState, AdcTable, all_groups, and_from, and_parts, ap, arith, Bool, Call, cond, false}

@@ -1,23 +1,21 @@
 -- What all services of the driver stand on keeps what it owes, while no move is owed.
--- From hardware.OtherModules, hardware.AfterReset, hardware.HardwareMoves, hardware.StableUnderHardware and 1 more.
--- Used by services.MaskSteps, bookkeeping.PendingWritesRight.
+-- From hardware.OtherModules, hardware.AfterReset, bookkeeping.RequestNumbers, hardware.HardwareMoves and 6 more.
+-- Used by adc_driver: bookkeeping.KeepsToModule, bookkeeping.PendingWritesRight, services.MaskSteps and 4 more.
 use Rattle.std.proofs.Common.{◌≡◌, ◌+◌, ◌-◌, ◌*◌, ◌/◌, ◌<◌, ◌≤◌, ◌&&◌, ◌||◌, ◌==◌, [], ◌∷◌, ◌∙◌, if◌then◌else◌}
 use Rattle.adc_groups.specs.Terms
 use Terms.{aborts, aborts_by, Acts, acts_by, Adc0, Adc1, adc_machine, adc_setting, AdcRepresents, AdcState, AdcTable}
-use Terms.{Agrees, Ahead, all_groups, and_first, and_second, ap, arith, bare, Bool, Call, Called, Chip}
-use Terms.{circumstances, cond, edged, ended-open}
-use Terms.{error_by, ErrorLeaves, ErrorName, false, false_from_ne_true, fills_there, FillsThere, first_on_input}
-use Terms.{first_state, FitsAdc, GetStreamLastPointer, group_at, group_of, group_of_input, group_work}
-use Terms.{GroupCall, happened, happens, Hardware, has_bit, has_input, has_turn, Idle, if_same, Init, inputs_left}
-use Terms.{is_done, is_fill, is_for_lines, is_masked, is_on, is_other, is_pending, is_some, is_trigger_line}
-use Terms.{is_unit_line, is_used, IsBasis, IsFree, IsSome, length, line-converter, line-trigger, List, listener}
-use Terms.{listener_among, listens, mark_at, MayCome, min, move_there, moved, nat_le, nat_lt, nat_tests, next_group}
-use Terms.{next_is, None, not, not_filled, Option, Order, Origin, Outcome, outcome, outside_at, points}
-use Terms.{PowerOn, rate-left, ReadGroup, reads, ready, Reason, refl, Reservations, reset_chip, Round, round_at}
-use Terms.{RoundAgrees, slice_index, slice_index_or, Some, some_same}
-use Terms.{starts, starts_by, Status, Steady, subst, suc}
-use Terms.{sym, tells_nothing, true, unit_level, waits_for, with_mark, word_of, words_happened, work, World}
-use Terms.{world_after, zero, ℕ}
+use Terms.{Agrees, Ahead, all_groups, and_first, and_second, ap, arith, bare, Bool, Call, Called, Chip, circumstances}
+use Terms.{cond, edged, ended-open, error_by, ErrorLeaves, ErrorName, false, false_from_ne_true, fills_there}
+use Terms.{FillsThere, first_on_input, first_state, FitsAdc, GetStreamLastPointer, group_at, group_of, group_of_input}
+use Terms.{group_work, GroupCall, happened, happens, Hardware, has_bit, has_input, has_turn, Idle, if_same, Init}
+use Terms.{inputs_left, is_done, is_fill, is_for_lines, is_masked, is_on, is_other, is_pending, is_some}
+use Terms.{is_trigger_line, is_unit_line, is_used, IsBasis, IsFree, IsSome, length, line-converter, line-trigger}
+use Terms.{List, listener, listener_among, listens, mark_at, MayCome, min, move_there, moved, nat_le, nat_lt}
+use Terms.{nat_tests, next_group, next_is, None, not, not_filled, Option, Order, Origin, Outcome, outcome, outside_at}
+use Terms.{points, PowerOn, rate-left, ReadGroup, reads, ready, Reason, refl, Reservations, reset_chip, Round}
+use Terms.{round_at, RoundAgrees, slice_index, slice_index_or, Some, some_same, starts, starts_by, Status, Steady}
+use Terms.{subst, suc, sym, tells_nothing, true, unit_level, waits_for, whether_as, with_mark, word_of}
+use Terms.{words_happened, work, World, world_after, zero, ℕ}
 use Rattle.adc_machine.specs.declared.call.Call.TheVariants.{Group}
 use Rattle.adc_groups.specs.laws.{hardware.OtherModules.{by_line, apart_agrees, owned_plain, other_line, may_parts}}
 use Rattle.adc_groups.specs.laws.{hardware.OtherModules.{plain}, hardware.AfterReset.{of_past, reset_agrees}}
@@ -123,11 +121,9 @@ module _ (d : AdcTable) (fits : FitsAdc d) (held : Reservations) (chip : Chip) (
   found_on : (i : ℕ) (ks : List (Option configured.Group)) (n : ℕ) → has_input i (slice_index_or ks n None) ≡ true → is_some (first_on_input ks i) ≡ true
   found_on i [] n e = absurd (cc)
   found_on i (k ∷ ks) zero e = ap (λ q. is_some (cond q k (first_on_input ks i))) e ∙ input_there i k e
-  found_on i (k ∷ ks) (suc n) e = by (has_input i k) refl (found_on i ks n e)
-    where
-      by : (q : Bool) → has_input i k ≡ q → is_some (first_on_input ks i) ≡ true → is_some (cond q k (first_on_input ks i)) ≡ true
-      by true f rest = input_there i k f
-      by false f rest = rest
+  found_on i (k ∷ ks) (suc n) e = whether_as (has_input i k) (λ q. is_some (cond q k (first_on_input ks i)) ≡ true)
+      (λ f. input_there i k f)
+      (λ f. (found_on i ks n e))
 
   input_found : (i g : ℕ) → has_input i (group_of d g) ≡ true → is_some (group_of_input d i) ≡ true
   input_found i g e = by (nat_lt g 16) refl e

@@ -1,11 +1,12 @@
 -- Which group a trigger input is for, once the trigger of one group was switched on or off.
--- Used by services.EnableTriggerRight, bookkeeping.TriggerOff, services.StopWords, services.PulseRight.
-use Rattle.std.proofs.Common.{◌≡◌, ◌≢◌, ◌<◌, ◌^◌, ◌&&◌, ◌==◌, [], ◌∷◌, ◌∙◌, ◌⊎◌, if◌then◌else◌}
+-- From words.Cases.
+-- Used by bookkeeping.TriggerOff, services.EnableTriggerRight, services.StopWords, services.PulseRight.
+use Rattle.std.proofs.Common.{◌≡◌, ◌≢◌, ◌<◌, ◌^◌, ◌&&◌, ◌==◌, [], ◌∷◌, ◌∙◌, if◌then◌else◌}
 use Rattle.adc_groups.specs.Terms
-use Terms.{AdcState, AdcTable, all_groups, and_false, ap, arith, bit, Bool, cond, eq_is, eq_other, eq_self, false}
-use Terms.{FitsAdc, Group, group_at, group_of, has_input, inl, inr, is_input, is_some, List, listed, listener}
-use Terms.{listener_among, listens, nat_lt, nat_tests, None, Option, refl, same_or_other, slice_get, Some, suc, sym}
-use Terms.{trigger_input, true, zero, ℕ}
+use Terms.{AdcState, AdcTable, all_groups, and_false, ap, arith, bit, cases, cond, eq_is, eq_other, eq_self, false}
+use Terms.{FitsAdc, Group, group_at, group_of, has_input, is_input, is_some, List, listed, listener, listener_among}
+use Terms.{listens, nat_lt, nat_tests, None, Option, refl, same_or_other, slice_get, Some, suc, sym, trigger_input}
+use Terms.{true, whether_as, zero, ℕ}
 
 -- the input of a group is one of the four
 pub input_small : (d : AdcTable) → FitsAdc d → (g i : ℕ) → trigger_input (group_of d g) ≡ Some i → i < 4
@@ -30,11 +31,9 @@ module _ (d : AdcTable) (fits : FitsAdc d) (s t : AdcState) (g i : ℕ) (input :
     where
       by : (o : Option ℕ) → trigger_input (group_of d k) ≡ o → is_input i o ≡ false
       by None e = refl
-      by (Some j) e = test (j == i) refl
-        where
-          test : (q : Bool) → (j == i) ≡ q → q ≡ false
-          test true f = let at : j ≡ i = eq_is j i f in absurd (ne (fits.alone k g i (e ∙ ap (λ n. Some n) at) input))
-          test false f = refl
+      by (Some j) e = whether_as (j == i) (λ q. q ≡ false)
+          (λ f. let at : j ≡ i = eq_is j i f in absurd (ne (fits.alone k g i (e ∙ ap (λ n. Some n) at) input)))
+          (λ f. refl)
 
   among_same : (j : ℕ) → ((k : ℕ) → listens d t j k ≡ listens d s j k) → (ks : List ℕ) → listener_among d t j ks ≡ listener_among d s j ks
   among_same j one [] = refl
@@ -44,20 +43,16 @@ module _ (d : AdcTable) (fits : FitsAdc d) (s t : AdcState) (g i : ℕ) (input :
   listener_other j ne = among_same j one all_groups
     where
       one : (k : ℕ) → listens d t j k ≡ listens d s j k
-      one k = by (same_or_other k g)
-        where
-          by : (k ≡ g) ⊎ (k ≢ g) → listens d t j k ≡ listens d s j k
-          by (inl e) = let off : has_input j (group_of d k) ≡ false = ap (λ n. has_input j (group_of d n)) e ∙ has_no_other j ne in ap (λ q. q && (group_at t k).trigger) off ∙ sym (ap (λ q. q && (group_at s k).trigger) off)
-          by (inr nk) = ap (λ q. has_input j (group_of d k) && q) (same k nk)
+      one k = cases (same_or_other k g)
+          (λ e. let off : has_input j (group_of d k) ≡ false = ap (λ n. has_input j (group_of d n)) e ∙ has_no_other j ne in ap (λ q. q && (group_at t k).trigger) off ∙ sym (ap (λ q. q && (group_at s k).trigger) off))
+          (λ nk. ap (λ q. has_input j (group_of d k) && q) (same k nk))
 
   found : (ks : List ℕ) (n : ℕ) → slice_get ks n ≡ Some g → listens d t i g ≡ true → is_some (listener_among d t i ks) ≡ true
   found [] n e on = absurd (cc)
   found (k ∷ ks) zero e on = let at : k ≡ g = cc in ap (λ q. is_some (cond q (Some k) (listener_among d t i ks))) (ap (λ n. listens d t i n) at ∙ on)
-  found (k ∷ ks) (suc n) e on = either (listens d t i k) (found ks n e on)
-    where
-      either : (q : Bool) → is_some (listener_among d t i ks) ≡ true → is_some (cond q (Some k) (listener_among d t i ks)) ≡ true
-      either true f = refl
-      either false f = f
+  found (k ∷ ks) (suc n) e on = whether_as (listens d t i k) (λ q. is_some (cond q (Some k) (listener_among d t i ks)) ≡ true)
+      (λ _. refl)
+      (λ _. (found ks n e on))
 
   pub listener_on : g < 16 → (group_at t g).trigger ≡ true → is_some (listener d t i) ≡ true
   listener_on lt on = found all_groups g (listed g lt) (ap (λ q. q && (group_at t g).trigger) has_own ∙ on)
@@ -70,8 +65,6 @@ module _ (d : AdcTable) (fits : FitsAdc d) (s t : AdcState) (g i : ℕ) (input :
   listener_off off = none_among all_groups one
     where
       one : (k : ℕ) → listens d t i k ≡ false
-      one k = by (same_or_other k g)
-        where
-          by : (k ≡ g) ⊎ (k ≢ g) → listens d t i k ≡ false
-          by (inl e) = ap (λ n. listens d t i n) e ∙ (ap (λ q. has_input i (group_of d g) && q) off ∙ and_false (has_input i (group_of d g)))
-          by (inr ne) = ap (λ q. q && (group_at t k).trigger) (alone k ne)
+      one k = cases (same_or_other k g)
+          (λ e. ap (λ n. listens d t i n) e ∙ (ap (λ q. has_input i (group_of d g) && q) off ∙ and_false (has_input i (group_of d g))))
+          (λ ne. ap (λ q. q && (group_at t k).trigger) (alone k ne))

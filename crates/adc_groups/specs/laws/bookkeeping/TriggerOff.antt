@@ -1,12 +1,12 @@
 -- A group's trigger is off: who listens then, which marks are left, and that gates and flags agree once those of its input are off.
--- From bookkeeping.TriggerListener, services.Decisions, services.PulseRight, hardware.HardwareCommutes and 2 more.
--- Used by services.StopRight.
+-- From bookkeeping.TriggerListener, services.Decisions, services.PulseRight, words.Cases and 3 more.
+-- Used by services.StopRight, adc_serving: services.ServeActRight.
 use Rattle.std.proofs.Common.{◌≡◌, ◌≢◌, ◌<◌, ◌^◌, ◌&&◌, ◌==◌, ◌∙◌, ◌⊎◌}
 use Rattle.adc_groups.specs.Terms
-use Terms.{AdcState, AdcTable, and_false, and_true, ap, arith, bit, bit_of_trigger, Bool, Converters, eq_self, false}
+use Terms.{AdcState, AdcTable, and_false, and_true, ap, arith, bit, bit_of_trigger, cases, Converters, eq_self, false}
 use Terms.{FitsAdc, group_at, group_of, has_bit, has_bit-pow_other, has_bit-pow_same, has_bit-without, inl, inr}
 use Terms.{is_some, listener, mark_at, None, not, Option, refl, same_or_other, Some, subst, suc, sym, trigger_bit}
-use Terms.{trigger_input, TriggersAgree, true, without, without_mark, ℕ}
+use Terms.{trigger_input, TriggersAgree, true, whether_as, without, without_mark, ℕ}
 use Rattle.adc_groups.specs.laws.{hardware.HardwareCommutes.{small_without}, bookkeeping.TriggerListener.{input_small}}
 use Rattle.adc_groups.specs.laws.{bookkeeping.TriggerListener.{bit_is, listener_other, listener_off}}
 use Rattle.adc_groups.specs.laws.{services.PulseRight.{marked_before, flags_left}, services.RequestRight.{listener_as}}
@@ -19,18 +19,14 @@ module _ (d : AdcTable) (fits : FitsAdc d) (s t : AdcState) (g : ℕ) (wired : (
 
   -- where it has no trigger, all hear as before
   unwired : trigger_input (group_of d g) ≡ None → (i : ℕ) → listener d t i ≡ listener d s i
-  unwired e = listener_as d s t (λ k. by k (same_or_other k g))
+  unwired e = listener_as d s t (λ k. cases (same_or_other k g)
+      (λ i. subst (λ n. (group_at t n).trigger ≡ (group_at s n).trigger) (sym i) (deaf ∙ sym was_deaf))
+      (λ ne. others k ne))
     where
       was_deaf : (group_at s g).trigger ≡ false
-      was_deaf = test (group_at s g).trigger refl
-        where
-          test : (q : Bool) → (group_at s g).trigger ≡ q → q ≡ false
-          test true i = absurd (let j = wired i in let k : is_some (trigger_input (group_of d g)) ≡ false = ap (λ q. is_some q) e in cc)
-          test false i = refl
-
-      by : (k : ℕ) → (k ≡ g) ⊎ (k ≢ g) → (group_at t k).trigger ≡ (group_at s k).trigger
-      by k (inl i) = subst (λ n. (group_at t n).trigger ≡ (group_at s n).trigger) (sym i) (deaf ∙ sym was_deaf)
-      by k (inr ne) = others k ne
+      was_deaf = whether_as (group_at s g).trigger (λ q. q ≡ false)
+          (λ i. absurd (let j = wired i in let k : is_some (trigger_input (group_of d g)) ≡ false = ap (λ q. is_some q) e in cc))
+          (λ i. refl)
 
   marks_by : ((i : ℕ) → mark_at s i ≡ true → is_some (listener d s i) ≡ true) → (o : Option ℕ) → trigger_input (group_of d g) ≡ o → (i : ℕ) → mark_at t i ≡ true → is_some (listener d t i) ≡ true
   marks_by were None e i on = ap (λ q. is_some q) (unwired e i) ∙ were i (sym (mark_by None e i) ∙ on)

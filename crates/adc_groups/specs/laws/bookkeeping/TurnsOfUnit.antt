@@ -1,12 +1,12 @@
 -- Turns of groups on a unit: whose round the unit has, by the groups that wait.
--- From services.Decisions, words.WordsOfModule.
--- Used by adc_serving: services.ServeActRight.
+-- From services.Decisions, words.Cases, words.WordsOfModule.
+-- Used by adc_turns: services.AbortRight, adc_turns: words.BegunWords, adc_serving: services.ServeActRight and 6 more.
 use Rattle.std.proofs.Common.{◌≡◌, ◌≢◌, ◌<◌, ◌||◌, [], ◌∙◌, if◌then◌else◌}
 use Rattle.adc_groups.specs.Terms
 use Terms.{AdcState, AdcTable, ap, arith, Bool, cond, eq_is, eq_other, eq_self, false, FitsAdc, group_at, group_of}
 use Terms.{has_turn, is_converter, is_on, is_round_of, is_some, IsSound, kept_by, kept_in, kept_of_round, None}
 use Terms.{number_of, Option, refl, Request, Round, round_at, Some, subst, suc, sym, true, unit_named, unit_number}
-use Terms.{unit_of, with_round, World, zero, ℕ}
+use Terms.{unit_of, whether_as, with_round, World, zero, ℕ}
 use Rattle.adc_groups.specs.laws.words.WordsOfModule.{unit_is}
 use Rattle.mcal_base.specs.declared.moves.Unit as units
 
@@ -92,8 +92,6 @@ module _ (d : AdcTable) (fits : FitsAdc d) (w : World) (s : AdcState) (sound : I
 
 -- a unit is one group's alone
 pub off_unit : (d : AdcTable) → FitsAdc d → (g u v : ℕ) → is_on u (group_of d g) ≡ true → v ≢ u → is_on v (group_of d g) ≡ false
-off_unit d fits g u v at ne = by (is_on v (group_of d g)) refl
-  where
-    by : (z : Bool) → is_on v (group_of d g) ≡ z → z ≡ false
-    by true e = absurd (ne (sym (unit_is d fits v (group_of d g) e) ∙ unit_is d fits u (group_of d g) at))
-    by false e = refl
+off_unit d fits g u v at ne = whether_as (is_on v (group_of d g)) (λ z. z ≡ false)
+    (λ e. absurd (ne (sym (unit_is d fits v (group_of d g) e) ∙ unit_is d fits u (group_of d g) at)))
+    (λ e. refl)

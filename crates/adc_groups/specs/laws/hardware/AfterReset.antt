@@ -1,14 +1,15 @@
 -- A reset leaves the module as the machine's first state, whatever is outside.
 -- From hardware.HardwareMoves.
--- Used by bookkeeping.RefinementRight.
+-- Used by bookkeeping.RefinementRight, adc_driver: services.InitActRight.
 use Rattle.std.proofs.Common.{◌≡◌, ◌<◌, ◌≤◌, [], ◌∷◌, ◌∙◌}
 use Rattle.adc_groups.specs.Terms
-use Terms.{AdcTable, Agrees, all_groups, AllByRecursion, ap, arith, BanksAgree, Chip, false, first_state, has_bit-zero}
-use Terms.{is_some, IsOver, IsSoundGroup, length, listener, None, Reason, refl, reset_chip, rests, result_word}
-use Terms.{rounds_of, Sample, slice_index-blank, slice_index_or, stands-reset, StandsIn, STATE, subst, suc, sym}
-use Terms.{trio_of, unused, word_at, word_number, word_of, World, ℕ}
+use Terms.{AdcTable, Agrees, all_groups, AllByRecursion, ap, arith, BanksAgree, Chip, false, first_state, group_of}
+use Terms.{has_bit-zero, is_some, IsOver, length, listener, None, Option, Reason, refl, reset_chip, rests}
+use Terms.{result_word, rounds_of, Sample, slice_index-blank, slice_index_or, SoundGroup, stands-reset, StandsIn}
+use Terms.{STATE, subst, suc, sym, trio_of, untouched, unused, word_at, word_number, word_of, World, ℕ}
 use Rattle.word_shapes.specs.TripleBuffer.{listed}
 use Rattle.adc_groups.specs.laws.hardware.HardwareMoves.{none_listens}
+use Rattle.adc_machine.specs.declared.table.Group as configured
 use Rattle.adc_groups.specs.declared.words.Word.TheVariants as words
 
 -- no sample is of a later time
@@ -18,8 +19,9 @@ AreOfPast chip w = AllByRecursion (λ (x : Sample). x.since ≤ chip.converters.
 pub of_past : (chip : Chip) (w : World) → StandsIn chip w → AreOfPast chip w
 of_past chip w stands = subst (λ t. AllByRecursion (λ (x : Sample). x.since ≤ t) w.samples) (sym (stands.together.converters ∙ stands.now)) stands.past
 
-first_group : (d : AdcTable) (g : ℕ) → IsSoundGroup d first_state g
-first_group d g = record {
+-- a group that nothing was asked of
+pub untouched_sound : (k : Option configured.Group) → SoundGroup k false untouched
+untouched_sound k = record {
   configured = λ e. refl;
   chosen = λ e. absurd (e refl);
   turn = λ e. refl;
@@ -68,7 +70,7 @@ none_heard d i = ap (λ o. is_some o) (none_listens d first_state i all_groups (
 pub reset_agrees : (d : AdcTable) (chip : Chip) (w : World) (reason : Reason) → StandsIn chip w → AreOfPast chip w → Agrees d [] (reset_chip chip reason) w first_state
 reset_agrees d chip w reason stands past = record {
   sound = record {
-    groups = first_group d;
+    groups = λ g. untouched_sound (group_of d g);
     waits = λ g q e. absurd (cc);
     runs = λ u r e. absurd (cc);
     marks = λ i e. absurd (cc);

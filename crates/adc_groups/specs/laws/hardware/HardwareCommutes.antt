@@ -1,18 +1,18 @@
 -- Owed moves and the hardware come to alike chips in either order, and alike chips stay so while the rest is made.
--- From hardware.PendingWritesStable.
--- Used by bookkeeping.PendingWritesRight, services.StopWords, services.PulseRight, bookkeeping.TriggerOff.
-use Rattle.std.proofs.Common.{◌≡◌, ◌≢◌, ◌+◌, ◌-◌, ◌*◌, ◌^◌, ◌<◌, ◌≤◌, ◌&&◌, ◌||◌, ◌==◌, [], ◌∷◌, ◌∙◌, ◌⊎◌}
+-- From hardware.PendingWritesStable, words.Cases, service_outline: SimpleMoves.
+-- Used by bookkeeping.PendingWritesRight, services.StopWords, adc_serving: services.ServeActRight and 7 more.
+use Rattle.std.proofs.Common.{◌≡◌, ◌≢◌, ◌+◌, ◌-◌, ◌*◌, ◌^◌, ◌<◌, ◌≤◌, ◌&&◌, ◌||◌, ◌==◌, [], ◌∷◌, ◌∙◌}
 use Rattle.std.proofs.Common.{if◌then◌else◌}
 use Rattle.adc_groups.specs.Terms
-use Terms.{ack_left, AdcTable, Alike, Alike_but, Alike_same, and_le_l, ap, Are_closed, Are_same, AreFlagsAlike, arith}
-use Terms.{bit_at, bit_at-lt, bit_or, Bool, Chip, chip_after, Closes, Continuation, Converter, ConverterAbort}
-use Terms.{ConverterAck, Converters, Differs, edged, false, FitsAbort, FitsAck, FitsFlags, FitsGates, flag_left}
-use Terms.{Flags_left, Flags_same, get_or-map, get_or-set_other, get_or-set_same, happened, has_bit, has_bit-or}
-use Terms.{has_bit-pow_other, has_bit-pow_same, has_bit-without, if_same, inl, inr, is_fill, is_other, Is_over, IsDone}
-use Terms.{IsOver, IsUnkept, length, length-map, length-set, List, map, nat_lt, nat_tests, None, not, or_lt, Order}
-use Terms.{outside_at, owed_of, Read, refl, same_from_bits_below, same_or_other, slice_index_or, slice_set, subst, suc}
-use Terms.{sym, TriggerClear, TriggerFlags, true, UnitsAlike, unused, WindowWrite, without, words_happened, Write}
-use Terms.{and_parts, ℕ}
+use Terms.{ack_left, AdcTable, Alike, Alike_but, Alike_same, and_le_l, and_parts, ap, Are_closed, Are_same}
+use Terms.{AreFlagsAlike, arith, bit_at, bit_at-lt, bit_or, Bool, cases, Chip, chip_after, Closes, Continuation}
+use Terms.{Converter, ConverterAbort, ConverterAck, Converters, Differs, edged, false, FitsAbort, FitsAck, FitsFlags}
+use Terms.{FitsGates, flag_left, Flags_left, Flags_same, get_or-map, get_or-set_other, get_or-set_same, happened}
+use Terms.{has_bit, has_bit-or, has_bit-pow_other, has_bit-pow_same, has_bit-without, if_same, is_fill, is_other}
+use Terms.{Is_over, IsBlock, IsDone, IsOver, IsUnkept, length, length-map, length-set, List, map, nat_lt, nat_tests}
+use Terms.{None, not, or_lt, Order, outside_at, owed_of, Read, refl, same_from_bits_below, same_or_other}
+use Terms.{slice_index_or, slice_set, subst, suc, sym, TriggerClear, TriggerFlags, true, UnitsAlike, unused, whether}
+use Terms.{whether_as, WindowWrite, without, words_happened, World, Write, ℕ}
 use Rattle.chip_converter.specs.Rounds.{Round}
 use Rattle.adc_groups.specs.laws.hardware.PendingWritesStable.{done_later, sound_later, aborted_done, acknowledged_over}
 use Rattle.adc_groups.specs.laws.hardware.PendingWritesStable.{aborted_list, acknowledged_list, unkept_same}
@@ -46,11 +46,9 @@ pub bits_of_flags : (a b : ℕ) → a < 16 → b < 16 → ((i : ℕ) → i < 4 �
 bits_of_flags a b lt also same = same_from_bits_below 4 b a also lt (λ i few. one (bit_at b i) (bit_at a i) (bit_at-lt b i) (bit_at-lt a i) (same i few))
   where
     one : (m n : ℕ) → m < 2 → n < 2 → (m == 1) ≡ (n == 1) → m ≡ n
-    one m n s t e = by (n == 1) refl e
-      where
-        by : (q : Bool) → (n == 1) ≡ q → (m == 1) ≡ (n == 1) → m ≡ n
-        by true f e = let g : (m == 1) ≡ true = e ∙ f in grind (arith, nat_tests)
-        by false f e = let g : (m == 1) ≡ false = e ∙ f in grind (arith, nat_tests)
+    one m n s t e = whether (n == 1)
+        (λ f. let g : (m == 1) ≡ true = e ∙ f in grind (arith, nat_tests))
+        (λ f. let g : (m == 1) ≡ false = e ∙ f in grind (arith, nat_tests))
 
 pub small_or : (p i : ℕ) → p < 16 → i < 4 → bit_or p (2 ^ i) < 16
 small_or p i few lt = or_lt 4 p (2 ^ i) few (below i lt)
@@ -73,6 +71,21 @@ unit_set units u x lt = get_or-set_same units u x unused lt
 
 pub unit_other : (units : List Converter) (u k : ℕ) (x : Converter) → k ≢ u → slice_index_or (slice_set units u x) k unused ≡ slice_index_or units k unused
 unit_other units u k x ne = get_or-set_other units u k x unused ne
+
+-- the block with another unit
+pub unit_block : (c : Converters) (w : World) (u : ℕ) (x : Converter) → IsBlock c w → (u < 2 → length x.list ≡ 8) → IsBlock (chips.with_unit c u x) w
+unit_block c w u x h eight = record {
+  all = length-set c.units u x ∙ h.all;
+  lists = λ k less. cases (same_or_other k u) (λ e. here k less e) (λ ne. ap (λ (z : Converter). length z.list) (unit_other c.units u k x ne) ∙ h.lists k less);
+  past = h.past;
+  samples = h.samples;
+}
+  where
+    here : (k : ℕ) → k < 2 → k ≡ u → length (slice_index_or (slice_set c.units u x) k unused).list ≡ 8
+    here k less e =
+        let few : u < 2 = subst (λ n. n < 2) e less in
+        let there : u < length c.units = (let all = h.all in omega (arith, few, all)) in
+        ap (λ n. length (slice_index_or (slice_set c.units u x) n unused).list) e ∙ (ap (λ (z : Converter). length z.list) (unit_set c.units u x there) ∙ eight few)
 
 -- ---- the block after a move and the hardware, in either order
 
@@ -107,11 +120,9 @@ module _ (d : AdcTable) (ds : List WindowWrite) (chip : Chip) (c : Converters) (
   Closed now x y = (y.list ≡ x.list) × Closes (ack_left ds u) x.round now × Closes (ack_left ds u) y.round now
 
   unit_by : (a : Chip) (now : ℕ) (p q : ℕ → Converter) (x y : Converter) → IsUnkept d u a ds → Closed now x y → p u ≡ x → q u ≡ y → ((k : ℕ) → k < 2 → k ≢ u → q k ≡ p k) → (k : ℕ) → k < 2 → UnitsAlike d ds a k now (p k) (q k)
-  unit_by a now p q x y unkept h here there same k lt = by (same_or_other k u)
-    where
-      by : (k ≡ u) ⊎ (k ≢ u) → UnitsAlike d ds a k now (p k) (q k)
-      by (inl e) = subst (λ n. UnitsAlike d ds a n now (p n) (q n)) (sym e) (Are_closed (ap (λ z. z.list) there ∙ (h.0 ∙ sym (ap (λ z. z.list) here))) (subst (λ z. Closes (ack_left ds u) z.round now) (sym here) h.1) (subst (λ z. Closes (ack_left ds u) z.round now) (sym there) h.2) unkept)
-      by (inr ne) = Are_same (same k lt ne)
+  unit_by a now p q x y unkept h here there same k lt = cases (same_or_other k u)
+      (λ e. subst (λ n. UnitsAlike d ds a n now (p n) (q n)) (sym e) (Are_closed (ap (λ z. z.list) there ∙ (h.0 ∙ sym (ap (λ z. z.list) here))) (subst (λ z. Closes (ack_left ds u) z.round now) (sym here) h.1) (subst (λ z. Closes (ack_left ds u) z.round now) (sym there) h.2) unkept))
+      (λ ne. Are_same (same k lt ne))
 
   module _ (ticks : (m : ℕ) → Closed (c.time + m) (f c.time (chips.unit_at c u)) (f (c.time + m) (chips.unit_at c u)))
       (levels : Closed c.time (chips.settled c.levels c.time (f c.time (chips.unit_at c u))) (f c.time (chips.settled c.levels c.time (chips.unit_at c u)))) where
@@ -276,11 +287,9 @@ module _ (d : AdcTable) (ds : List WindowWrite) (t : Continuation) (chip : Chip)
                   out _ _ f e h = cc
 
           apart : (j : ℕ) → flag_left ds j ≡ false → (j == i) ≡ false
-          apart j none = by (j == i) refl
-            where
-              by : (q : Bool) → (j == i) ≡ q → q ≡ false
-              by true h = let same : j ≡ i = grind (arith, nat_tests) in absurd (let k : flag_left ds j ≡ true = ap (λ n. flag_left ds n) same ∙ fit.flags i few named in cc)
-              by false h = refl
+          apart j none = whether_as (j == i) (λ q. q ≡ false)
+              (λ h. let same : j ≡ i = grind (arith, nat_tests) in absurd (let k : flag_left ds j ≡ true = ap (λ n. flag_left ds n) same ∙ fit.flags i few named in cc))
+              (λ h. refl)
 
       by : (o : Order) → is_fill o ≡ false → Both (block_after o chip.clock.rate (record chip.converters { gates = without chip.converters.gates v })) (record (block_after o chip.clock.rate chip.converters) { gates = without (block_after o chip.clock.rate chip.converters).gates v })
       by (orders.Trigger i) e = subst (λ b. Both (chips.after_pulse (record chip.converters { gates = without chip.converters.gates v }) i) b) (turned (nat_lt i 4 && has_bit chip.converters.gates i)) (pulses i _ _ refl refl)
@@ -319,11 +328,9 @@ module _ (d : AdcTable) (ds : List WindowWrite) (t : Continuation) (chip : Chip)
               by true h = let same : j ≡ i = grind (arith, nat_tests) in ap (λ n. has_bit v n) same ∙ closed
                 where
                   closed : has_bit v i ≡ false
-                  closed = off (has_bit v i) refl
-                    where
-                      off : (q : Bool) → has_bit v i ≡ q → q ≡ false
-                      off true k = absurd (let f = fit.gates i lt k in cc)
-                      off false k = refl
+                  closed = whether_as (has_bit v i) (λ q. q ≡ false)
+                      (λ k. absurd (let f = fit.gates i lt k in cc))
+                      (λ k. refl)
               by false h = absurd (let f = one_bit i j false h in cc)
 
       by : (o : Order) → is_fill o ≡ false → record (block_after o chip.clock.rate chip.converters) { pulses = without (block_after o chip.clock.rate chip.converters).pulses v } ≡ block_after o chip.clock.rate (record chip.converters { pulses = without chip.converters.pulses v })

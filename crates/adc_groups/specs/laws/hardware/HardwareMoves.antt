@@ -1,16 +1,16 @@
 -- The hardware may move, wherever the words and registers agree, and another module's frame too.
--- From hardware.StableUnderHardware, words.WordsOfModule.
--- Used by bookkeeping.RefinementRight, words.WordsAtRest, hardware.OtherModules, hardware.AfterReset.
+-- From hardware.StableUnderHardware, words.Cases, words.WordsOfModule, service_outline: Words.
+-- Used by bookkeeping.RefinementRight, hardware.AfterReset, hardware.OtherModules, words.WordsAtRest.
 use Rattle.std.proofs.Common.{◌≡◌, ◌≢◌, ◌+◌, ◌*◌, ◌^◌, ◌<◌, ◌≤◌, ◌&&◌, ◌||◌, ◌==◌, [], ◌∷◌, ◌∙◌, if◌then◌else◌}
 use Rattle.adc_groups.specs.Terms
 use Terms.{AdcState, AdcTable, Agrees, all_groups, AllByRecursion, ap, arith, bit_or, Bool, Chip, clash, cond}
-use Terms.{Converters, ended-later, false, FillsThere, FitsAdc, Group, group_at, group_of, happened, Hardware, has_bit}
-use Terms.{has_bit-or, has_bit-pow_other, has_bit-pow_same, has_ended-not_yet, has_ended-open, HasUnit, is_input}
-use Terms.{is_some, is_trigger_line, is_unit_line, is_word, last_sample, le_since, length, length-map, level_leaves}
-use Terms.{Levels, List, listener, listener_among, listens, mark_at, moved, nat_lt, nat_tests, None, not, off_on}
-use Terms.{Option, or_lt, Order, refl, Reservations, result-settled, result_of, Sample, sample_at, slice_index, Some}
-use Terms.{stands-event, StandsIn, subst, suc, sym, trigger_input, TriggersAgree, true, unit_at-analog, with_mark}
-use Terms.{word_later, word_of, World, world_after, zero, ℕ}
+use Terms.{Converters, ended-later, false, FillsThere, FitsAdc, Group, group_at, group_of, happened, Hardware}
+use Terms.{has_bit, has_bit-or, has_bit-pow_other, has_bit-pow_same, has_ended-not_yet, has_ended-open, HasUnit}
+use Terms.{is_input, is_some, is_trigger_line, is_unit_line, is_word, last_sample, le_since, length, length-map}
+use Terms.{level_leaves, Levels, List, listener, listener_among, listens, mark_at, moved, nat_lt, nat_tests, None}
+use Terms.{not, off_on, Option, or_lt, Order, refl, Reservations, result-settled, result_of, Sample, sample_at}
+use Terms.{slice_index, Some, stands-event, StandsIn, subst, suc, sym, trigger_input, TriggersAgree, true}
+use Terms.{unit_at-analog, whether_as, with_mark, word_later, word_of, World, world_after, zero, ℕ}
 use Rattle.adc_groups.specs.laws.hardware.StableUnderHardware.{Goes_on, Onward, onward_agrees, now_here}
 use Rattle.adc_groups.specs.laws.words.WordsOfModule.{words_below}
 use Rattle.chip_converter.specs.Converters as chips
@@ -34,11 +34,9 @@ last_counts (x ∷ xs) since at input all lt =
 
 -- a sample of now doesn't count up to now
 new_sample : (xs : List Sample) (now v i input at : ℕ) → at ≤ now → sample_at (record { input = i; since = now; value = v } ∷ xs) input at ≡ sample_at xs input at
-new_sample xs now v i input at le = ap (λ q. cond q v (sample_at xs input at)) (late (i == input))
-  where
-    late : (b : Bool) → b && nat_lt now at ≡ false
-    late true = grind (arith, nat_tests)
-    late false = refl
+new_sample xs now v i input at le = ap (λ q. cond q v (sample_at xs input at)) (whether_as (i == input) (λ b. b && nat_lt now at ≡ false)
+    (λ _. grind (arith, nat_tests))
+    (λ _. refl))
 
 all_before : (xs : List Sample) (m n : ℕ) → m ≤ n → AllByRecursion (λ (x : Sample). x.since ≤ m) xs → AllByRecursion (λ (x : Sample). x.since ≤ n) xs
 all_before [] m n le h = tt

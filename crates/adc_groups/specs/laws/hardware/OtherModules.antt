@@ -1,16 +1,16 @@
 -- What a move that names nothing of the module's leaves, and what the module's frames may do.
--- From hardware.HardwareMoves.
--- Used by bookkeeping.RefinementRight.
+-- From service_outline: Words, hardware.HardwareMoves, words.Cases.
+-- Used by bookkeeping.RefinementRight, adc_driver: bookkeeping.BodiesRight and 3 more.
 use Rattle.std.proofs.Common.{◌≡◌, ◌≢◌, ◌+◌, ◌^◌, ◌<◌, ◌≤◌, ◌&&◌, ◌||◌, ◌==◌, [], ◌∷◌, ◌∙◌}
 use Rattle.adc_groups.specs.Terms
 use Terms.{adc_owns, AdcState, AdcTable, after_read, Agrees, and_first, and_second, ap, arith, begins_word, bit_at}
-use Terms.{bit_at-lt, bit_at-zero, Bool, Chip, chip_after, clear_apart, ClockPll}
-use Terms.{ClockRate, ConverterAbort, ConverterAck, ConverterGo, ConverterList, EnableClear, EnableSet, false, FitsAdc}
-use Terms.{has_bit, has_bit-above, has_bit-or, has_bit-without, has_lines, is_for_lines, is_shared, is_trigger_line}
-use Terms.{is_unit_line, is_word, list_all, list_any, Load, may, may_name, may_write, Move, names_there, nat_lt}
-use Terms.{nat_tests, not, or_parts, owns_written, range_with_len, Read, refl, Reg, Reservations, ResetRequest}
-use Terms.{resets_chip, same_from_bits_below, SerialData, set_apart, sets_rate, stands-move, Store, stores_in, subst}
-use Terms.{suc, sym, TimerLow, TriggerClear, TriggerFlags, TriggerSet, true, word_apart, World, Write, zero, ℕ}
+use Terms.{bit_at-lt, bit_at-zero, Bool, Chip, chip_after, clear_apart, ClockPll, ClockRate, ConverterAbort}
+use Terms.{ConverterAck, ConverterGo, ConverterList, EnableClear, EnableSet, false, FitsAdc, has_bit, has_bit-above}
+use Terms.{has_bit-or, has_bit-without, has_lines, is_for_lines, is_shared, is_trigger_line, is_unit_line, is_word}
+use Terms.{list_all, list_any, Load, may, may_name, may_write, Move, names_there, nat_lt, nat_tests, not, or_parts}
+use Terms.{owns_written, range_with_len, Read, refl, Reg, Reservations, ResetRequest, resets_chip}
+use Terms.{same_from_bits_below, SerialData, set_apart, sets_rate, stands-move, Store, stores_in, subst, suc, sym}
+use Terms.{TimerLow, TriggerClear, TriggerFlags, TriggerSet, true, whether, word_apart, World, Write, zero, ℕ}
 use Rattle.adc_machine.specs.Words.{is_converter}
 use Rattle.adc_groups.specs.laws.hardware.HardwareMoves.{still}
 
@@ -150,7 +150,9 @@ zero_bit : (n : ℕ) → n < 2 → (n == 1) ≡ false → n ≡ 0
 zero_bit n lt e = grind (arith, nat_tests)
 
 lines_named : (v : ℕ) → is_for_lines v ≡ true → has_lines v ≡ true
-lines_named v e = by (has_lines v) refl
+lines_named v e = whether (has_lines v)
+    (λ i. i)
+    (λ i. absurd ((for_parts v e).0 (same_from_bits_below 32 v 0 (for_parts v e).1 (omega arith) (bits i))))
   where
     bits : has_lines v ≡ false → (i : ℕ) → i < 32 → bit_at v i ≡ bit_at 0 i
     bits none i lt = zero_bit (bit_at v i) (bit_at-lt v i) (clear (is_unit_line i || is_trigger_line i) refl) ∙ sym (bit_at-zero i)
@@ -158,10 +160,6 @@ lines_named v e = by (has_lines v) refl
         clear : (q : Bool) → is_unit_line i || is_trigger_line i ≡ q → has_bit v i ≡ false
         clear true at = no_line v none i at
         clear false at = other_line v i e at
-
-    by : (q : Bool) → has_lines v ≡ q → has_lines v ≡ true
-    by true i = i
-    by false i = absurd ((for_parts v e).0 (same_from_bits_below 32 v 0 (for_parts v e).1 (omega arith) (bits i)))
 
 written_owned : (r : Reg) (v : ℕ) → may_write r v ≡ true → owns_written r v ≡ true
 written_owned EnableSet v e = lines_named v e

@@ -1,17 +1,17 @@
 -- What windows of the module owe: the hardware may move between any two of these moves.
--- From services.WriteBatchSteps.
--- Used by bookkeeping.PendingWritesRight, hardware.HardwareCommutes, services.StopWords.
+-- From services.WriteBatchSteps, words.Cases.
+-- Used by bookkeeping.PendingWritesRight, hardware.HardwareCommutes, services.StopWords and 4 more.
 use Rattle.std.proofs.Common.{◌≡◌, ◌-◌, ◌<◌, ◌≤◌, ◌&&◌, ◌==◌, [], ◌∷◌, ◌∙◌, if◌then◌else◌}
 use Rattle.adc_groups.specs.Terms
-use Terms.{AdcTable, Add, add_gave, add_left, after_deeds, Again, again_gave, again_left, all_rooms, and_second, Answer}
-use Terms.{ap, arith, begins_word, Bool, Chip, chip_after, committed_after, Continuation, Converter, ConverterAbort}
-use Terms.{ConverterAck, deed_move, Drop, drop_gave, drop_left, EnableClear, expiry_of, false, finished-later}
-use Terms.{finished_not_running, Is_closed, Is_finished, Is_open, Is_over, is_shared, is_simple, is_some, IsDone}
-use Terms.{IsOver, IsUnkept, left_by, List, Load, LowersTo, Move, Next, next_gave, next_left, None, not, Option}
-use Terms.{owed_of, owed_own, PendingWrites, Put, put_gave, put_left, Read, Reason, refl, Reg, reset_chip, resets_chip}
-use Terms.{rooms, Search, search_move, shape_after, shape_move, shape_room, slice_index, slice_set, Some, some_same}
-use Terms.{Store, StructureOp, subst, sym, Take, take_gave, take_left, TriggerClear, TriggerFlags, true, WindowWrite}
-use Terms.{word_number, words-read, words-write, World, Write, ℕ}
+use Terms.{AdcTable, Add, add_gave, add_left, after_deeds, Again, again_gave, again_left, all_rooms, and_second}
+use Terms.{Answer, ap, arith, begins_word, Bool, Chip, chip_after, committed_after, Continuation, Converter}
+use Terms.{ConverterAbort, ConverterAck, deed_move, Drop, drop_gave, drop_left, EnableClear, expiry_of, false}
+use Terms.{finished-later, finished_not_running, Is_closed, Is_finished, Is_open, Is_over, is_shared, is_simple}
+use Terms.{is_some, IsDone, IsOver, IsUnkept, left_by, List, Load, LowersTo, Move, Next, next_gave, next_left, None}
+use Terms.{not, Option, owed_of, owed_own, PendingWrites, Put, put_gave, put_left, Read, Reason, refl, Reg}
+use Terms.{reset_chip, resets_chip, rooms, Search, search_move, shape_after, shape_move, shape_room, slice_index}
+use Terms.{slice_set, Some, some_same, Store, StructureOp, subst, sym, Take, take_gave, take_left, TriggerClear}
+use Terms.{TriggerFlags, true, whether_as, WindowWrite, word_number, words-read, words-write, World, Write, ℕ}
 use Rattle.chip_converter.specs.Rounds.{Round}
 use Rattle.adc_groups.specs.PendingWrites.{is_owed, IsSound}
 use Rattle.chip_converter.specs.Converters as chips
@@ -143,7 +143,9 @@ sound_later x m n le (Is_closed h) = Is_closed (h.0, h.1, (let past = h.2 in ome
 
 -- an aborted round isn't running, and an acknowledged one is over
 pub aborted_done : (x : Converter) (now : ℕ) → IsSound x.round now → IsDone (chips.aborted now x).round now
-aborted_done x now h = by (rounds.is_running x.round now) refl
+aborted_done x now h = whether_as (rounds.is_running x.round now) (λ q. IsDone (if q then record x { round = rounds.over now x.round } else x).round now)
+    (λ e. Is_over (now, refl, omega arith))
+    (λ e. still true e h)
   where
     still : (q : Bool) → rounds.is_running x.round now ≡ false → IsSound x.round now → IsDone x.round now
     still q e (Is_closed k) = Is_over k
@@ -153,20 +155,14 @@ aborted_done x now h = by (rounds.is_running x.round now) refl
         finish false true i j = refl
         finish _ _ i j = absurd (cc)
 
-    by : (q : Bool) → rounds.is_running x.round now ≡ q → IsDone (if q then record x { round = rounds.over now x.round } else x).round now
-    by true e = Is_over (now, refl, omega arith)
-    by false e = still true e h
-
 pub acknowledged_over : (x : Converter) (now : ℕ) → IsDone x.round now → IsOver (chips.acknowledged now x).round now
-acknowledged_over x now h = by (rounds.is_finished x.round now) refl
+acknowledged_over x now h = whether_as (rounds.is_finished x.round now) (λ q. IsOver (if q then record x { round = rounds.over now x.round } else x).round now)
+    (λ e. (now, refl, omega arith))
+    (λ e. still e h)
   where
     still : rounds.is_finished x.round now ≡ false → IsDone x.round now → IsOver x.round now
     still e (Is_finished f) = absurd (cc)
     still e (Is_over k) = k
-
-    by : (q : Bool) → rounds.is_finished x.round now ≡ q → IsOver (if q then record x { round = rounds.over now x.round } else x).round now
-    by true e = (now, refl, omega arith)
-    by false e = still e h
 
 pub done_stays : (x : Converter) (now : ℕ) → IsDone x.round now → chips.aborted now x ≡ x
 done_stays x now h = ap (λ q. if q then record x { round = rounds.over now x.round } else x) (quiet h)

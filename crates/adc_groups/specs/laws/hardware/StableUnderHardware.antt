@@ -1,6 +1,6 @@
 -- While nothing of the module's is made, words and registers go on agreeing: the hardware moves, or another module's frame does.
 -- From words.WordsOfModule, services.InitSteps.
--- Used by bookkeeping.PendingWritesRight, hardware.HardwareMoves, services.PulseRight and 3 more.
+-- Used by bookkeeping.PendingWritesRight, hardware.HardwareMoves, adc_turns: words.ListedInputs and 11 more.
 use Rattle.std.proofs.Common.{◌≡◌, ◌≢◌, ◌+◌, ◌-◌, ◌*◌, ◌/◌, ◌%◌, ◌<◌, ◌≤◌, ◌&&◌, ◌||◌, ◌==◌, [], ◌∷◌, ◌++◌, ◌∙◌}
 use Rattle.std.proofs.Common.{if◌then◌else◌}
 use Rattle.adc_groups.specs.Terms

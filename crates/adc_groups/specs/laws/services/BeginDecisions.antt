@@ -1,17 +1,18 @@
 -- What windows decide, by the words that they have seen: calls that begin, and pulses.
--- From services.Decisions, services.QueriesAndErrors, services.BodySteps, services.LookRight.
--- Used by services.CallSteps, services.DeInitRight, services.StopDecisions, services.SeekRight.
+-- From services.Decisions, services.QueriesAndErrors, words.Cases, services.BodySteps, services.LookRight.
+-- Used by services.CallSteps, services.DeInitRight, services.StopDecisions and 6 more.
 use Rattle.std.proofs.Common.{◌≡◌, ◌+◌, ◌-◌, ◌<◌, ◌≤◌, ◌&&◌, ◌||◌, ◌==◌, [], ◌∷◌, ◌∙◌, ◌⊎◌, if◌then◌else◌}
 use Rattle.adc_groups.specs.Terms
-use Terms.{AdcBody, AdcState, AdcTable, Agrees, all_groups, ap, arith, begin, Begins_stream, bit_of, Bool, Busy, Called}
-use Terms.{Chip, chosen_of, circumstances, Completed, Decided, EnableHardwareTrigger, Enables_trigger, error_by, false}
-use Terms.{first_error, first_from, FitsAdc, fresh_history, Goes, group_at, group_of, GroupAgrees, GroupCall, has_turn}
-use Terms.{HasSurveyed, Idle, inl, inr, is_idle, is_of, is_on, is_round_of, is_some, is_start_busy, Is_this_frame}
-use Terms.{is_under_way, is_unit_taken, List, list_any, listed, Load, looked, MayCall, MayStart, nat_tests, next_of}
-use Terms.{None, not, Option, phase_in, phase_of, phase_under_way, Place, place_ends, refl, refused, Reservations}
-use Terms.{ResultBuffer, Round, round_at, running_of, set_up, Sets_up, SetupResultBuffer, slice_get, Some}
-use Terms.{StartGroupConversion, Status, StreamCompleted, subst, suc, survey, survey_by, surveyed, Surveys, sym}
-use Terms.{or_right, takes_one, true, under_way_by, unit_in, unit_of, Window, word_number, word_of, World, zero, ℕ}
+use Terms.{AdcBody, AdcState, AdcTable, Agrees, all_groups, ap, arith, begin, Begins_stream, bit_of, Bool, Busy}
+use Terms.{Called, cases, Chip, chosen_of, circumstances, Completed, Decided, EnableHardwareTrigger, Enables_trigger}
+use Terms.{error_by, false, first_error, first_from, FitsAdc, fresh_history, Goes, group_at, group_of, GroupAgrees}
+use Terms.{GroupCall, has_turn, HasSurveyed, Idle, inl, inr, is_idle, is_of, is_on, is_round_of, is_some}
+use Terms.{is_start_busy, Is_this_frame, is_under_way, is_unit_taken, List, list_any, listed, Load, looked, MayCall}
+use Terms.{MayStart, nat_tests, next_of, None, not, Option, or_right, phase_in, phase_of, phase_under_way, Place}
+use Terms.{place_ends, refl, refused, Reservations, ResultBuffer, Round, round_at, running_of, set_up, Sets_up}
+use Terms.{SetupResultBuffer, slice_get, Some, StartGroupConversion, Status, StreamCompleted, subst, suc, survey}
+use Terms.{survey_by, surveyed, Surveys, sym, takes_one, true, under_way_by, unit_in, unit_of, whether_as, Window}
+use Terms.{word_number, word_of, World, zero, ℕ}
 use Rattle.adc_groups.specs.laws.services.QueriesAndErrors.{group_errors, refused_right}
 use Rattle.adc_groups.specs.laws.services.LookRight.{DecidedRight}
 use Rattle.mcal_base.specs.declared.error_name.ErrorName.TheVariants as errors
@@ -105,11 +106,9 @@ pub running_round : (g : ℕ) (s : AdcState) (v : ℕ) → (running_of (round_at
 running_round g s v = by (round_at s v)
   where
     same : (m n : ℕ) → (1 + m == 1 + n) ≡ (m == n)
-    same m n = test (m == n) refl
-      where
-        test : (q : Bool) → (m == n) ≡ q → (1 + m == 1 + n) ≡ q
-        test true e = grind (arith, nat_tests)
-        test false e = grind (arith, nat_tests)
+    same m n = whether_as (m == n) (λ q. (1 + m == 1 + n) ≡ q)
+        (λ e. grind (arith, nat_tests))
+        (λ e. grind (arith, nat_tests))
 
     by : (q : Option Round) → (running_of q == 1 + g) ≡ is_round_of g q
     by None = grind (arith, nat_tests)
@@ -238,11 +237,9 @@ module _ (d : AdcTable) (fits : FitsAdc d) (f r : AdcBody → ℕ) (below : Rese
               found None z = absurd (let i : is_some (group_of d g) ≡ false = ap (λ o. is_some o) z in let j = may.there in cc)
               found (Some o) z = any_on (λ n. is_on o.unit (group_of d n) && is_under_way s n) j lt
                   (subst (λ n. is_on n (group_of d j) && is_under_way s j ≡ true) (ap (λ z. unit_of z) z) (ap (λ q. q && is_under_way s j) (subst (λ z. is_of d z j ≡ true) (unit_is_in call win b) seen.0) ∙ e))
-      by false e = survey_right call win b may l (j + 1) (omega (arith, lt)) (λ i z on. either i on (less i z))
-        where
-          either : (i : ℕ) → is_of d (unit_in d win) i ≡ true → (i ≡ j) ⊎ (i < j) → is_under_way s i ≡ false
-          either i on (inl same) = ap (λ n. is_under_way s n) same ∙ e
-          either i on (inr z) = seen.1 i z on
+      by false e = survey_right call win b may l (j + 1) (omega (arith, lt)) (λ i z on. cases (less i z)
+          (λ same. ap (λ n. is_under_way s n) same ∙ e)
+          (λ z. seen.1 i z on))
 
   -- the words of the group were looked at
   pub looked_right : (call : GroupCall) (win : Window) → Begins g call win → MayCall d s g call → Decides call (looked d win (word_of chip (word_number d (words.Chosen g))) (word_of chip (word_number d (words.Phase g))))

@@ -1,6 +1,6 @@
 -- The places of a frame's body: what each does next, and what a step makes of it.
--- From services.Decisions, services.WriteBatchSteps, services.ReadSteps, words.WindowWords.
--- Used by services.SeekRight, services.LookRight, services.FirstWrites, services.CallSteps, body/rt and 16 more.
+-- From services.Decisions, services.ReadSteps, services.WriteBatchSteps, words.WindowWords.
+-- Used by adc_driver: bookkeeping.CleanPlaces, adc_driver: bookkeeping.Decreases and 58 more.
 use Rattle.std.specs.Prelude.{ℕ, ◌+◌, ◌-◌, ◌%◌, nat_lt, Bool, true, false, if◌then◌else◌, Option, Some, None, List, [], ◌∷◌, ◌++◌, length, slice_index_or}
 use Rattle.mcal_base.specs.declared.answer.Answer.{Answer}
 use Rattle.mcal_base.specs.declared.moves.Event.{Event}
@@ -162,6 +162,53 @@ making_takes e m = if making_over m then after_making e m m.after else (Makes m,
 abbrev pub opened : AdcTable → Outside → Place
 opened d (outsides.Reads g b) = Reads (reading d g b)
 opened d o = Out o
+
+-- ---- parts of a step, each at a place of its own kind
+
+-- all moves of a window were made
+abbrev pub IsMaking : Place → Type 0
+IsMaking (Makes m) = Unit {0}
+IsMaking _ = ⊥
+
+abbrev pub made : Place → Option Event → Place × BodyTaken
+made (Makes m) e = after_making e m m.after
+made k e = (k, step e)
+
+-- all words that decide were looked at
+abbrev pub IsLooking : Place → Type 0
+IsLooking (Looks w seen) = Unit {0}
+IsLooking _ = ⊥
+
+abbrev pub looked : AdcTable → Place → Place × BodyTaken
+looked d (Looks w seen) = follows (Looks w seen) (decided d w seen)
+looked d k = (k, goes)
+
+-- the mask is open, or is opened
+abbrev pub IsOutside : Place → Type 0
+IsOutside (Opens o) = Unit {0}
+IsOutside (Out o) = Unit {0}
+IsOutside _ = ⊥
+
+-- a search for a request or a bank, and what was found
+abbrev pub IsSearching : Place → Type 0
+IsSearching (Seeks w r) = Unit {0}
+IsSearching (Chooses u g r) = Unit {0}
+IsSearching _ = ⊥
+
+abbrev pub found : AdcTable → Place → ℕ → Place × BodyTaken
+found d (Seeks w r) x = follows (Seeks w r) (sought d w x)
+found d (Chooses u g r) x = follows (Chooses u g r) (chosen u g (bank_of x))
+found d k x = (k, goes)
+
+-- one value decides
+abbrev pub IsDeciding : Place → Type 0
+IsDeciding (Flag w) = Unit {0}
+IsDeciding (Surveys w g) = Unit {0}
+IsDeciding (Pins g p) = Unit {0}
+IsDeciding (Aborts r) = Unit {0}
+IsDeciding _ = ⊥
+
+-- ---- a step
 
 abbrev pub place_takes : AdcTable → Place → ℕ → Place × BodyTaken
 place_takes d (Flag w) x = follows (Flag w) (flagged w x)

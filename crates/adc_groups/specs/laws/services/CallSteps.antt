@@ -1,6 +1,6 @@
 -- The steps of windows that look: those of calls and of pulses; and those that read the register of their line.
 -- From services.BeginDecisions, services.BodySteps, services.Decisions, services.StopDecisions and 5 more.
--- Used by services.SearchSteps, services.DeInitRight.
+-- Used by adc_driver: services.LookRight, adc_serving: services.TakeRoundSteps and 6 more.
 use Rattle.std.proofs.Common.{◌≡◌, ◌+◌, ◌<◌, if◌then◌else◌}
 use Rattle.adc_groups.specs.Terms
 use Terms.{adc_bodies, adc_machine, AdcBody, AdcGround, AdcState, AdcTable, Agrees, Answer, ap, arith, AssertedAt}

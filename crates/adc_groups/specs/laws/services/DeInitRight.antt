@@ -1,18 +1,18 @@
 -- Adc_DeInit: its window looks at each group, and where none is under way it closes the module.
--- From services.Decisions, services.BeginDecisions, words.WordsAtRest, services.BodySteps and 8 more.
--- Used by services.SingleWordSteps.
+-- From services.Decisions, services.BeginDecisions, words.WordsAtRest, services.BodySteps and 11 more.
+-- Used by adc_driver: services.CallBegins, adc_driver: services.SurveySteps, services.SingleWordSteps.
 use Rattle.std.proofs.Common.{◌≡◌, ◌≢◌, ◌+◌, ◌-◌, ◌<◌, ◌≤◌, ◌||◌, [], ◌∷◌, ◌∙◌, ◌⊎◌, if◌then◌else◌}
 use Rattle.adc_groups.specs.Terms
 use Terms.{acts_by, adc_bodies, adc_machine, AdcBody, AdcGround, AdcState, AdcTable, Agrees, all_groups, ap, arith}
-use Terms.{asks_no, begin, body_ends, body_work, Bool, Called, Chip, chip_after, chosen_of, circumstances, close}
-use Terms.{closed, Closes_module, CommitsTo, Decided, deed_move, EnableClear, ended_at, error_by, false, first_error}
-use Terms.{FitsAdc, fresh_history, Goes, group_at, group_of, GroupState, has_turn, HasSurveyed, inl, inr, is_busy}
+use Terms.{asks_no, begin, body_ends, body_work, Bool, Called, cases, Chip, chip_after, chosen_of, circumstances}
+use Terms.{close, closed, Closes_module, CommitsTo, Decided, deed_move, EnableClear, ended_at, error_by, false}
+use Terms.{first_error, FitsAdc, fresh_history, Goes, group_at, group_of, GroupState, has_turn, HasSurveyed, is_busy}
 use Terms.{is_of, is_round_of, is_some, Is_this_frame, is_under_way, IsSound, IsSoundGroup, Leaves_acted, LINES}
 use Terms.{list_any, Load, Makes, making_owed, nat_lt, nat_tests, next_of, None, not, nothing_more, of_group, Option}
 use Terms.{outcome, owed_of, own_of, phase_in, phase_under_way, Place, place_ends, refl, refused, Reservations}
-use Terms.{result_word, RightOr, Round, round_at, rounds_of, settles_list, Some, SoundGroup, stands-move, STATE, Store}
-use Terms.{stored_other, stored_same, subst, suc, survey, survey_by, surveyed, Surveys, sym, tells_nothing, trio_of}
-use Terms.{true, under_way_by, untouched, value_of, word_number, word_of, World, Write, ℕ}
+use Terms.{result_word, RightOr, Round, round_at, rounds_of, settles_list, Some, SoundGroup, stands-move, STATE}
+use Terms.{Store, stored_other, stored_same, subst, suc, survey, survey_by, surveyed, Surveys, sym, tells_nothing}
+use Terms.{trio_of, true, under_way_by, untouched, value_of, whether, word_number, word_of, World, Write, ℕ}
 use Rattle.adc_groups.specs.laws.{words.DisjointWords.{start_from}, services.QueriesAndErrors.{refused_right}}
 use Rattle.adc_groups.specs.laws.{services.QueriesAndErrors.{not_reset}, services.BeginDecisions.{from_found}}
 use Rattle.adc_groups.specs.laws.{services.BeginDecisions.{none_found, any_off, any_on, phase_way}}
@@ -34,19 +34,13 @@ use Rattle.mcal_base.specs.facts.Numbers.{eq_self}
 
 -- what is so of none of all groups is so of none of them
 pub each_off : (p : ℕ → Bool) → list_any p all_groups ≡ false → (g : ℕ) → g < 16 → p g ≡ false
-each_off p none g lt = by (p g) refl
-  where
-    by : (q : Bool) → p g ≡ q → p g ≡ false
-    by true e = absurd (let on = any_on p g lt e in cc)
-    by false e = e
+each_off p none g lt = whether (p g) (λ e. absurd (let on = any_on p g lt e in cc)) (λ e. e)
 
 module _ (d : AdcTable) (w : World) (s : AdcState) (sound : IsSound d w s) (free : is_busy d s calls.DeInit ≡ false) where
   quiet : (g : ℕ) → is_under_way s g ≡ false
-  quiet g = by (nat_lt g 16) refl
-    where
-      by : (q : Bool) → nat_lt g 16 ≡ q → is_under_way s g ≡ false
-      by true e = each_off (is_under_way s) free g (grind (arith, nat_tests))
-      by false e = let le : 16 ≤ g = grind (arith, nat_tests) in ap (λ (x : GroupState). under_way_by x.status (has_turn s g) x.trigger) (sound_past d s sound.groups g le)
+  quiet g = whether (nat_lt g 16)
+      (λ e. each_off (is_under_way s) free g (grind (arith, nat_tests)))
+      (λ e. let le : 16 ≤ g = grind (arith, nat_tests) in ap (λ (x : GroupState). under_way_by x.status (has_turn s g) x.trigger) (sound_past d s sound.groups g le))
 
   pub none_on : (g : ℕ) → (has_turn s g ≡ false) × ((group_at s g).trigger ≡ false)
   none_on g = none_under_way (group_of d g) (has_turn s g) (group_at s g) (sound.groups g) (quiet g)
@@ -69,14 +63,12 @@ left x = record untouched { chosen = x.chosen }
 
 module _ (d : AdcTable) (w : World) (s : AdcState) (sound : IsSound d w s) where
   group_left : (g : ℕ) → group_at (closed s) g ≡ left (group_at s g)
-  group_left g = by (nat_lt g 16) refl
+  group_left g = whether (nat_lt g 16)
+      (λ e. of_group (λ h. left (group_at s h)) g (grind (arith, nat_tests)))
+      (λ e. let le : 16 ≤ g = grind (arith, nat_tests) in past g le ∙ sym (ap left (sound_past d s sound.groups g le)))
     where
       past : (g : ℕ) → 16 ≤ g → group_at (closed s) g ≡ untouched
       past g le = let at : g ≡ suc (suc (suc (suc (suc (suc (suc (suc (suc (suc (suc (suc (suc (suc (suc (suc (g - 16)))))))))))))))) = omega (arith, le) in ap (λ n. group_at (closed s) n) at
-
-      by : (q : Bool) → nat_lt g 16 ≡ q → group_at (closed s) g ≡ left (group_at s g)
-      by true e = of_group (λ h. left (group_at s h)) g (grind (arith, nat_tests))
-      by false e = let le : 16 ≤ g = grind (arith, nat_tests) in past g le ∙ sym (ap left (sound_past d s sound.groups g le))
 
   turn_left : (g : ℕ) → has_turn (closed s) g ≡ false
   turn_left g = ap (λ (x : GroupState). is_some x.waiting || false || false) (group_left g)
@@ -201,11 +193,9 @@ module _ (d : AdcTable) (fits : FitsAdc d) (f r : AdcBody → ℕ) (chip : Chip)
         by (Some x) e = absurd (cc)
 
     all_free : ((g : ℕ) → g < 16 → is_some (group_of d g) ≡ true → is_under_way s g ≡ false) → is_busy d s calls.DeInit ≡ false
-    all_free none = any_off (is_under_way s) (λ g lt. by g lt (is_some (group_of d g)) refl)
-      where
-        by : (g : ℕ) → g < 16 → (q : Bool) → is_some (group_of d g) ≡ q → is_under_way s g ≡ false
-        by g lt true e = none g lt e
-        by g lt false e = unconfigured g e
+    all_free none = any_off (is_under_way s) (λ g lt. whether (is_some (group_of d g))
+        (λ e. none g lt e)
+        (λ e. unconfigured g e))
 
     -- a survey from this group on
     pub close_survey : (from : ℕ) → from ≤ 16 → ((j : ℕ) → j < from → is_of d None j ≡ true → is_under_way s j ≡ false) → Decides (Goes (survey d windows.Close from))
@@ -227,11 +217,9 @@ module _ (d : AdcTable) (fits : FitsAdc d) (f r : AdcBody → ℕ) (chip : Chip)
 
         by : (q : Bool) → is_under_way s j ≡ q → Decides (if q then refused d windows.Close errors.AdcBusy else Goes (survey d windows.Close (j + 1)))
         by true e = busied (any_on (is_under_way s) j lt e)
-        by false e = close_survey (j + 1) (omega (arith, lt)) (λ i z of. either i of (less i z))
-          where
-            either : (i : ℕ) → is_of d None i ≡ true → (i ≡ j) ⊎ (i < j) → is_under_way s i ≡ false
-            either i of (inl same) = ap (λ n. is_under_way s n) same ∙ e
-            either i of (inr z) = seen.1 i z of
+        by false e = close_survey (j + 1) (omega (arith, lt)) (λ i z of. cases (less i z)
+            (λ same. ap (λ n. is_under_way s n) same ∙ e)
+            (λ z. seen.1 i z of))
 
 -- the step of its window
 pub closing_surveys : (d : AdcTable) (fits : FitsAdc d) (f r : AdcBody → ℕ) (below : Reservations) (chip : Chip) (w : World) (s : AdcState) (m : ℕ → Bool) (y : ℕ) (j : ℕ) → s.initialised ≡ true → below ≡ [] → HasSurveyed d windows.Close s j → Agrees d below chip w s

@@ -1,6 +1,6 @@
 -- What each window decides by what it has seen, and what it makes of that.
 -- From services.WriteBatchSteps.
--- Used by Places, services.StopDecisions, services.BodySteps, services.QueriesAndErrors and 26 more.
+-- Used by adc_driver: bookkeeping.WindowBounds, adc_driver: bookkeeping.MaskShut and 56 more.
 use Rattle.std.specs.Prelude.{ℕ, ◌+◌, ◌-◌, ◌*◌, ◌/◌, ◌==◌, ◌&&◌, ◌||◌, not, nat_lt, Bool, true, false, if◌then◌else◌, Option, Some, None, is_some, List, [], ◌∷◌, ◌++◌, length, map, slice_index_or}
 use Rattle.std.specs.List.{range_with_len}
 use Rattle.mcal_base.specs.Bits.{has_bit, bit_of}

@@ -1,20 +1,20 @@
 -- A call begins a stream and has its trigger switched on: the step at which it acts, and all that its window makes after that.
--- From bookkeeping.FrameRule, words.OrderBetweenWrites, services.RequestRight, services.Decisions and 9 more.
+-- From bookkeeping.FrameRule, words.OrderBetweenWrites, services.RequestRight, bookkeeping.TriggerListener and 12 more.
 -- Used by services.SingleWordSteps.
-use Rattle.std.proofs.Common.{◌≡◌, ◌≢◌, ◌+◌, ◌*◌, ◌/◌, ◌%◌, ◌^◌, ◌<◌, ◌&&◌, ◌||◌, ◌==◌, [], ◌∷◌, ◌∙◌, ◌⊎◌}
+use Rattle.std.proofs.Common.{◌≡◌, ◌≢◌, ◌+◌, ◌*◌, ◌/◌, ◌%◌, ◌^◌, ◌<◌, ◌&&◌, ◌||◌, [], ◌∷◌, ◌∙◌, ◌⊎◌}
 use Rattle.adc_groups.specs.Terms
 use Terms.{acts_by, adc_bodies, adc_machine, AdcBody, AdcGround, AdcState, AdcTable, after_list, Agrees, AllRight, ap}
 use Terms.{arith, asks_no, BanksAgree, begun_stream, bit_of, bit_of_trigger, bit_or, body_ends, body_work, Bool, Busy}
-use Terms.{Call, Called, Chip, chip_after, chosen_of, circumstances, claim_right, CommitsTo, deed_move, enable}
+use Terms.{Call, Called, cases, Chip, chip_after, chosen_of, circumstances, claim_right, CommitsTo, deed_move, enable}
 use Terms.{EnableHardwareTrigger, ended_at, Entry, error_by, false, first_error, FitsAdc, fresh_history, group_at}
 use Terms.{group_of, group_same, group_word, GroupAgrees, GroupState, has_bit, has_bit-or, has_bit-pow_other}
 use Terms.{has_bit-pow_same, has_turn, HasWords, inl, inr, is_on, is_round_of, is_some, is_start_busy, Is_this_frame}
 use Terms.{is_triggered, is_word, IsOrder, IsSoundGroup, Leaves_acted, length, length_after, List, listener, Makes}
-use Terms.{making_owed, mark_at, MayCall, MayStart, min, None, not, nothing_more, number_by, Option}
+use Terms.{making_owed, mark_at, MayCall, MayStart, min, None, not, nothing_more, number_by, Option, or_right}
 use Terms.{order_of, outcome, owed_of, owed_own, phase_of, refl, Request, Reservation, Reservations, RightOr, Round}
 use Terms.{round_at, RoundAgrees, rounds_of, samples_of, Set, settles_list, Some, SoundGroup, stands-agree, STATE}
-use Terms.{Store, subst, sym, tells_nothing, trigger_bit, trigger_input, TriggerSet, trio_of, true, unit_of, UnitAgrees}
-use Terms.{or_right, value_of, WindowWrite, word_number, word_of, World, zero-mod, ℕ}
+use Terms.{Store, subst, sym, tells_nothing, trigger_bit, trigger_input, TriggerSet, trio_of, true, unit_of}
+use Terms.{UnitAgrees, value_of, WindowWrite, word_number, word_of, World, zero-mod, ℕ}
 use Rattle.word_shapes.specs.PriorityQueue.{own_of}
 use Rattle.adc_groups.specs.declared.making.WindowWrite.TheVariants.{Write}
 use Rattle.adc_groups.specs.laws.{services.QueriesAndErrors.{group_errors, not_reset}, bookkeeping.FrameRule.{Stays}}
@@ -27,14 +27,14 @@ use Rattle.adc_groups.specs.laws.{words.OrderBetweenWrites.{order_last, stands_l
 use Rattle.adc_groups.specs.laws.{words.StructureParts.{lows_set, own_named, deeds_listed}}
 use Rattle.adc_groups.specs.laws.{bookkeeping.TriggerListener.{input_small, bit_is, listener_on, listener_other}}
 use Rattle.adc_groups.specs.laws.{words.OrderWords.{order_kept}, services.RequestRight.{sound_past, other_at}}
-use Rattle.adc_groups.specs.laws.{services.RequestRight.{none_under_way, none_waits, none_runs, on_own}}
+use Rattle.adc_groups.specs.laws.{services.RequestRight.{none_under_way, none_waits, on_own, runs_other}}
 use Rattle.chip_converter.specs.Converters as chips
 use Rattle.mcal_base.specs.declared.moves.Event.TheVariants as events
 use Rattle.mcal_base.specs.declared.service.Service.TheVariants as services
 use Rattle.adc_machine.specs.declared.call.Call.TheVariants as calls
 use Rattle.adc_machine.specs.declared.table.Group as configured
 use Rattle.adc_groups.specs.declared.words.Word.TheVariants as words
-use Rattle.mcal_base.specs.facts.Numbers.{eq_self, same_or_other}
+use Rattle.mcal_base.specs.facts.Numbers.{same_or_other}
 use Rattle.mcal_base.specs.facts.Truths.{set_apart}
 
 -- ---- Adc_EnableHardwareTrigger
@@ -73,11 +73,9 @@ module _ (d : AdcTable) (fits : FitsAdc d) (f r : AdcBody → ℕ) (below : Rese
   is_other k ne = other_at s g begun (sound_past d s h.sound.groups) k ne
 
   waiting_as : (k : ℕ) → (group_at t k).waiting ≡ (group_at s k).waiting
-  waiting_as k = by (same_or_other k g)
-    where
-      by : (k ≡ g) ⊎ (k ≢ g) → (group_at t k).waiting ≡ (group_at s k).waiting
-      by (inl e) = subst (λ n. (group_at t n).waiting ≡ (group_at s n).waiting) (sym e) (ap (λ (x : GroupState). x.waiting) is_group)
-      by (inr ne) = ap (λ (x : GroupState). x.waiting) (is_other k ne)
+  waiting_as k = cases (same_or_other k g)
+      (λ e. subst (λ n. (group_at t n).waiting ≡ (group_at s n).waiting) (sym e) (ap (λ (x : GroupState). x.waiting) is_group))
+      (λ ne. ap (λ (x : GroupState). x.waiting) (is_other k ne))
 
   turn_as : (k : ℕ) → has_turn t k ≡ has_turn s k
   turn_as k = ap (λ q. is_some q || is_round_of k (round_at s 0) || is_round_of k (round_at s 1)) (waiting_as k)
@@ -134,14 +132,6 @@ module _ (d : AdcTable) (fits : FitsAdc d) (f r : AdcBody → ℕ) (below : Rese
       none_of : (q : Option Request) → is_some q ≡ false → q ≡ None
       none_of None e = refl
       none_of (Some q) e = absurd (cc)
-
-  -- no unit has a round of the group
-  no_round : (v : ℕ) (x : Round) → v < 2 → round_at s v ≡ Some x → x.group ≢ g
-  no_round v x less e same =
-      let off : is_round_of g (round_at s v) ≡ false = none_runs s g quiet.0 v less in
-      let on : is_round_of g (Some x) ≡ true = ap (λ n. n == g) same ∙ eq_self g in
-      let is : is_round_of g (round_at s v) ≡ is_round_of g (Some x) = ap (λ q. is_round_of g q) e in
-      cc
 
   -- ---- the words after the window's moves
 
@@ -219,7 +209,7 @@ module _ (d : AdcTable) (fits : FitsAdc d) (f r : AdcBody → ℕ) (below : Rese
   fresh = record {
     sound = sound;
     waits = λ q e. absurd (let none = none_wait in cc);
-    runs = λ x e same. absurd (no_round u x few e same);
+    runs = λ x e same. absurd (runs_other s g quiet.0 u x few e same);
     marks = λ i e. marks i e (same_or_other i input.0);
     hears = λ e i. ap (λ (x : GroupState). x.trigger) is_group;
     outside = stands_last d fits g u may.there few chip whole deed tt acted (differs_none (own_of (order_of u)) acted first_whole) deeds (refl, (refl, (refl, tt))) w h.outside;

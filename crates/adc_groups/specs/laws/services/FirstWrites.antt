@@ -1,6 +1,6 @@
 -- The first move of a window that makes more of them, where its event stands.
--- From services.BodySteps, services.WriteBatchSteps.
--- Used by services.StopRight, services.CallSteps.
+-- From services.BodySteps, services.WriteBatchSteps, service_outline: Ending.
+-- Used by services.StopRight, adc_serving: services.ServeActSteps, services.CallSteps and 5 more.
 use Rattle.std.proofs.Common.{◌≡◌, ◌&&◌, ◌∷◌, ◌∙◌, if◌then◌else◌}
 use Rattle.adc_groups.specs.Terms
 use Terms.{adc_bodies, adc_machine, AdcBody, AdcGround, AdcState, AdcTable, Adding, after_making, ap, arith, body_ends}

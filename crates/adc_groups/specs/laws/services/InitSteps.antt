@@ -1,5 +1,5 @@
 -- Adc_Init: the words that it clears, and its last window.
--- Used by service/module/rt, words.WordsOfModule, Refinement, hardware.StableUnderHardware.
+-- Used by adc_driver: services.InitRight, src/service/module.rt, adc_driver: services.InitActRight and 5 more.
 use Rattle.std.specs.Prelude.{ℕ, ◌+◌, ◌-◌, ◌/◌, ◌%◌, ◌==◌, nat_lt, if◌then◌else◌, Some, None, is_some}
 use Rattle.mcal_base.specs.declared.moves.Event.TheVariants.{Act}
 use Rattle.mcal_base.specs.declared.moves.Move.{Move}

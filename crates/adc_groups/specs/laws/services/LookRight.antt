@@ -1,6 +1,6 @@
 -- A window looks at its words one after the other: once it has seen all of them, what it decides by them is right.
--- From services.BodySteps, services.Decisions, words.WindowWords.
--- Used by services.CallSteps, services.QueriesAndErrors, services.StopDecisions, services.SeekRight and 4 more.
+-- From services.BodySteps, services.Decisions, words.WindowWords, service_outline: Ending.
+-- Used by services.CallSteps, adc_serving: services.AfterCopySteps, adc_serving: services.ClaimRight and 13 more.
 use Rattle.std.proofs.Common.{◌≡◌, ◌<◌, ◌≤◌, [], ◌∷◌, ◌++◌, ◌∙◌, if◌then◌else◌}
 use Rattle.adc_groups.specs.Terms
 use Terms.{adc_bodies, adc_machine, AdcBody, AdcGround, AdcState, AdcTable, Answer, ap, arith, AssertedAt, body_ends}

@@ -1,6 +1,6 @@
 -- What the load of the state word decides for a call, and where it goes on.
 -- From services.Decisions, services.BodySteps.
--- Used by asked/rt, mcal_drivers: Laws, Places, adc_driver: Handlers, mcal_drivers: Frames.
+-- Used by adc_driver: services.BeginSteps, adc_driver: bookkeeping.Joined, adc_driver: bookkeeping.Lawful and 9 more.
 use Rattle.std.specs.Prelude.{ℕ, ◌==◌, not, nat_lt, Bool, false, if◌then◌else◌, Option, Some, None, is_some, List}
 use Rattle.mcal_base.specs.declared.error_name.ErrorName.{ErrorName}
 use Rattle.mcal_base.specs.declared.answer.Answer.{Answer}
@@ -11,7 +11,7 @@ use Rattle.service_outline.specs.declared.body.Looked.TheVariants as lookeds
 use Rattle.service_outline.specs.declared.body.Or.{Or}
 use Rattle.service_outline.specs.declared.body.Or.TheVariants.{First, Second}
 use Rattle.service_outline.specs.declared.done.Done.{Done}
-use Rattle.service_outline.specs.declared.sweep.Place.TheVariants.{Opens}
+use Rattle.service_outline.specs.declared.sweep.SweepStage.TheVariants.{Opens}
 use Rattle.service_outline.specs.declared.sweep.Sweep.{Sweep}
 use Rattle.adc_machine.specs.Checks.{Circumstances, service_of, facts_by, answer_refused, is_triggered, has_notification}
 use Rattle.adc_machine.specs.Machine.{reporting}

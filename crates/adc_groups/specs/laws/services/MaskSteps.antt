@@ -1,5 +1,6 @@
 -- The mask is opened at the end of a window, and closed at the begin of one.
 -- From services.BodySteps, bookkeeping.RefinementRight, words.WordsOfModule.
+-- Used by adc_driver: services.OutsideSteps.
 use Rattle.adc_groups.specs.Terms
 use Terms.{adc_bodies, AdcBody, AdcGround, AdcState, AdcTable, Agrees, arith, body_ends, body_work, Bool, Call, Chip}
 use Terms.{chip_after, ended_at, FitsAdc, FrameHistory, hold_in, hold_out, Mask, MayClose, Opens, Origin, Out}

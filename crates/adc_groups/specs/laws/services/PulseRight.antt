@@ -1,24 +1,25 @@
 -- A handler serves the pulse of a trigger input: its group makes a request, unless it has a turn.
--- From services.RequestRight, bookkeeping.FrameRule, words.OrderBetweenWrites, words.StructureParts and 9 more.
--- Used by services.SingleWordSteps, bookkeeping.TriggerOff, services.StopDecisions.
-use Rattle.std.proofs.Common.{◌≡◌, ◌≢◌, ◌+◌, ◌*◌, ◌/◌, ◌%◌, ◌^◌, ◌<◌, ◌&&◌, ◌||◌, ◌==◌, [], ◌∷◌, ◌∙◌, ◌⊎◌}
+-- From services.RequestRight, bookkeeping.FrameRule, words.OrderBetweenWrites, words.StructureParts and 12 more.
+-- Used by bookkeeping.TriggerOff, services.SingleWordSteps, services.StopDecisions.
+use Rattle.std.proofs.Common.{◌≡◌, ◌≢◌, ◌+◌, ◌*◌, ◌/◌, ◌%◌, ◌^◌, ◌<◌, ◌&&◌, ◌||◌, ◌==◌, [], ◌∷◌, ◌∙◌}
 use Rattle.std.proofs.Common.{if◌then◌else◌}
 use Rattle.adc_groups.specs.Terms
 use Terms.{adc_bodies, adc_machine, AdcBody, AdcGround, AdcState, AdcTable, add-ends, add_start, added, adding}
 use Terms.{after_list, after_request, Agrees, all_groups, AllRight, and_first, and_second, ap, arith, BanksAgree, bit}
-use Terms.{bit_of, body_ends, body_work, Bool, Call, Chip, chip_after, chosen_of, claim_right, CommitsTo, cond}
+use Terms.{bit_of, body_ends, body_work, Bool, Call, cases, Chip, chip_after, chosen_of, claim_right, CommitsTo, cond}
 use Terms.{Converter, Converters, deed_move, DiffersIn, ended_at, ends_with_stream, Entered, Entry, entry, false}
 use Terms.{FitsAdc, fresh_history, group_at, group_of, group_same, group_word, GroupAgrees, GroupState, happens}
 use Terms.{has_bit, has_bit-pow_other, has_bit-pow_same, has_bit-without, has_input, Has_served, has_served, has_turn}
-use Terms.{HasWords, HoldsOrder, Idle, inl, inr, is_on, is_round_of, is_some, is_there, Is_this_frame, is_word, IsBlock}
-use Terms.{IsOrder, IsSoundGroup, IsSoundRequest, kept_by, kept_in, kept_of_round, length, length_after, List, listener}
-use Terms.{listener_among, listens, Makes, making_owed, mark_at, MayClose, MayPulse, min, missed_after, mod-eq_of_lt}
-use Terms.{nat_tests, newest, None, not, number_at, number_by, Option, order_of, Origin, outcome, owed_of, owed_own}
-use Terms.{phase_of, pow_below, pulse_by, refl, Request, requested, requested_unless_turn, Reservation, Reservations}
-use Terms.{RightOr, Round, round_at, RoundAgrees, rounds_of, same_line, samples_of, served, served_trigger, Serves, Set}
-use Terms.{settles_list, settles_part, slice_get, Some, SoundGroup, stands-agree, stands-move, STATE, Store}
-use Terms.{StreamCompleted, subst, suc, sym, tells_nothing, TriggerFlags, TriggersAgree, trio_of, true, unit_of}
-use Terms.{or_right, UnitAgrees, value_of, WindowWrite, with_mark, without, word_number, word_of, World, zero, ℕ}
+use Terms.{HasWords, HoldsOrder, Idle, is_on, is_round_of, is_some, is_there, Is_this_frame, is_word, IsBlock}
+use Terms.{IsOrder, IsSoundGroup, IsSoundRequest, kept_by, kept_in, kept_of_round, length, length_after, List}
+use Terms.{listener, listener_among, listens, Makes, making_owed, mark_at, MayClose, MayPulse, min, missed_after}
+use Terms.{mod-eq_of_lt, nat_tests, newest, None, not, number_at, number_by, Option, or_right, order_of, Origin}
+use Terms.{outcome, owed_of, owed_own, phase_of, pow_below, pulse_by, refl, Request, requested, requested_unless_turn}
+use Terms.{Reservation, Reservations, RightOr, Round, round_at, RoundAgrees, rounds_of, same_line, samples_of, served}
+use Terms.{served_trigger, Serves, Set, settles_list, settles_part, slice_get, Some, SoundGroup, stands-agree}
+use Terms.{stands-move, STATE, Store, StreamCompleted, subst, suc, sym, tells_nothing, TriggerFlags, TriggersAgree}
+use Terms.{trio_of, true, unit_of, UnitAgrees, value_of, whether_as, WindowWrite, with_mark, without, word_number}
+use Terms.{word_of, World, zero, ℕ}
 use Rattle.word_shapes.specs.PriorityQueue.{own_of}
 use Rattle.adc_groups.specs.declared.making.WindowWrite.TheVariants.{Write}
 use Rattle.adc_groups.specs.laws.{bookkeeping.FrameRule.{Stays, Fresh, Spares, all_spare, no_keeper, all_changed}}
@@ -31,7 +32,7 @@ use Rattle.adc_groups.specs.laws.{words.StructureParts.{low_set, lows_set, word_
 use Rattle.adc_groups.specs.laws.{words.StructureParts.{deeds_listed}, hardware.HardwareCommutes.{small_without}}
 use Rattle.adc_groups.specs.laws.{bookkeeping.TriggerListener.{bit_is}, hardware.StableUnderHardware.{Goes_on, Onward}}
 use Rattle.adc_groups.specs.laws.{hardware.StableUnderHardware.{onward_agrees}, bookkeeping.PromisesKept.{no_unit}}
-use Rattle.adc_groups.specs.laws.{services.RequestRight.{sound_past, other_at, none_waits, none_runs, on_own}}
+use Rattle.adc_groups.specs.laws.{services.RequestRight.{sound_past, other_at, none_waits, on_own, runs_other}}
 use Rattle.adc_groups.specs.laws.{services.RequestRight.{listener_as, number_few, asking, asking_right, asking_puts}}
 use Rattle.adc_groups.specs.laws.{services.RequestRight.{asking_takes, asking_owed, asking_backed, asking_claims}}
 use Rattle.adc_groups.specs.laws.{services.RequestRight.{asking_promised}}
@@ -39,7 +40,7 @@ use Rattle.chip_converter.specs.Converters as chips
 use Rattle.adc_groups.specs.declared.making.StructureOp.TheVariants as shapes
 use Rattle.adc_groups.specs.declared.window.Window.TheVariants as windows
 use Rattle.adc_groups.specs.declared.words.Word.TheVariants as words
-use Rattle.mcal_base.specs.facts.Numbers.{eq_self, same_or_other}
+use Rattle.mcal_base.specs.facts.Numbers.{same_or_other}
 
 -- ---- marks
 
@@ -78,11 +79,9 @@ flags_left d b s i few h j lt =
     ∙ (ap (λ q. mark_at s j && not q) (one i j) ∙ sym (mark_left s i j lt))))
   where
     one : (i j : ℕ) → has_bit (2 ^ i) j ≡ (j == i)
-    one i j = by (j == i) refl
-      where
-        by : (q : Bool) → (j == i) ≡ q → has_bit (2 ^ i) j ≡ q
-        by true e = let same : j ≡ i = grind (arith, nat_tests) in ap (λ n. has_bit (2 ^ i) n) same ∙ has_bit-pow_same i
-        by false e = let ne : j ≢ i = grind (arith, nat_tests) in has_bit-pow_other i j ne
+    one i j = whether_as (j == i) (λ q. has_bit (2 ^ i) j ≡ q)
+        (λ e. let same : j ≡ i = grind (arith, nat_tests) in ap (λ n. has_bit (2 ^ i) n) same ∙ has_bit-pow_same i)
+        (λ e. let ne : j ≢ i = grind (arith, nat_tests) in has_bit-pow_other i j ne)
 
 round_flags : (d : AdcTable) (b : Converters) (v : ℕ) (w : World) (a : Converter) (q : Option Round) → RoundAgrees d b w a q → RoundAgrees d (record b { pulses = v }) w a q
 round_flags d b v w a None x = x
@@ -188,11 +187,9 @@ module _ (d : AdcTable) (fits : FitsAdc d) (f r : AdcBody → ℕ) (below : Rese
   turn = ap (λ (x : GroupState). is_some x.waiting || is_round_of g (round_at s 0) || is_round_of g (round_at s 1)) is_group
 
   trigger_as : (k : ℕ) → (group_at t k).trigger ≡ (group_at s k).trigger
-  trigger_as k = by (same_or_other k g)
-    where
-      by : (k ≡ g) ⊎ (k ≢ g) → (group_at t k).trigger ≡ (group_at s k).trigger
-      by (inl e) = subst (λ n. (group_at t n).trigger ≡ (group_at s n).trigger) (sym e) (ap (λ (x : GroupState). x.trigger) is_group)
-      by (inr ne) = ap (λ (x : GroupState). x.trigger) (is_other k ne)
+  trigger_as k = cases (same_or_other k g)
+      (λ e. subst (λ n. (group_at t n).trigger ≡ (group_at s n).trigger) (sym e) (ap (λ (x : GroupState). x.trigger) is_group))
+      (λ ne. ap (λ (x : GroupState). x.trigger) (is_other k ne))
 
   listens_as : (i : ℕ) → listener d t i ≡ listener d s i
   listens_as = listener_as d s t trigger_as
@@ -226,14 +223,6 @@ module _ (d : AdcTable) (fits : FitsAdc d) (f r : AdcBody → ℕ) (below : Rese
 
   kept_now : kept_in d t g ≡ []
   kept_now = ap (λ (x : GroupState). kept_by x.waiting (kept_of_round g (round_at s (unit_of (group_of d g))))) is_group
-
-  -- no unit has a round of the group
-  no_round : (v : ℕ) (x : Round) → v < 2 → round_at s v ≡ Some x → x.group ≢ g
-  no_round v x less e same =
-      let off : is_round_of g (round_at s v) ≡ false = none_runs s g none v less in
-      let on : is_round_of g (Some x) ≡ true = ap (λ n. n == g) same ∙ eq_self g in
-      let is : is_round_of g (round_at s v) ≡ is_round_of g (Some x) = ap (λ q. is_round_of g q) e in
-      cc
 
   -- ---- the words after the window's moves
 
@@ -323,7 +312,7 @@ module _ (d : AdcTable) (fits : FitsAdc d) (f r : AdcBody → ℕ) (below : Rese
     fresh = record {
       sound = sound;
       waits = λ q e. subst (λ (z : Request). IsSoundRequest d t g z) (sym (waits_now q e)) (omega arith, omega arith, some_inputs d fits g may.there, λ e. refl);
-      runs = λ x e same. absurd (no_round u x few e same);
+      runs = λ x e same. absurd (runs_other s g none u x few e same);
       marks = λ j e. ap (λ o. is_some o) (listens_as j) ∙ h.sound.marks j (marked_before s i j e).1;
       hears = λ e z. ap (λ (x : GroupState). x.trigger) is_group ∙ heard.1;
       outside = stands_last d fits g u may.there few chip whole deed tt c differs deeds (refl, (refl, tt)) w h.outside;

@@ -1,6 +1,6 @@
 -- Acts that change nothing: calls that find an error in what they have looked at, and questions.
--- From services.Decisions, services.WriteBatchSteps, services.BodySteps, services.LookRight and 2 more.
--- Used by services.StopDecisions, services.SingleWordCalls, services.StopRight, services.CallSteps and 4 more.
+-- From services.Decisions, services.BodySteps, services.LookRight, services.WriteBatchSteps and 4 more.
+-- Used by services.StopDecisions, services.BeginDecisions, services.CallSteps, services.DeInitRight and 6 more.
 use Rattle.std.proofs.Common.{◌≡◌, ◌≢◌, ◌<◌, ◌≤◌, ◌||◌, [], ◌∷◌, ◌∙◌}
 use Rattle.adc_groups.specs.Terms
 use Terms.{acts_and_ends, acts_by, adc_machine, AdcBody, AdcState, AdcTable, Agrees, Answer, answer_refused, answers}

@@ -1,5 +1,5 @@
 -- A pinned bank that is read: its moves, and the answer with which the call ends.
--- Used by service/read/rt, services.BodySteps.
+-- Used by src/service/read.rt, adc_driver: bookkeeping.Decreases, services.BodySteps and 4 more.
 use Rattle.std.specs.Prelude.{ℕ, Bool, true, false, Option, Some, None}
 use Rattle.mcal_base.specs.declared.answer.Answer.{Answer}
 use Rattle.mcal_base.specs.declared.answer_name.AnswerName.TheVariants.{EOk}

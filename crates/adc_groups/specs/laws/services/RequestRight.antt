@@ -1,26 +1,26 @@
 -- A call begins a stream and makes a request: the step at which it acts, and all that its window makes after that.
--- From bookkeeping.FrameRule, words.OrderBetweenWrites, words.WordsOfModule, words.StructureParts and 6 more.
--- Used by services.PulseRight, services.StopRight, bookkeeping.TurnEnded, services.EnableTriggerRight and 4 more.
-use Rattle.std.proofs.Common.{◌≡◌, ◌≢◌, ◌+◌, ◌-◌, ◌*◌, ◌/◌, ◌%◌, ◌<◌, ◌≤◌, ◌&&◌, ◌||◌, ◌==◌, [], ◌∷◌, ◌∙◌, ◌⊎◌}
+-- From bookkeeping.FrameRule, words.OrderBetweenWrites, words.WordsOfModule, words.StructureParts and 9 more.
+-- Used by services.PulseRight, services.StopRight, bookkeeping.TurnEnded, services.EnableTriggerRight and 9 more.
+use Rattle.std.proofs.Common.{◌≡◌, ◌≢◌, ◌+◌, ◌-◌, ◌*◌, ◌/◌, ◌%◌, ◌<◌, ◌≤◌, ◌&&◌, ◌||◌, ◌==◌, [], ◌∷◌, ◌∙◌}
 use Rattle.std.proofs.Common.{if◌then◌else◌}
 use Rattle.adc_groups.specs.Terms
-use Terms.{aborts, acts_by, adc_bodies, adc_machine, AdcBody, AdcGround, AdcState, AdcTable, add-ends, add_start, added}
-use Terms.{adding, after_list, after_request, Agrees, all_groups, AllRight, Answer, ap, arith, asks_no, Backed}
-use Terms.{BanksAgree, begun_stream, bit_of, body_ends, body_work, Bool, Busy, Call, Called, Chip, chip_after}
+use Terms.{aborts, acts_by, adc_bodies, adc_machine, AdcBody, AdcGround, AdcState, AdcTable, add-ends, add_start}
+use Terms.{added, adding, after_list, after_request, Agrees, all_groups, AllRight, Answer, ap, arith, asks_no, Backed}
+use Terms.{BanksAgree, begun_stream, bit_of, body_ends, body_work, Bool, Busy, Call, Called, cases, Chip, chip_after}
 use Terms.{chosen_of, circumstances, claim_right, CommitsTo, Completed, cond, Converters, deed_move, DiffersIn}
-use Terms.{ended_at, Entry, entry, error_by, false, first_error, first_held, FitsAdc, fresh_history, group_at, group_of}
-use Terms.{group_other, group_same, group_word, GroupAgrees, GroupState, Has_acted, has_bit, has_input, has_turn}
-use Terms.{HasWords, hold_in, HoldsOrder, Idle, inl, inr, is_handler, is_on, is_owed, is_round_of, is_some}
+use Terms.{ended_at, Entry, entry, error_by, false, first_error, first_held, FitsAdc, fresh_history, group_at}
+use Terms.{group_of, group_other, group_same, group_word, GroupAgrees, GroupState, Has_acted, has_bit, has_input}
+use Terms.{has_turn, HasWords, hold_in, HoldsOrder, Idle, is_handler, is_on, is_owed, is_round_of, is_some}
 use Terms.{is_start_busy, is_there, Is_this_frame, is_triggered, is_word, IsBlock, IsOrder, IsSound, IsSoundGroup}
 use Terms.{IsSoundRequest, kept_by, kept_in, kept_of_round, length, length_after, List, listener, listener_among}
 use Terms.{listens, Makes, making_owed, MayCall, MayClose, MayStart, min, mod-eq_of_lt, nat_lt, nat_tests, no_answer}
-use Terms.{None, not, number_at, number_by, Option, or_parts, order_of, Origin, outcome, owed_of, owed_own, phase_of}
-use Terms.{Promised, put_of, refl, Request, requested, Reservation, Reservations, ResultBuffer, RightOr, Round}
-use Terms.{round_at, RoundAgrees, rounds_of, samples_of, Set, settles_list, settles_part, slice_get, slice_index_or}
-use Terms.{Some, some_hold, SoundGroup, stands-agree, start, StartGroupConversion, Starts, starts_on, STATE, Status}
-use Terms.{Store, StreamCompleted, subst, suc, sym, take_of, tells_nothing, trigger_input, TriggersAgree, trio_of, true}
-use Terms.{under_way_by, unit_of, UnitAgrees, untouched, value_of, will_yield, WindowWrite, with_group, with_holds}
-use Terms.{or_right, word_number, word_of, World, Yields, zero, zero-mod, ℕ}
+use Terms.{None, not, number_at, number_by, Option, or_parts, or_right, order_of, Origin, outcome, owed_of, owed_own}
+use Terms.{phase_of, Promised, put_of, refl, Request, requested, Reservation, Reservations, ResultBuffer, RightOr}
+use Terms.{Round, round_at, RoundAgrees, rounds_of, samples_of, Set, settles_list, settles_part, slice_get}
+use Terms.{slice_index_or, Some, some_hold, SoundGroup, stands-agree, start, StartGroupConversion, Starts, starts_on}
+use Terms.{STATE, Status, Store, StreamCompleted, subst, suc, sym, take_of, tells_nothing, trigger_input}
+use Terms.{TriggersAgree, trio_of, true, under_way_by, unit_of, UnitAgrees, untouched, value_of, whether, whether_as}
+use Terms.{will_yield, WindowWrite, with_group, with_holds, word_number, word_of, World, Yields, zero, zero-mod, ℕ}
 use Rattle.word_shapes.specs.PriorityQueue.{own_of}
 use Rattle.adc_groups.specs.laws.services.QueriesAndErrors.{group_errors, not_reset}
 use Rattle.adc_groups.specs.laws.bookkeeping.FrameRule.{Stays, Fresh, Spares, all_spare, no_keeper, all_changed}
@@ -49,18 +49,14 @@ pub past_untouched : (s : AdcState) (g : ℕ) (y : GroupState) (k : ℕ) → 16 
 past_untouched s g y k le = let at : k ≡ suc (suc (suc (suc (suc (suc (suc (suc (suc (suc (suc (suc (suc (suc (suc (suc (k - 16)))))))))))))))) = omega (arith, le) in ap (λ n. group_at (with_group s g y) n) at
 
 pub sound_past : (d : AdcTable) (s : AdcState) → ((g : ℕ) → IsSoundGroup d s g) → (k : ℕ) → 16 ≤ k → group_at s k ≡ untouched
-sound_past d s sound k le = (sound k).configured (none (nat_lt k 16) refl)
-  where
-    none : (q : Bool) → nat_lt k 16 ≡ q → group_of d k ≡ None
-    none true e = let lt : k < 16 = grind (arith, nat_tests) in absurd (omega (arith, le, lt))
-    none false e = ap (λ q. if q then slice_index_or d.groups k None else None) e
+sound_past d s sound k le = (sound k).configured (whether (nat_lt k 16)
+    (λ e. let lt : k < 16 = grind (arith, nat_tests) in absurd (omega (arith, le, lt)))
+    (λ e. ap (λ q. if q then slice_index_or d.groups k None else None) e))
 
 pub other_at : (s : AdcState) (g : ℕ) (y : GroupState) → ((k : ℕ) → 16 ≤ k → group_at s k ≡ untouched) → (k : ℕ) → k ≢ g → group_at (with_group s g y) k ≡ group_at s k
-other_at s g y past k ne = by (nat_lt k 16) refl
-  where
-    by : (q : Bool) → nat_lt k 16 ≡ q → group_at (with_group s g y) k ≡ group_at s k
-    by true e = group_other s g y k (grind (arith, nat_tests)) ne
-    by false e = let le : 16 ≤ k = grind (arith, nat_tests) in past_untouched s g y k le ∙ sym (past k le)
+other_at s g y past k ne = whether (nat_lt k 16)
+    (λ e. group_other s g y k (grind (arith, nat_tests)) ne)
+    (λ e. let le : 16 ≤ k = grind (arith, nat_tests) in past_untouched s g y k le ∙ sym (past k le))
 
 -- a group that isn't under way has neither a turn nor an enabled trigger
 pub none_under_way : (k : Option configured.Group) (q : Bool) (x : GroupState) → SoundGroup k q x → under_way_by x.status q x.trigger ≡ false → (q ≡ false) × (x.trigger ≡ false)
@@ -84,6 +80,14 @@ pub none_runs : (s : AdcState) (g : ℕ) → has_turn s g ≡ false → (v : ℕ
 none_runs s g e zero lt = (nothing_of (is_some (group_at s g).waiting) (is_round_of g (round_at s 0)) (is_round_of g (round_at s 1)) e).1
 none_runs s g e (suc zero) lt = (nothing_of (is_some (group_at s g).waiting) (is_round_of g (round_at s 0)) (is_round_of g (round_at s 1)) e).2
 none_runs s g e (suc (suc v)) lt = absurd (omega (arith, lt))
+
+-- so a round is another group's
+pub runs_other : (s : AdcState) (g : ℕ) → has_turn s g ≡ false → (v : ℕ) (x : Round) → v < 2 → round_at s v ≡ Some x → x.group ≢ g
+runs_other s g none v x less e same =
+    let off : is_round_of g (round_at s v) ≡ false = none_runs s g none v less in
+    let on : is_round_of g (Some x) ≡ true = ap (λ n. n == g) same ∙ eq_self g in
+    let is : is_round_of g (round_at s v) ≡ is_round_of g (Some x) = ap (λ q. is_round_of g q) e in
+    cc
 
 pub on_own : (k : Option configured.Group) → is_some k ≡ true → is_on (unit_of k) k ≡ true
 on_own None e = absurd (cc)
@@ -166,7 +170,9 @@ module _ (o : Origin Call) (a : Option Answer) (u : ℕ) (below : Reservations) 
 
 -- what is promised once a group has made a request on its unit
 pub asking_promised : (d : AdcTable) (o : Origin Call) (a : Option Answer) (below : Reservations) (w : World) (s t : AdcState) (g u : ℕ) → FitsAdc d → is_on u (group_of d g) ≡ true → ((v : ℕ) → is_handler v o ≡ false) → ((v : ℕ) → v ≢ u → round_at t v ≡ round_at s v) → ((k : ℕ) → k ≢ g → group_at t k ≡ group_at s k) → ((v : ℕ) → Promised d below w s v) → (v : ℕ) → Promised d (asking o a u below d.priorities) w t v
-asking_promised d o a below w s t g u fits at apart rounds others was v = by (same_or_other v u)
+asking_promised d o a below w s t g u fits at apart rounds others was v = cases (same_or_other v u)
+    (λ e. subst (λ n. Promised d (asking o a u below d.priorities) w t n) (sym e) here)
+    (λ ne. promised_same d w s t v (rounds v ne) (waits_other d s t g v (off ne) (λ k nk. ap (λ (x : GroupState). is_some x.waiting) (others k nk))) below (asking o a u below d.priorities) (asking_more o a u below (starts_on v) d.priorities) (still_yields o a u below v d.priorities (apart v)) (was v))
   where
     yields : (q : Bool) → d.priorities ≡ q → is_some (aborts d w t u) ≡ true → will_yield u (asking o a u below q) ≡ true
     yields true e f = asking_yields o a u below
@@ -176,15 +182,9 @@ asking_promised d o a below w s t g u fits at apart rounds others was v = by (sa
     here = record { starts = λ e. asking_starts o a u below d.priorities; yields = λ e. yields d.priorities refl e }
 
     off : v ≢ u → is_on v (group_of d g) ≡ false
-    off ne = test (is_on v (group_of d g)) refl
-      where
-        test : (q : Bool) → is_on v (group_of d g) ≡ q → q ≡ false
-        test true e = absurd (ne (sym (unit_is d fits v (group_of d g) e) ∙ unit_is d fits u (group_of d g) at))
-        test false e = refl
-
-    by : (v ≡ u) ⊎ (v ≢ u) → Promised d (asking o a u below d.priorities) w t v
-    by (inl e) = subst (λ n. Promised d (asking o a u below d.priorities) w t n) (sym e) here
-    by (inr ne) = promised_same d w s t v (rounds v ne) (waits_other d s t g v (off ne) (λ k nk. ap (λ (x : GroupState). is_some x.waiting) (others k nk))) below (asking o a u below d.priorities) (asking_more o a u below (starts_on v) d.priorities) (still_yields o a u below v d.priorities (apart v)) (was v)
+    off ne = whether_as (is_on v (group_of d g)) (λ q. q ≡ false)
+        (λ e. absurd (ne (sym (unit_is d fits v (group_of d g) e) ∙ unit_is d fits u (group_of d g) at)))
+        (λ e. refl)
 
 -- ---- Adc_StartGroupConversion
 
@@ -231,11 +231,9 @@ module _ (d : AdcTable) (fits : FitsAdc d) (f r : AdcBody → ℕ) (below : Rese
   turn = ap (λ (x : GroupState). is_some x.waiting || is_round_of g (round_at s 0) || is_round_of g (round_at s 1)) is_group
 
   trigger_as : (k : ℕ) → (group_at t k).trigger ≡ (group_at s k).trigger
-  trigger_as k = by (same_or_other k g)
-    where
-      by : (k ≡ g) ⊎ (k ≢ g) → (group_at t k).trigger ≡ (group_at s k).trigger
-      by (inl e) = subst (λ n. (group_at t n).trigger ≡ (group_at s n).trigger) (sym e) (ap (λ (x : GroupState). x.trigger) is_group ∙ sym quiet.1)
-      by (inr ne) = ap (λ (x : GroupState). x.trigger) (is_other k ne)
+  trigger_as k = cases (same_or_other k g)
+      (λ e. subst (λ n. (group_at t n).trigger ≡ (group_at s n).trigger) (sym e) (ap (λ (x : GroupState). x.trigger) is_group ∙ sym quiet.1))
+      (λ ne. ap (λ (x : GroupState). x.trigger) (is_other k ne))
 
   listens_as : (i : ℕ) → listener d t i ≡ listener d s i
   listens_as = listener_as d s t trigger_as
@@ -260,14 +258,6 @@ module _ (d : AdcTable) (fits : FitsAdc d) (f r : AdcBody → ℕ) (below : Rese
 
   kept_now : kept_in d t g ≡ []
   kept_now = ap (λ (x : GroupState). kept_by x.waiting (kept_of_round g (round_at s (unit_of (group_of d g))))) is_group
-
-  -- no unit has a round of the group
-  no_round : (v : ℕ) (x : Round) → v < 2 → round_at s v ≡ Some x → x.group ≢ g
-  no_round v x less e same =
-      let off : is_round_of g (round_at s v) ≡ false = none_runs s g quiet.0 v less in
-      let on : is_round_of g (Some x) ≡ true = ap (λ n. n == g) same ∙ eq_self g in
-      let is : is_round_of g (round_at s v) ≡ is_round_of g (Some x) = ap (λ q. is_round_of g q) e in
-      cc
 
   -- ---- the words after the window's moves
 
@@ -357,7 +347,7 @@ module _ (d : AdcTable) (fits : FitsAdc d) (f r : AdcBody → ℕ) (below : Rese
     fresh = record {
       sound = sound;
       waits = λ q e. subst (λ (z : Request). IsSoundRequest d t g z) (sym (waits_now q e)) (omega arith, omega arith, some_inputs d fits g may.there, λ e. refl);
-      runs = λ x e same. absurd (no_round u x few e same);
+      runs = λ x e same. absurd (runs_other s g quiet.0 u x few e same);
       marks = λ i e. ap (λ o. is_some o) (listens_as i) ∙ h.sound.marks i e;
       hears = λ e i. absurd (no_input (group_of d g) may.right i);
       outside = stands_last d fits g u may.there few chip whole deed refl c differs deeds (refl, (refl, (refl, (refl, tt)))) w h.outside;

@@ -1,5 +1,6 @@
 -- The steps of windows that look for what may start or has to yield on a unit, and that seek it.
--- From services.SeekRight, services.BodySteps, services.YieldRight, services.LookRight, services.CallSteps.
+-- From services.SeekRight, services.BodySteps, services.YieldRight, services.CallSteps, services.LookRight.
+-- Used by adc_driver: services.LookRight, adc_driver: services.SeekSteps.
 use Rattle.adc_groups.specs.Terms
 use Terms.{adc_bodies, adc_machine, AdcBody, AdcGround, AdcState, AdcTable, Agrees, arith, AssertedAt, body_ends}
 use Terms.{body_work, Bool, Call, Chip, ended_at, FitsAdc, foot_of, FrameHistory, Front, hold_in, InWindow, IsSeeking}

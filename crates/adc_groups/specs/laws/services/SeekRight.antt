@@ -1,6 +1,6 @@
 -- A window that seeks which request waits first on a unit, step by step, and what it decides by that.
--- From services.BodySteps, services.Decisions, services.YieldRight, services.BeginDecisions and 2 more.
--- Used by services.SearchSteps.
+-- From services.BodySteps, services.Decisions, services.YieldRight, services.BeginDecisions and 3 more.
+-- Used by services.SearchSteps, adc_turns: services.ClaimEndSteps.
 use Rattle.std.proofs.Common.{◌≡◌, ◌<◌, ◌≤◌, ◌&&◌, [], ◌∷◌, ◌∙◌, if◌then◌else◌}
 use Rattle.adc_groups.specs.Terms
 use Terms.{aborts, aborts_by, adc_bodies, adc_machine, AdcBody, AdcGround, AdcState, AdcTable, Agrees, and_from}

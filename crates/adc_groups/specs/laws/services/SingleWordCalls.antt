@@ -1,16 +1,17 @@
 -- Calls that change one word of their group: the step that makes the change.
--- From words.StoreOneWord, services.StatusCalls, services.BodySteps, services.QueriesAndErrors and 3 more.
--- Used by services.SingleWordSteps.
+-- From words.StoreOneWord, services.StatusCalls, services.BodySteps, services.QueriesAndErrors and 4 more.
+-- Used by services.SingleWordSteps, adc_serving: services.PinRight, adc_turns: services.AbortRight and 1 more.
 use Rattle.std.proofs.Common.{◌≡◌, ◌≢◌, ◌+◌, ◌<◌, ◌||◌, [], ◌∷◌, ◌∙◌}
 use Rattle.adc_groups.specs.Terms
-use Terms.{acts_by, adc_bodies, adc_machine, AdcBody, AdcGround, AdcState, AdcTable, Agrees, Answer, answers, ap, arith}
-use Terms.{asks_no, bit_of, body_ends, body_work, Bool, buffer_number, Busy, Call, Called, Chip, chip_after, chosen_of}
-use Terms.{circumstances, Completed, done, ended_at, ends_with_stream, EOk, error_by, false, first_error, FitsAdc}
-use Terms.{fresh_history, GetStreamLastPointer, group_at, group_of, group_word, GroupAgrees, GroupState, has_turn, Idle}
-use Terms.{is_idle, is_some, IsSoundGroup, Makes, making, MayCall, named, no_answer, None, not, Notification, numbers}
-use Terms.{Option, or_parts, outcome, phase_of, pointed, points, refl, Reservations, ResultBuffer, RightOr, Set}
-use Terms.{SetupResultBuffer, Some, SoundGroup, Status, status_read, Store, StreamCompleted, subst, sym, true, value_of}
-use Terms.{with_group, Word, word_number, word_of, work, World, WriteBatch, ℕ}
+use Terms.{acts_by, adc_bodies, adc_machine, AdcBody, AdcGround, AdcState, AdcTable, Agrees, Answer, answers, ap}
+use Terms.{arith, asks_no, bit_of, body_ends, body_work, Bool, buffer_number, Busy, Call, Called, Chip, chip_after}
+use Terms.{chosen_of, circumstances, Completed, done, ended_at, ends_with_stream, EOk, error_by, false, first_error}
+use Terms.{FitsAdc, fresh_history, GetStreamLastPointer, group_at, group_of, group_word, GroupAgrees, GroupState}
+use Terms.{has_turn, Idle, is_idle, is_some, IsSoundGroup, Makes, making, MayCall, named, no_answer, None, not}
+use Terms.{Notification, numbers, Option, or_parts, outcome, phase_of, pointed, points, refl, Request, Reservations}
+use Terms.{ResultBuffer, RightOr, Set, SetupResultBuffer, Some, SoundGroup, Status, status_read, Store}
+use Terms.{StreamCompleted, subst, sym, true, value_of, with_group, Word, word_number, word_of, work, World}
+use Terms.{WriteBatch, ℕ}
 use Rattle.adc_groups.specs.laws.{services.QueriesAndErrors.{group_errors, not_reset}, words.WordsOfModule.{within}}
 use Rattle.adc_groups.specs.laws.{words.StoreOneWord.{touched, stored_here, others_here, group_with}}
 use Rattle.adc_groups.specs.laws.{services.StatusCalls.{Touches, same, turn_same}}
@@ -44,6 +45,21 @@ chosen_sound k q x b there h = record {
 
 pub notified_sound : (k : Option configured.Group) (q : Bool) (x : GroupState) (on : Bool) → is_some k ≡ true → SoundGroup k q x → SoundGroup k q (record x { notification = on })
 notified_sound k q x on there h = record {
+  configured = λ e. no_group k there e;
+  chosen = h.chosen;
+  turn = h.turn;
+  trigger = h.trigger;
+  input = h.input;
+  going = h.going;
+  rounds = h.rounds;
+  stream = h.stream;
+  linear = h.linear;
+  lasts = h.lasts;
+  whole = h.whole;
+}
+
+pub waiting_sound : (k : Option configured.Group) (q : Bool) (x : GroupState) (r : Option Request) → is_some k ≡ true → SoundGroup k q x → SoundGroup k q (record x { waiting = r })
+waiting_sound k q x r there h = record {
   configured = λ e. no_group k there e;
   chosen = h.chosen;
   turn = h.turn;

@@ -1,5 +1,6 @@
 -- The step of a call that makes its change, whichever it is.
 -- From services.SingleWordCalls, services.BodySteps, services.PulseRight, services.StopRight and 3 more.
+-- Used by adc_driver: services.MakeRight.
 use Rattle.adc_groups.specs.Terms
 use Terms.{adc_bodies, AdcBody, AdcGround, AdcState, AdcTable, Agrees, Begins_stream, body_ends, body_work, Bool, Call}
 use Terms.{Chip, Closes_module, Enables_trigger, ended_at, false, FitsAdc, foot_of, FrameHistory, Is_this_frame}

@@ -1,11 +1,12 @@
 -- A call changes the status, the buffer or the notification of one group: all else goes on agreeing.
--- Used by words.StoreOneWord, services.SingleWordCalls.
+-- From words.Cases.
+-- Used by words.StoreOneWord, services.SingleWordCalls, adc_serving: services.PinRight.
 use Rattle.std.proofs.Common.{◌≡◌, ◌≢◌, ◌-◌, ◌<◌, ◌≤◌, ◌&&◌, ◌||◌, [], ◌∷◌, ◌∙◌, ◌⊎◌, if◌then◌else◌}
 use Rattle.adc_groups.specs.Terms
-use Terms.{AdcState, AdcTable, all_groups, ap, arith, Bool, cond, false, group_at, group_of, group_other, group_same}
-use Terms.{GroupState, has_input, has_turn, inl, inr, is_round_of, is_some, IsSound, IsSoundGroup, List, listener}
+use Terms.{AdcState, AdcTable, all_groups, ap, arith, Bool, cases, cond, false, group_at, group_of, group_other}
+use Terms.{group_same, GroupState, has_input, has_turn, is_round_of, is_some, IsSound, IsSoundGroup, List, listener}
 use Terms.{listener_among, listens, nat_lt, nat_tests, None, refl, round_at, slice_index_or, Some, SoundGroup, subst}
-use Terms.{suc, sym, true, untouched, with_group, World, ℕ}
+use Terms.{suc, sym, true, untouched, whether, with_group, World, ℕ}
 
 -- what is so of a group is so in another state that has it, with the same turn
 pub sound_by : (d : AdcTable) (s t : AdcState) (g : ℕ) → group_at t g ≡ group_at s g → has_turn t g ≡ has_turn s g → IsSoundGroup d s g → IsSoundGroup d t g
@@ -23,7 +24,9 @@ module _ (d : AdcTable) (w : World) (s : AdcState) (sound : IsSound d w s) (g : 
 
   -- every other group is as it was
   pub others : (h : ℕ) → h ≢ g → group_at (with_group s g y) h ≡ group_at s h
-  others h ne = by (nat_lt h 16) refl
+  others h ne = whether (nat_lt h 16)
+      (λ e. group_other s g y h (grind (arith, nat_tests)) ne)
+      (λ e. past h (grind (arith, nat_tests)) ∙ sym ((sound.groups h).configured (none (nat_lt h 16) refl e)))
     where
       past : (h : ℕ) → 16 ≤ h → group_at (with_group s g y) h ≡ untouched
       past h le = let at : h ≡ suc (suc (suc (suc (suc (suc (suc (suc (suc (suc (suc (suc (suc (suc (suc (suc (h - 16)))))))))))))))) = omega (arith, le) in ap (λ k. group_at (with_group s g y) k) at
@@ -31,10 +34,6 @@ module _ (d : AdcTable) (w : World) (s : AdcState) (sound : IsSound d w s) (g : 
       none : (q : Bool) → nat_lt h 16 ≡ q → q ≡ false → group_of d h ≡ None
       none true e f = absurd (cc)
       none false e f = ap (λ q. if q then slice_index_or d.groups h None else None) e
-
-      by : (q : Bool) → nat_lt h 16 ≡ q → group_at (with_group s g y) h ≡ group_at s h
-      by true e = group_other s g y h (grind (arith, nat_tests)) ne
-      by false e = past h (grind (arith, nat_tests)) ∙ sym ((sound.groups h).configured (none (nat_lt h 16) refl e))
 
   pub same : group_at (with_group s g y) g ≡ y
   same = group_same s g y lt
@@ -44,11 +43,9 @@ module _ (d : AdcTable) (w : World) (s : AdcState) (sound : IsSound d w s) (g : 
 
   -- a part that stays is the same in each group
   part : {A : Type 0} (see : GroupState → A) → see y ≡ see (group_at s g) → (h : ℕ) → see (group_at (with_group s g y) h) ≡ see (group_at s h)
-  part see e h = by (same_or h)
-    where
-      by : (h ≡ g) ⊎ (h ≢ g) → see (group_at (with_group s g y) h) ≡ see (group_at s h)
-      by (inl i) = subst (λ k. see (group_at (with_group s g y) k) ≡ see (group_at s k)) (sym i) (ap see same ∙ e)
-      by (inr ne) = ap see (others h ne)
+  part see e h = cases (same_or h)
+      (λ i. subst (λ k. see (group_at (with_group s g y) k) ≡ see (group_at s k)) (sym i) (ap see same ∙ e))
+      (λ ne. ap see (others h ne))
 
   pub waiting_same : (h : ℕ) → (group_at (with_group s g y) h).waiting ≡ (group_at s h).waiting
   waiting_same = part (λ x. x.waiting) keeps.waiting

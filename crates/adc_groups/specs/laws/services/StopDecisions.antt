@@ -1,17 +1,17 @@
 -- What windows decide, by the words that they have seen: stops, pulses and reads.
--- From services.Decisions, services.QueriesAndErrors, services.BeginDecisions, services.WriteBatchSteps and 4 more.
+-- From services.Decisions, services.QueriesAndErrors, services.BeginDecisions, services.BodySteps and 5 more.
 -- Used by services.CallSteps.
 use Rattle.std.proofs.Common.{◌≡◌, ◌+◌, ◌<◌, ◌||◌, ◌==◌, [], ◌∷◌, ◌∙◌, ◌⊎◌, if◌then◌else◌}
 use Rattle.adc_groups.specs.Terms
-use Terms.{acts_and_ends, AdcBody, AdcState, AdcTable, Agrees, ap, Bool, Busy, Called, Chip, circumstances}
-use Terms.{Completed, Decided, DisableHardwareTrigger, ends_with_stream, ENotOk, Entered, error_by, false, first_error}
-use Terms.{FitsAdc, fresh_history, Goes, group_at, group_of, GroupAgrees, GroupCall, has_input, has_turn, Idle, inl}
-use Terms.{inr, is_idle, is_input, is_round_of, is_some, Is_this_frame, is_triggered, IsOnlyReader, IsStop, listener}
-use Terms.{Load, makes, making, mark_at, MayCall, MayPulse, named, no_answer, None, not, nothing_more}
-use Terms.{Option, owed, Phase, phase_in, phase_number, phase_of, phase_read, Pins, Place, place_ends, pulse, pulse_by}
-use Terms.{Pulses, quieted, read, read_by, ReadGroup, reads, refl, Reservations, round_at, Some, Status, status_read}
-use Terms.{stop, stop_by, stop_service, StopGroupConversion, stopping, Stops, Stops_turn, StopSeen, StreamCompleted}
-use Terms.{subst, sym, trigger_input, true, unit_of, word_number, word_of, World, ℕ}
+use Terms.{acts_and_ends, AdcBody, AdcState, AdcTable, Agrees, ap, Bool, Busy, Called, Chip, circumstances, Completed}
+use Terms.{Decided, DisableHardwareTrigger, ends_with_stream, ENotOk, Entered, error_by, false, first_error, FitsAdc}
+use Terms.{fresh_history, Goes, group_at, group_of, GroupAgrees, GroupCall, has_input, has_turn, Idle, inl, inr}
+use Terms.{is_idle, is_input, is_round_of, is_some, Is_this_frame, is_triggered, IsOnlyReader, IsStop, listener, Load}
+use Terms.{makes, making, mark_at, MayCall, MayPulse, named, no_answer, None, not, nothing_more, Option, owed, Phase}
+use Terms.{phase_in, phase_number, phase_of, phase_read, Pins, Place, place_ends, pulse, pulse_by, Pulses, quieted}
+use Terms.{read, read_by, ReadGroup, reads, refl, Reservations, round_at, Some, Status, status_read, stop, stop_by}
+use Terms.{stop_service, StopGroupConversion, stopping, Stops, Stops_turn, StopSeen, StreamCompleted, subst, sym}
+use Terms.{trigger_input, true, unit_of, whether_as, word_number, word_of, World, ℕ}
 use Rattle.adc_groups.specs.laws.{services.QueriesAndErrors.{group_errors, refused_right, answered_right}}
 use Rattle.adc_groups.specs.laws.{services.QueriesAndErrors.{completed_phase, streamed_phase}}
 use Rattle.adc_groups.specs.laws.{services.BeginDecisions.{phase_idle, bit_one, bit_none, running_round}}
@@ -118,11 +118,7 @@ module _ (d : AdcTable) (fits : FitsAdc d) (f r : AdcBody → ℕ) (below : Rese
   pulse_right i few has marked = subst (λ q. DecidedRight d f r below chip w s (Entered (28 + i)) (Load k) false v y fresh_history m K (makes (pulse_by d i g q))) (sym turned) (by (has_turn s g) refl)
     where
       on : s.initialised ≡ true
-      on = test s.initialised refl
-        where
-          test : (q : Bool) → s.initialised ≡ q → q ≡ true
-          test true e = refl
-          test false e = absurd (let off = h.sound.off e i in cc)
+      on = whether_as s.initialised (λ q. q ≡ true) (λ e. refl) (λ e. absurd (let off = h.sound.off e i in cc))
 
       there : (q : Option configured.Group) → has_input i q ≡ true → is_some q ≡ true
       there None e = absurd (cc)

@@ -1,24 +1,24 @@
 -- A call stops a group: the step at which it acts, and all that its window makes after that.
--- From services.StopWords, bookkeeping.FrameRule, bookkeeping.TurnEnded, services.RequestRight and 12 more.
+-- From services.StopWords, bookkeeping.FrameRule, bookkeeping.TurnEnded, services.RequestRight and 15 more.
 -- Used by services.SingleWordSteps.
-use Rattle.std.proofs.Common.{◌≡◌, ◌≢◌, ◌+◌, ◌*◌, ◌/◌, ◌%◌, ◌<◌, ◌&&◌, ◌||◌, ◌==◌, [], ◌∷◌, ◌++◌, ◌∙◌, ◌⊎◌}
+use Rattle.std.proofs.Common.{◌≡◌, ◌≢◌, ◌+◌, ◌*◌, ◌/◌, ◌%◌, ◌<◌, ◌&&◌, ◌||◌, ◌==◌, [], ◌∷◌, ◌++◌, ◌∙◌}
 use Rattle.std.proofs.Common.{if◌then◌else◌}
 use Rattle.adc_groups.specs.Terms
 use Terms.{acts_by, adc_bodies, adc_machine, AdcBody, AdcGround, AdcState, AdcTable, after_list, Agrees, AllRight}
-use Terms.{and_false, ap, arith, asks_no, BanksAgree, bit_of, body_ends, body_work, Bool, Call, Called, Chip}
-use Terms.{chip_after, chosen_of, circumstances, claim_lost, claim_right, CommitsAfter, CommitsTo, cond}
-use Terms.{Continuation, Converter, Converters, deed_move, DiffersIn, DisableHardwareTrigger, drop-ends, drop_start}
-use Terms.{dropping, ended_at, Entry, entry, eq_is, eq_other, eq_self, error_by, false, first_error, FitsAdc}
-use Terms.{fresh_history, group_at, group_of, group_word, GroupAgrees, GroupCall, GroupState, Has_acted, has_bit}
-use Terms.{has_turn, HasWords, held_in, HoldsOrder, Idle, inl, inr, is_idle, is_on, Is_open, is_round_of, is_some}
-use Terms.{is_there, Is_this_frame, IsBlock, IsOrder, IsSoundGroup, IsStop, Leaves_acted, left_of, length, length_after}
-use Terms.{List, Makes, making, making_owed, mark_at, MayCall, mod-eq_of_lt, nat_lt, no_answer, None, nothing_more}
+use Terms.{and_false, ap, arith, asks_no, BanksAgree, bit_of, body_ends, body_work, Bool, Call, Called, cases, Chip}
+use Terms.{chip_after, chosen_of, circumstances, claim_lost, claim_right, CommitsAfter, CommitsTo, cond, Continuation}
+use Terms.{Converter, Converters, deed_move, DiffersIn, DisableHardwareTrigger, drop-ends, drop_start, dropping}
+use Terms.{ended_at, Entry, entry, eq_is, eq_other, eq_self, error_by, false, first_error, FitsAdc, fresh_history}
+use Terms.{group_at, group_of, group_word, GroupAgrees, GroupCall, GroupState, Has_acted, has_bit, has_turn, HasWords}
+use Terms.{held_in, HoldsOrder, Idle, inl, inr, is_idle, is_on, Is_open, is_round_of, is_some, is_there}
+use Terms.{Is_this_frame, IsBlock, IsOrder, IsSoundGroup, IsStop, Leaves_acted, left_of, length, length_after, List}
+use Terms.{Makes, making, making_owed, mark_at, MayCall, mod-eq_of_lt, nat_lt, no_answer, None, nothing_more}
 use Terms.{number_at, number_by, off, off_where, Option, order_of, Origin, outcome, owed_of, phase_of, Promised}
 use Terms.{quieted, refl, Request, Reservation, Reservations, RightOr, Round, round_at, RoundAgrees, rounds_of}
-use Terms.{running_of, same_or_other, Set, settles_list, settles_part, Some, SoundGroup, stands-agree, starts_on, STATE}
-use Terms.{Status, step, stop_by, StopGroupConversion, stopped, subst, suc, sym, taken_away}
-use Terms.{tells_nothing, trigger_bit, trigger_input, TriggersAgree, trio_of, true, unit_of, UnitAgrees, unless_of}
-use Terms.{value_of, waits_for, WindowWrite, without_mark, word_number, word_of, World, ℕ}
+use Terms.{running_of, same_or_other, Set, settles_list, settles_part, Some, SoundGroup, stands-agree, starts_on}
+use Terms.{STATE, Status, step, stop_by, StopGroupConversion, stopped, subst, suc, sym, taken_away, tells_nothing}
+use Terms.{trigger_bit, trigger_input, TriggersAgree, trio_of, true, unit_of, UnitAgrees, unless_of, value_of}
+use Terms.{waits_for, whether_as, WindowWrite, without_mark, word_number, word_of, World, ℕ}
 use Rattle.word_shapes.specs.PriorityQueue.{own_of}
 use Rattle.adc_groups.specs.{PendingWrites.{IsSound}, declared.outside.Outside.TheVariants.{Closes}}
 use Rattle.adc_groups.specs.laws.{services.QueriesAndErrors.{group_errors, not_reset}, bookkeeping.FrameRule.{Stays}}
@@ -103,11 +103,9 @@ module _ (d : AdcTable) (fits : FitsAdc d) (f r : AdcBody → ℕ) (below : Rese
       by (Some x) i j = let on = (h.sound.runs v x i).1 in sym (unit_is d fits v (group_of d k) (subst (λ n. is_on v (group_of d n) ≡ true) (eq_is x.group k j) on))
 
   none_elsewhere : (v : ℕ) → v ≢ u → is_round_of g (round_at s v) ≡ false
-  none_elsewhere v ne = by (is_round_of g (round_at s v)) refl
-    where
-      by : (q : Bool) → is_round_of g (round_at s v) ≡ q → q ≡ false
-      by true e = absurd (ne (unit_of_round g v e))
-      by false e = refl
+  none_elsewhere v ne = whether_as (is_round_of g (round_at s v)) (λ q. q ≡ false)
+      (λ e. absurd (ne (unit_of_round g v e)))
+      (λ e. refl)
 
   rounds_as : (v : ℕ) → is_round_of g (round_at s v) ≡ false → round_at t v ≡ round_at s v
   rounds_as v e = round_is v ∙ ap (λ q. cond q None (round_at s v)) e
@@ -340,22 +338,18 @@ module _ (d : AdcTable) (fits : FitsAdc d) (f r : AdcBody → ℕ) (below : Rese
       -- where it had no turn, all turns are as before
       module _ (none : has_turn s g ≡ false) where
         waits_all : (k : ℕ) → (group_at t k).waiting ≡ (group_at s k).waiting
-        waits_all k = by (same_or_other k g)
+        waits_all k = cases (same_or_other k g)
+            (λ e. subst (λ n. (group_at t n).waiting ≡ (group_at s n).waiting) (sym e) (ap (λ (x : GroupState). x.waiting) is_group ∙ nothing (group_at s g).waiting (none_waits s g none)))
+            (λ ne. ap (λ (x : GroupState). x.waiting) (is_other k ne))
           where
             nothing : (o : Option Request) → is_some o ≡ false → None ≡ o
             nothing None e = refl
             nothing (Some o) e = absurd (cc)
 
-            by : (k ≡ g) ⊎ (k ≢ g) → (group_at t k).waiting ≡ (group_at s k).waiting
-            by (inl e) = subst (λ n. (group_at t n).waiting ≡ (group_at s n).waiting) (sym e) (ap (λ (x : GroupState). x.waiting) is_group ∙ nothing (group_at s g).waiting (none_waits s g none))
-            by (inr ne) = ap (λ (x : GroupState). x.waiting) (is_other k ne)
-
         rounds_all : (v : ℕ) → round_at t v ≡ round_at s v
-        rounds_all v = by (same_or_other v u)
-          where
-            by : (v ≡ u) ⊎ (v ≢ u) → round_at t v ≡ round_at s v
-            by (inl e) = rounds_as v (ap (λ n. is_round_of g (round_at s n)) e ∙ none_runs s g none u few)
-            by (inr ne) = rounds_as v (none_elsewhere v ne)
+        rounds_all v = cases (same_or_other v u)
+            (λ e. rounds_as v (ap (λ n. is_round_of g (round_at s n)) e ∙ none_runs s g none u few))
+            (λ ne. rounds_as v (none_elsewhere v ne))
 
         turns_all : (k : ℕ) → has_turn t k ≡ has_turn s k
         turns_all k =
@@ -367,40 +361,32 @@ module _ (d : AdcTable) (fits : FitsAdc d) (f r : AdcBody → ℕ) (below : Rese
       order false e = order_kept d s t u (turns_all e) (λ k. ap (λ o. is_some o) (waits_all e k)) (λ k on. ap (λ o. number_by o (round_at t (unit_of (group_of d k)))) (waits_all e k) ∙ ap (λ o. number_by (group_at s k).waiting o) (rounds_all e (unit_of (group_of d k)))) xs unit_was.order.2
 
       waits_fewer : (k : ℕ) → waits_for d t u k ≡ true → waits_for d s u k ≡ true
-      waits_fewer k e = by (same_or_other k g)
-        where
-          by : (k ≡ g) ⊎ (k ≢ g) → waits_for d s u k ≡ true
-          by (inl i) = absurd (let not_on : waits_for d t u k ≡ false = ap (λ n. waits_for d t u n) i ∙ (ap (λ (x : GroupState). is_on u (group_of d g) && is_some x.waiting) is_group ∙ and_false (is_on u (group_of d g))) in cc)
-          by (inr ne) = ap (λ z. is_on u (group_of d k) && z) (sym (waits k ne)) ∙ e
+      waits_fewer k e = cases (same_or_other k g)
+          (λ i. absurd (let not_on : waits_for d t u k ≡ false = ap (λ n. waits_for d t u n) i ∙ (ap (λ (x : GroupState). is_on u (group_of d g) && is_some x.waiting) is_group ∙ and_false (is_on u (group_of d g))) in cc))
+          (λ ne. ap (λ z. is_on u (group_of d k) && z) (sym (waits k ne)) ∙ e)
 
       off_unit_of : (v : ℕ) → v ≢ u → is_on v (group_of d g) ≡ false
-      off_unit_of v ne = by (is_on v (group_of d g)) refl
-        where
-          by : (z : Bool) → is_on v (group_of d g) ≡ z → z ≡ false
-          by true e = absurd (ne (sym (unit_is d fits v (group_of d g) e)))
-          by false e = refl
+      off_unit_of v ne = whether_as (is_on v (group_of d g)) (λ z. z ≡ false)
+          (λ e. absurd (ne (sym (unit_is d fits v (group_of d g) e))))
+          (λ e. refl)
 
       promised : (z : Bool) → has_turn s g ≡ z → (v : ℕ) → Promised d (left_in line (Some no_answer) u below z) w t v
       promised false e v = promised_same d w s t v (rounds_all e v) (λ k. ap (λ o. is_on v (group_of d k) && is_some o) (waits_all e k)) below below (λ i. i) (λ i. i) ((h.settled may.on).promised v)
-      promised true e v = by (same_or_other v u)
+      promised true e v = cases (same_or_other v u)
+          (λ i. subst (λ n. Promised d (asking line (Some no_answer) u below false) w t n) (sym i) here)
+          (λ ne. promised_same d w s t v (rounds_as v (none_elsewhere v ne)) (waits_other d s t g v (off_unit_of v ne) waits) below (asking line (Some no_answer) u below false) (asking_more line (Some no_answer) u below (starts_on v) false) (still_yields line (Some no_answer) u below v false refl) ((h.settled may.on).promised v))
         where
           here : Promised d (asking line (Some no_answer) u below false) w t u
           here = record { starts = λ i. asking_starts line (Some no_answer) u below false; yields = λ i. still_yields line (Some no_answer) u below u false refl (((h.settled may.on).promised u).yields (aborts_fewer d w s t u waits_fewer (round_from u) i)) }
 
-          by : (v ≡ u) ⊎ (v ≢ u) → Promised d (asking line (Some no_answer) u below false) w t v
-          by (inl i) = subst (λ n. Promised d (asking line (Some no_answer) u below false) w t n) (sym i) here
-          by (inr ne) = promised_same d w s t v (rounds_as v (none_elsewhere v ne)) (waits_other d s t g v (off_unit_of v ne) waits) below (asking line (Some no_answer) u below false) (asking_more line (Some no_answer) u below (starts_on v) false) (still_yields line (Some no_answer) u below v false refl) ((h.settled may.on).promised v)
-
       claims : (v : ℕ) → v < 2 → claim_right below v (word_of b (word_number d (words.Claim v))) ≡ true
-      claims v less = by (same_or_other v u)
+      claims v less = cases (same_or_other v u)
+          (λ i. subst (λ n. claim_right below n (word_of b (word_number d (words.Claim n))) ≡ true) (sym i) (ap (λ x. claim_right below u x) claim ∙ here lost loses))
+          (λ ne. ap (λ x. claim_right below v x) (claim_stays d fits below after chip b w s t h g u at stays v less ne) ∙ (h.settled may.on).claims v less)
         where
           here : (l : Bool) → (word_of chip (word_number d (words.Claim u)) == 2 + g) ≡ l → claim_right below u (if l then 1 else word_of chip (word_number d (words.Claim u))) ≡ true
           here true e = claim_loses u g below (subst (λ x. claim_right below u x ≡ true) (eq_is (word_of chip (word_number d (words.Claim u))) (2 + g) e) claim_was)
           here false e = claim_was
-
-          by : (v ≡ u) ⊎ (v ≢ u) → claim_right below v (word_of b (word_number d (words.Claim v))) ≡ true
-          by (inl i) = subst (λ n. claim_right below n (word_of b (word_number d (words.Claim n))) ≡ true) (sym i) (ap (λ x. claim_right below u x) claim ∙ here lost loses)
-          by (inr ne) = ap (λ x. claim_right below v x) (claim_stays d fits below after chip b w s t h g u at stays v less ne) ∙ (h.settled may.on).claims v less
 
       round_now : (z : Bool) → is_round_of g (round_at s u) ≡ z → (run ≡ z) → RoundAgrees d (away_block z u (off_block wired bits chip.converters)) w (chips.unit_at (away_block z u (off_block wired bits chip.converters)) u) (cond z None (round_at s u))
       round_now true e same =

@@ -1,21 +1,20 @@
 -- A group is stopped: the state after it, and what its window's moves make of words and of the block.
--- From words.StructureParts, services.Decisions, hardware.PendingWritesStable, words.WordsOfModule and 4 more.
--- Used by services.StopRight, bookkeeping.TriggerOff.
-use Rattle.std.proofs.Common.{◌≡◌, ◌≢◌, ◌+◌, ◌*◌, ◌^◌, ◌<◌, ◌≤◌, ◌&&◌, ◌||◌, ◌==◌, [], ◌∷◌, ◌++◌, ◌∙◌, ◌⊎◌}
+-- From words.StructureParts, hardware.PendingWritesStable, services.Decisions, hardware.HardwareCommutes and 4 more.
+-- Used by services.StopRight, adc_serving: services.ServeActRight, adc_serving: services.ServeWords and 1 more.
+use Rattle.std.proofs.Common.{◌≡◌, ◌≢◌, ◌+◌, ◌*◌, ◌^◌, ◌<◌, ◌≤◌, ◌&&◌, ◌||◌, ◌==◌, [], ◌∷◌, ◌++◌, ◌∙◌}
 use Rattle.std.proofs.Common.{if◌then◌else◌}
 use Rattle.adc_groups.specs.Terms
 use Terms.{Abort, ack_left, AdcState, AdcTable, after_deeds, after_list, AllMay, AllRight, and_false, and_first, ap}
 use Terms.{arith, bit_of_trigger, Bool, Chip, chip_after, claim_fits, claim_lost, claim_right, Claims, claims_on}
-use Terms.{Continuation, Converter, ConverterAck, Converters, deed_move, eq_self, false, Fills, FitsAdc}
-use Terms.{flag_left, Full, group_at, group_of, group_same, group_word, GroupState, has_bit, has_bit-without, HasWords}
-use Terms.{HeldRight, Idle, idle, inl, inr, is_some, is_word, IsBlock, IsDone, IsUnkept, Keeps, length, length-set}
-use Terms.{List, making_owed, nat_lt, nat_tests, None, not, off, off_where, Option, owed_of, owed_own, pow_below, quiet}
-use Terms.{refl, Reservation, Reservations, round_at, same_or_other, Set, Some, some_hold, STATE}
-use Terms.{stopped, Store, subst, suc, sym, taken_away, trigger_bit, trigger_input, true, unless_of, unmarked_group}
-use Terms.{unmarked_round, untouched, Whole, WindowWrite, without, without_mark, word_number, word_of, World}
-use Terms.{ℕ}
+use Terms.{Continuation, Converter, ConverterAck, Converters, deed_move, eq_self, false, Fills, FitsAdc, flag_left}
+use Terms.{Full, group_at, group_of, group_same, group_word, GroupState, has_bit, has_bit-without, HasWords}
+use Terms.{HeldRight, Idle, idle, is_some, is_word, IsBlock, IsDone, IsUnkept, Keeps, length, length-set, List}
+use Terms.{making_owed, nat_lt, nat_tests, None, not, off, off_where, Option, owed_of, owed_own, pow_below, quiet}
+use Terms.{refl, Reservation, Reservations, round_at, Set, Some, some_hold, STATE, stopped, Store, subst, suc, sym}
+use Terms.{taken_away, trigger_bit, trigger_input, true, unless_of, unmarked_group, unmarked_round, untouched, Whole}
+use Terms.{WindowWrite, without, without_mark, word_number, word_of, World, ℕ}
 use Rattle.adc_groups.specs.{PendingWrites.{IsSound}, declared.making.WindowWrite.TheVariants.{Write}}
-use Rattle.adc_groups.specs.laws.{hardware.HardwareCommutes.{unit_set, unit_other}}
+use Rattle.adc_groups.specs.laws.{hardware.HardwareCommutes.{unit_block, unit_set, unit_other}}
 use Rattle.adc_groups.specs.laws.{bookkeeping.TriggerListener.{input_small, bit_is}}
 use Rattle.adc_groups.specs.laws.{hardware.PendingWritesStable.{aborted_done, acknowledged_over, aborted_list}}
 use Rattle.adc_groups.specs.laws.{hardware.PendingWritesStable.{acknowledged_list, unkept_same}}
@@ -188,29 +187,14 @@ off_stays w u true v c h = record { time = refl; levels = refl; block = record {
 off_stays w u false v c h = record { time = refl; levels = refl; block = h; others = λ k ne. refl }
 
 away_stays : (w : World) (u : ℕ) (q : Bool) (c : Converters) → IsBlock c w → BlockStays w u c (away_block q u c)
-away_stays w u true c h = record {
-  time = refl;
-  levels = refl;
-  block = record {
-    all = length-set (aborted_block u c).units u (chips.acknowledged c.time (chips.unit_at (aborted_block u c) u)) ∙ (length-set c.units u (chips.aborted c.time (chips.unit_at c u)) ∙ h.all);
-    lists = λ k lt. lists k lt (same_or_other k u);
-    past = h.past;
-    samples = h.samples;
-  };
-  others = λ k ne. unit_other (aborted_block u c).units u k (chips.acknowledged c.time (chips.unit_at (aborted_block u c) u)) ne ∙ unit_other c.units u k (chips.aborted c.time (chips.unit_at c u)) ne;
-}
-  where
-    lists : (k : ℕ) → k < 2 → (k ≡ u) ⊎ (k ≢ u) → length (chips.unit_at (away_block true u c) k).list ≡ 8
-    lists k lt (inr ne) = ap (λ (x : Converter). length x.list) (unit_other (aborted_block u c).units u k (chips.acknowledged c.time (chips.unit_at (aborted_block u c) u)) ne ∙ unit_other c.units u k (chips.aborted c.time (chips.unit_at c u)) ne) ∙ h.lists k lt
-    lists k lt (inl e) =
-        let x : Converter = chips.aborted c.time (chips.unit_at c u) in
-        let at : u < length c.units = (let all = h.all in omega (arith, lt, e, all)) in
-        let more : u < length (aborted_block u c).units = (let same = length-set c.units u x in omega (arith, same, at)) in
-        ap (λ n. length (chips.unit_at (away_block true u c) n).list) e
-        ∙ (ap (λ (z : Converter). length z.list) (unit_set (aborted_block u c).units u (chips.acknowledged c.time (chips.unit_at (aborted_block u c) u)) more)
-        ∙ (ap length (acknowledged_list (chips.unit_at (aborted_block u c) u) c.time)
-        ∙ (ap (λ (z : Converter). length z.list) (unit_set c.units u x at)
-        ∙ (ap length (aborted_list (chips.unit_at c u) c.time) ∙ (ap (λ n. length (chips.unit_at c n).list) (sym e) ∙ h.lists k lt)))))
+away_stays w u true c h =
+    let ends = unit_block c w u (chips.aborted c.time (chips.unit_at c u)) h (λ less. ap length (aborted_list (chips.unit_at c u) c.time) ∙ h.lists u less) in
+    record {
+      time = refl;
+      levels = refl;
+      block = unit_block (aborted_block u c) w u (chips.acknowledged c.time (chips.unit_at (aborted_block u c) u)) ends (λ less. ap length (acknowledged_list (chips.unit_at (aborted_block u c) u) c.time) ∙ ends.lists u less);
+      others = λ k ne. unit_other (aborted_block u c).units u k (chips.acknowledged c.time (chips.unit_at (aborted_block u c) u)) ne ∙ unit_other c.units u k (chips.aborted c.time (chips.unit_at c u)) ne;
+    }
 away_stays w u false c h = record { time = refl; levels = refl; block = h; others = λ k ne. refl }
 
 pub block_stays : (w : World) (u : ℕ) (wired run : Bool) (v : ℕ) (c : Converters) → IsBlock c w → BlockStays w u c (away_block run u (off_block wired v c))

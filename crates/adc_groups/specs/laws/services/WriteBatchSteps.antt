@@ -1,5 +1,5 @@
 -- The moves that a window makes: which one is next, and what is left after it.
--- Used by services.BodySteps, PendingWrites, hardware.PendingWritesStable, services.StopRight and 15 more.
+-- Used by adc_driver: bookkeeping.PendingWritesRight, adc_turns: services.WriteBatchRight and 35 more.
 use Rattle.std.specs.Prelude.{ℕ, ◌+◌, ◌==◌, ◌&&◌, not, nat_lt, nat_le, Bool, if◌then◌else◌, Option, Some, None, is_some, List, length, slice_get}
 use Rattle.mcal_base.specs.declared.moves.Event.{Event}
 use Rattle.mcal_base.specs.declared.moves.Move.{Move}

@@ -1,6 +1,6 @@
 -- Windows that look for what may start, or has to yield, on a unit: what they decide, and what is promised no more.
--- From services.Decisions, words.WordsOfModule, services.BodySteps, services.LookRight, bookkeeping.PromisesKept.
--- Used by services.SeekRight, services.SearchSteps.
+-- From services.Decisions, words.WordsOfModule, bookkeeping.PromisesKept, services.BodySteps and 2 more.
+-- Used by services.SeekRight, services.SearchSteps, adc_serving: services.ClaimRight and 6 more.
 use Rattle.std.proofs.Common.{◌≡◌, ◌≢◌, ◌+◌, ◌-◌, ◌<◌, ◌≤◌, ◌&&◌, ◌||◌, ◌==◌, [], ◌∷◌, ◌∙◌, ◌⊎◌, if◌then◌else◌}
 use Rattle.adc_groups.specs.Terms
 use Terms.{aborts, aborts_by, AdcBody, AdcGround, AdcState, AdcTable, Agrees, AllRight, and_first, Answer, ap, arith}

@@ -1,5 +1,5 @@
 -- The words of a group that calls change are apart from all others.
--- Used by words.StoreOneWord, bookkeeping.FrameRule, services.DeInitRight, words.OrderBetweenWrites and 1 more.
+-- Used by words.StoreOneWord, adc_driver: services.InitWords, bookkeeping.FrameRule and 15 more.
 use Rattle.std.proofs.Common.{◌≡◌, ◌≢◌, ◌+◌, ◌-◌, ◌*◌, ◌<◌, ◌≤◌, ◌==◌, ◌∙◌, ◌⊎◌}
 use Rattle.adc_groups.specs.Terms
 use Terms.{AdcTable, ap, arith, Bool, cases_lt, end_of, false, FitsAdc, Group, group_of, group_word, inl, inputs_of}

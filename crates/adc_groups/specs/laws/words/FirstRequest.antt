@@ -1,6 +1,6 @@
 -- The choice of a unit's order is the group whose request comes next.
 -- From words.OrderWords.
--- Used by services.SeekRight.
+-- Used by services.SeekRight, adc_turns: services.ClaimEndSteps, adc_driver: bookkeeping.NoneWaitsLooking and 1 more.
 use Rattle.std.proofs.Common.{◌≡◌, ◌<◌, ◌≤◌, ◌&&◌, ◌||◌, ◌==◌, [], ◌∷◌, ◌∙◌}
 use Rattle.adc_groups.specs.Terms
 use Terms.{AdcState, AdcTable, AllBelow, AllWaiting, and_from, and_parts, ap, arith, Bool, choice, choice-only, Entry}

@@ -1,6 +1,6 @@
 -- A deed, then a change of the unit's order, then further deeds: what stands in the words after all of them.
--- From words.StructureParts, services.WriteBatchSteps, words.DisjointWords.
--- Used by services.StopRight, services.RequestRight, services.PulseRight, services.EnableTriggerRight.
+-- From words.StructureParts, services.WriteBatchSteps, words.DisjointWords, service_outline: Words.
+-- Used by services.PulseRight, services.RequestRight, services.StopRight, adc_turns: services.AbortRight and 3 more.
 use Rattle.std.proofs.Common.{◌≡◌, ◌≢◌, ◌+◌, ◌-◌, ◌*◌, ◌<◌, ◌≤◌, ◌||◌, ◌==◌, [], ◌∷◌, ◌∙◌, if◌then◌else◌}
 use Rattle.adc_groups.specs.Terms
 use Terms.{AdcTable, after_list, ap, arith, Bool, Chip, chip_after, deed_move, DiffersIn, Entry, false, FitsAdc}

@@ -1,11 +1,12 @@
 -- What an order of requests stands for after it was changed.
--- Used by services.StopRight, services.RequestRight, services.PulseRight, services.EnableTriggerRight and 1 more.
+-- From words.Cases.
+-- Used by services.StopRight, adc_serving: services.ServeActRight, services.EnableTriggerRight and 5 more.
 use Rattle.std.proofs.Common.{◌≡◌, ◌≢◌, ◌<◌, ◌&&◌, ◌||◌, ◌==◌, [], ◌∷◌, ◌++◌, ◌∙◌, ◌⊎◌, if◌then◌else◌}
 use Rattle.adc_groups.specs.Terms
-use Terms.{AdcState, AdcTable, added, ap, arith, Bool, Entry, eq_other, eq_self, false, group_at, group_of, has_turn}
-use Terms.{inl, inr, is_on, is_some, is_there, is_there-append, is_there-waiting, IsOnce, IsOrder, length, List, map}
-use Terms.{nat_tests, number-waiting, number_at, or_false, or_right, refl, same_or_other, slice_get, Some, subst, suc}
-use Terms.{and_parts, or_left, sym, true, waiting, with_wait, zero, ℕ}
+use Terms.{AdcState, AdcTable, added, and_parts, ap, arith, Bool, cases, Entry, eq_other, eq_self, false, group_at}
+use Terms.{group_of, has_turn, inl, inr, is_on, is_some, is_there, is_there-append, is_there-waiting, IsOnce, IsOrder}
+use Terms.{length, List, map, nat_tests, number-waiting, number_at, or_false, or_left, or_right, refl, same_or_other}
+use Terms.{slice_get, Some, subst, suc, sym, true, waiting, whether_as, with_wait, zero, ℕ}
 use Rattle.word_shapes.specs.Order.{without}
 use Rattle.mcal_base.specs.facts.Truths.{and_second}
 
@@ -64,19 +65,15 @@ ordered_left P n (z ∷ zs) h = by (z.number == n) (ordered_left P n zs (λ i j 
 -- which entries are left
 there_left : (k n : ℕ) (xs : List Entry) → k ≢ n → is_there k (without n xs) ≡ is_there k xs
 there_left k n [] ne = refl
-there_left k n (z ∷ zs) ne = by (there_left k n zs ne) (z.number == n) refl
-  where
-    by : is_there k (without n zs) ≡ is_there k zs → (q : Bool) → (z.number == n) ≡ q → is_there k (if q then zs else z ∷ without n zs) ≡ (z.number == k) || is_there k zs
-    by rest true e = let same : z.number ≡ n = grind (arith, nat_tests) in sym (or_none (z.number == k) (is_there k zs) (eq_other z.number k (λ f. ne (sym f ∙ same))))
-    by rest false e = ap (λ q. (z.number == k) || q) rest
+there_left k n (z ∷ zs) ne = whether_as (z.number == n) (λ q. is_there k (if q then zs else z ∷ without n zs) ≡ (z.number == k) || is_there k zs)
+    (λ e. let same : z.number ≡ n = grind (arith, nat_tests) in sym (or_none (z.number == k) (is_there k zs) (eq_other z.number k (λ f. ne (sym f ∙ same)))))
+    (λ e. ap (λ q. (z.number == k) || q) (there_left k n zs ne))
 
 none_left : (n : ℕ) (xs : List Entry) → IsOnce xs → is_there n (without n xs) ≡ false
 none_left n [] once = refl
-none_left n (z ∷ zs) once = by (none_left n zs once.1) (z.number == n) refl
-  where
-    by : is_there n (without n zs) ≡ false → (q : Bool) → (z.number == n) ≡ q → is_there n (if q then zs else z ∷ without n zs) ≡ false
-    by rest true e = let same : z.number ≡ n = grind (arith, nat_tests) in subst (λ k. is_there k zs ≡ false) same once.0
-    by rest false e = or_none (z.number == n) (is_there n (without n zs)) e ∙ rest
+none_left n (z ∷ zs) once = whether_as (z.number == n) (λ q. is_there n (if q then zs else z ∷ without n zs) ≡ false)
+    (λ e. let same : z.number ≡ n = grind (arith, nat_tests) in subst (λ k. is_there k zs ≡ false) same once.0)
+    (λ e. or_none (z.number == n) (is_there n (without n zs)) e ∙ (none_left n zs once.1))
 
 -- ---- the order of a unit
 
@@ -145,7 +142,9 @@ module _ (d : AdcTable) (s t : AdcState) (g u : ℕ) (at : is_on u (group_of d g
   module _ (numbers : (k : ℕ) → k ≢ g → has_turn s k ≡ true → is_on u (group_of d k) ≡ true → number_at d t k ≡ number_at d s k) (once : IsOnce xs) (turn : has_turn t g ≡ false) where
     pub order_without : IsOrder d t u (without g xs)
     order_without = record {
-      there = λ k. there_by k (same_or_other k g);
+      there = λ k. cases (same_or_other k g)
+          (λ e. subst (λ n. is_there n (without g xs) ≡ has_turn t n && is_on u (group_of d n)) (sym e) (none_left g xs once ∙ sym (ap (λ b. b && is_on u (group_of d g)) turn)))
+          (λ ne. there_left k g xs ne ∙ (o.there k ∙ ap (λ b. b && is_on u (group_of d k)) (sym (turns k ne))));
       waits = λ i x e. let k = left_from g xs i x e in o.waits k.0 x k.1 ∙ sym (waits x.number (others i x e));
       sorted = λ i j x y lt e f.
           subst (λ n. n < number_at d t y.number) (sym (numbers x.number (others i x e) (turned i x e) (on i x e))) (subst (λ n. number_at d s x.number < n) (sym (numbers y.number (others j y f) (turned j y f) (on j y f)))
@@ -160,10 +159,6 @@ module _ (d : AdcTable) (s t : AdcState) (g u : ℕ) (at : is_on u (group_of d g
 
         others : (i : ℕ) (x : Entry) → slice_get (without g xs) i ≡ Some x → x.number ≢ g
         others i x e same = let is : is_there g (without g xs) ≡ true = subst (λ n. is_there n (without g xs) ≡ true) same (listed_there (without g xs) i x e) in let none = none_left g xs once in absurd (cc)
-
-        there_by : (k : ℕ) → (k ≡ g) ⊎ (k ≢ g) → is_there k (without g xs) ≡ has_turn t k && is_on u (group_of d k)
-        there_by k (inl e) = subst (λ n. is_there n (without g xs) ≡ has_turn t n && is_on u (group_of d n)) (sym e) (none_left g xs once ∙ sym (ap (λ b. b && is_on u (group_of d g)) turn))
-        there_by k (inr ne) = there_left k g xs ne ∙ (o.there k ∙ ap (λ b. b && is_on u (group_of d k)) (sym (turns k ne)))
 
 -- nothing of it changes
 pub order_kept : (d : AdcTable) (s t : AdcState) (u : ℕ) → ((k : ℕ) → has_turn t k ≡ has_turn s k) → ((k : ℕ) → is_some (group_at t k).waiting ≡ is_some (group_at s k).waiting) → ((k : ℕ) → is_on u (group_of d k) ≡ true → number_at d t k ≡ number_at d s k) → (xs : List Entry) → IsOrder d s u xs → IsOrder d t u xs

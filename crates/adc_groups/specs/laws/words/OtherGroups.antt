@@ -1,11 +1,12 @@
 -- What a change of one group rests on beside its words: rounds of other groups, entries of an order, and numbers of words.
+-- From words.Cases.
 -- Used by bookkeeping.FrameRule.
 use Rattle.std.proofs.Common.{◌≡◌, ◌≢◌, ◌+◌, ◌-◌, ◌*◌, ◌<◌, ◌≤◌, ◌&&◌, ◌||◌, ◌==◌, [], ◌∷◌, ◌∙◌, if◌then◌else◌}
 use Rattle.adc_groups.specs.Terms
 use Terms.{AdcTable, ap, arith, Bank, bank_number, bank_word, Bool, Entry, eq_self, false, group_of, group_word}
 use Terms.{inputs_of, is_round_of, is_there, kept_of_round, kept_word, length, List, nat_le, nat_lt, nat_tests, None}
 use Terms.{none_some, Option, order_of, own_of, refl, result_word, ResultBuffer, Round, rounds_of, slice_get, Some}
-use Terms.{start_of, STATE, subst, suc, sym, trio_of, true, word_number, zero, ℕ}
+use Terms.{start_of, STATE, subst, suc, sym, trio_of, true, whether_as, word_number, zero, ℕ}
 use Rattle.word_shapes.specs.PriorityQueue as ranked
 use Rattle.adc_machine.specs.declared.call.ResultBuffer.TheVariants as buffers
 use Rattle.adc_groups.specs.declared.words.Word.TheVariants as words
@@ -24,16 +25,12 @@ look e f k (Some x) = if x.group == k then f x else e
 
 pub look_same : {A : Type 0} (e : A) (f : Round → A) (g k : ℕ) (q p : Option Round) → k ≢ g → SameRound g q p → look e f k q ≡ look e f k p
 look_same e f g k None None ne h = refl
-look_same e f g k None (Some y) ne h = by (y.group == k) refl
-  where
-    by : (b : Bool) → (y.group == k) ≡ b → e ≡ (if b then f y else e)
-    by true i = let at : y.group ≡ k = grind (arith, nat_tests) in none_some (h.to y refl (λ z. ne (sym at ∙ z)))
-    by false i = refl
-look_same e f g k (Some x) None ne h = by (x.group == k) refl
-  where
-    by : (b : Bool) → (x.group == k) ≡ b → (if b then f x else e) ≡ e
-    by true i = let at : x.group ≡ k = grind (arith, nat_tests) in none_some (h.from x refl (λ z. ne (sym at ∙ z)))
-    by false i = refl
+look_same e f g k None (Some y) ne h = whether_as (y.group == k) (λ b. e ≡ (if b then f y else e))
+    (λ i. let at : y.group ≡ k = grind (arith, nat_tests) in none_some (h.to y refl (λ z. ne (sym at ∙ z))))
+    (λ i. refl)
+look_same e f g k (Some x) None ne h = whether_as (x.group == k) (λ b. (if b then f x else e) ≡ e)
+    (λ i. let at : x.group ≡ k = grind (arith, nat_tests) in none_some (h.from x refl (λ z. ne (sym at ∙ z))))
+    (λ i. refl)
 look_same e f g k (Some x) (Some y) ne h = by (x.group == k) refl (y.group == k) refl
   where
     by : (b : Bool) → (x.group == k) ≡ b → (c : Bool) → (y.group == k) ≡ c → (if b then f x else e) ≡ (if c then f y else e)
@@ -163,11 +160,9 @@ listed_there (z ∷ zs) zero x e = let same : z ≡ x = cc in by (z.number == x.
     by : (q : Bool) → q ≡ true → q || is_there x.number zs ≡ true
     by true f = refl
     by false f = absurd (cc)
-listed_there (z ∷ zs) (suc i) x e = by (z.number == x.number) (listed_there zs i x e)
-  where
-    by : (q : Bool) → is_there x.number zs ≡ true → q || is_there x.number zs ≡ true
-    by true f = refl
-    by false f = f
+listed_there (z ∷ zs) (suc i) x e = whether_as (z.number == x.number) (λ q. q || is_there x.number zs ≡ true)
+    (λ _. refl)
+    (λ _. listed_there zs i x e)
 
 pub and_off : (x y z : Bool) → z ≡ false → x && z ≡ y && z
 and_off true false z e = e

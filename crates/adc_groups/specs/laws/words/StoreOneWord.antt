@@ -1,18 +1,18 @@
 -- A store of a group's word, with the change of the group that it stands for, leaves all else agreeing.
--- From services.StatusCalls, words.WordsOfModule, words.DisjointWords, hardware.StableUnderHardware.
--- Used by services.SingleWordCalls.
+-- From services.StatusCalls, words.WordsOfModule, words.DisjointWords, hardware.StableUnderHardware and 2 more.
+-- Used by services.SingleWordCalls, adc_serving: services.PinRight.
 use Rattle.std.proofs.Common.{◌≡◌, ◌≢◌, ◌+◌, ◌-◌, ◌*◌, ◌/◌, ◌%◌, ◌<◌, ◌≤◌, ◌&&◌, ◌||◌, ◌==◌, [], ◌∷◌, ◌∙◌, ◌⊎◌}
 use Rattle.adc_groups.specs.Terms
-use Terms.{aborts, aborts_by, AdcState, AdcTable, Agrees, all_groups, AllRight, ap, arith, Bank, bank_number, bank_word}
-use Terms.{BanksAgree, bit_of, Call, Chip, chip_after, chosen_of, claim_right, Clears, comes_before, cond}
-use Terms.{Copies, Fills, first_of, FitsAdc, Full, group_at, group_of, group_word, GroupAgrees, GroupState, has_turn}
-use Terms.{HeldRight, holds-agree, Idle, inl, inputs_of, inr, is_finished, is_on, is_outranked, is_some, IsSound}
+use Terms.{aborts, aborts_by, AdcState, AdcTable, Agrees, all_groups, AllRight, ap, arith, Bank, bank_number}
+use Terms.{bank_word, BanksAgree, bit_of, Call, cases, Chip, chip_after, chosen_of, claim_right, Clears, comes_before}
+use Terms.{cond, Copies, Fills, first_of, FitsAdc, Full, group_at, group_of, group_word, GroupAgrees, GroupState}
+use Terms.{has_turn, HeldRight, holds-agree, Idle, inputs_of, is_finished, is_on, is_outranked, is_some, IsSound}
 use Terms.{IsSoundGroup, Keeps, kept_by, kept_in, kept_of_round, kept_word, length, List, list_any, min, nat_lt}
 use Terms.{nat_tests, newest, next_among, next_group, None, not, number_at, number_by, number_in, Option, order_of}
 use Terms.{own-control, own-word, phase_of, Promised, rank_of, Reads, refl, Reservation, Reservations, ReservedBy}
 use Terms.{result_word, Round, round_at, rounds_of, samples_of, Settled, slice_get, Some, stands-agree, stands-move}
-use Terms.{starts, starts_by, STATE, Store, stored_other, stored_same, subst, sym, trio_of, true, unit_of}
-use Terms.{UnitAgrees, values_of, waits_for, Whole, with_group, word_number, word_of, World, ℕ}
+use Terms.{starts, starts_by, STATE, Store, stored_other, stored_same, subst, sym, trio_of, true, unit_of, UnitAgrees}
+use Terms.{values_of, waits_for, Whole, with_group, word_number, word_of, World, ℕ}
 use Rattle.adc_groups.specs.laws.words.DisjointWords.{groups_apart, unit_apart, place_apart, trio_apart, kept_apart}
 use Rattle.adc_groups.specs.laws.hardware.StableUnderHardware.{value_within, listed_agree, kept_within}
 use Rattle.adc_groups.specs.laws.words.WordsOfModule.{words_below, low_words, on_there, within, bank_below, unit_small}
@@ -95,21 +95,17 @@ module _ (d : AdcTable) (fits : FitsAdc d) (held : Reservations) (a : Chip) (w :
   bank_stays k n j here few = word (bank_word (rounds_of d k) n j) (trio_apart d fits g k i (bank_word (rounds_of d k) n j) there here (omega (arith, lt)) (own-word (trio_of (rounds_of d k)) (bank_number n) j (bank_below d fits n) few))
 
   low_stays : (k j : ℕ) → is_some (group_of d k) ≡ true → (k ≡ g → j ≢ i) → j < 32 → word_of b (group_word d k j) ≡ word_of a (group_word d k j)
-  low_stays k j here ne few = by (same_or k)
-    where
-      by : (k ≡ g) ⊎ (k ≢ g) → word_of b (group_word d k j) ≡ word_of a (group_word d k j)
-      by (inl e) = word (group_word d k j) (λ q. ne e (let at : group_word d k j ≡ group_word d g j = ap (λ n. group_word d n j) e in omega (arith, q, at)))
-      by (inr unlike) = word (group_word d k j) (groups_apart d fits g k i j there here (λ e. unlike (sym e)) (omega (arith, lt)) (omega (arith, few)))
+  low_stays k j here ne few = cases (same_or k)
+      (λ e. word (group_word d k j) (λ q. ne e (let at : group_word d k j ≡ group_word d g j = ap (λ n. group_word d n j) e in omega (arith, q, at))))
+      (λ unlike. word (group_word d k j) (groups_apart d fits g k i j there here (λ e. unlike (sym e)) (omega (arith, lt)) (omega (arith, few))))
 
   kept_stays : (k j : ℕ) → is_some (group_of d k) ≡ true → j < length (inputs_of (group_of d k)) → word_of b (kept_word (rounds_of d k) j) ≡ word_of a (kept_word (rounds_of d k) j)
-  kept_stays k j here few = by (same_or k)
+  kept_stays k j here few = cases (same_or k)
+      (λ e. word (kept_word (rounds_of d k) j) (λ q. kept_apart d fits g i j (omega (arith, lt)) (ap (λ n. kept_word (rounds_of d n) j) (sym e) ∙ q)))
+      (λ unlike. word (kept_word (rounds_of d k) j) (λ q. groups_apart d fits g k i (32 + 3 * length (inputs_of (group_of d k)) + j) there here (λ e. unlike (sym e)) (omega (arith, lt)) (omega (arith, few)) (sym at ∙ q)))
     where
       at : kept_word (rounds_of d k) j ≡ group_word d k (32 + 3 * length (inputs_of (group_of d k)) + j)
       at = omega arith
-
-      by : (k ≡ g) ⊎ (k ≢ g) → word_of b (kept_word (rounds_of d k) j) ≡ word_of a (kept_word (rounds_of d k) j)
-      by (inl e) = word (kept_word (rounds_of d k) j) (λ q. kept_apart d fits g i j (omega (arith, lt)) (ap (λ n. kept_word (rounds_of d n) j) (sym e) ∙ q))
-      by (inr unlike) = word (kept_word (rounds_of d k) j) (λ q. groups_apart d fits g k i (32 + 3 * length (inputs_of (group_of d k)) + j) there here (λ e. unlike (sym e)) (omega (arith, lt)) (omega (arith, few)) (sym at ∙ q))
 
   unit_stays : (j : ℕ) → j < 64 → word_of b (STATE + j) ≡ word_of a (STATE + j)
   unit_stays j few = word (STATE + j) (unit_apart d fits g i j there few)
@@ -128,7 +124,9 @@ module _ (d : AdcTable) (fits : FitsAdc d) (held : Reservations) (a : Chip) (w :
   module _ (fresh : IsSoundGroup d t g) where
     sound_touched : IsSound d w t
     sound_touched = record {
-      groups = λ k. by k (same_or k);
+      groups = λ k. cases (same_or k)
+          (λ e. subst (λ n. IsSoundGroup d t n) (sym e) fresh)
+          (λ ne. sound_by d s t k (other k ne) (turn k) (h.sound.groups k));
       waits = λ k q e. h.sound.waits k q (sym (waiting k) ∙ e);
       runs = λ u r e. let x = h.sound.runs u r e in (x.0, x.1, waiting r.group ∙ x.2, x.3, x.4);
       marks = λ j e. ap (λ o. is_some o) (listener_same d w s h.sound g small y keeps j) ∙ h.sound.marks j e;
@@ -136,10 +134,6 @@ module _ (d : AdcTable) (fits : FitsAdc d) (held : Reservations) (a : Chip) (w :
       rest = λ off. absurd (let f = on in cc);
       off = h.sound.off;
     }
-      where
-        by : (k : ℕ) → (k ≡ g) ⊎ (k ≢ g) → IsSoundGroup d t k
-        by k (inl e) = subst (λ n. IsSoundGroup d t n) (sym e) fresh
-        by k (inr ne) = sound_by d s t k (other k ne) (turn k) (h.sound.groups k)
 
   -- ---- what is held
 
@@ -221,11 +215,9 @@ module _ (d : AdcTable) (fits : FitsAdc d) (held : Reservations) (a : Chip) (w :
       rounds = rounds_same d w s h.sound g small y keeps
 
       status : (k : ℕ) → (group_at t k).status ≢ Idle → (group_at s k).status ≢ Idle
-      status k ne = by (same_or k)
-        where
-          by : (k ≡ g) ⊎ (k ≢ g) → (group_at s k).status ≢ Idle
-          by (inl e) = subst (λ n. (group_at s n).status ≢ Idle) (sym e) (newest_too (λ idle. ne (ap (λ n. (group_at t n).status) e ∙ (ap (λ z. z.status) (same d w s h.sound g small y keeps) ∙ idle))))
-          by (inr unlike) = λ idle. ne (ap (λ z. z.status) (other k unlike) ∙ idle)
+      status k ne = cases (same_or k)
+          (λ e. subst (λ n. (group_at s n).status ≢ Idle) (sym e) (newest_too (λ idle. ne (ap (λ n. (group_at t n).status) e ∙ (ap (λ z. z.status) (same d w s h.sound g small y keeps) ∙ idle)))))
+          (λ unlike. λ idle. ne (ap (λ z. z.status) (other k unlike) ∙ idle))
 
   group_touched : (k : ℕ) → k ≢ g → is_some (group_of d k) ≡ true → GroupAgrees d (word_of a) s k → GroupAgrees d (word_of b) t k
   group_touched k ne here q = record {
@@ -314,16 +306,14 @@ module _ (d : AdcTable) (fits : FitsAdc d) (held : Reservations) (a : Chip) (w :
 
     settled_touched : Settled d held a w s → Settled d held b w t
     settled_touched q = record {
-      groups = λ k here. by k here (same_or k);
+      groups = λ k here. cases (same_or k)
+          (λ e. subst (λ n. GroupAgrees d (word_of b) t n) (sym e) represents)
+          (λ ne. group_touched k ne here (q.groups k here));
       units = λ u few. unit_touched u few (q.units u few);
       claims = λ u few. ap (λ z. claim_right held u z) (claim_stays u few) ∙ q.claims u few;
       lines = q.lines;
       promised = λ u. promised_touched u (q.promised u);
     }
-      where
-        by : (k : ℕ) → is_some (group_of d k) ≡ true → (k ≡ g) ⊎ (k ≢ g) → GroupAgrees d (word_of b) t k
-        by k here (inl e) = subst (λ n. GroupAgrees d (word_of b) t n) (sym e) represents
-        by k here (inr ne) = group_touched k ne here (q.groups k here)
 
     -- all agrees after the store
     pub touched : Agrees d held (chip_after a (Store (group_word d g i) v) 0) w (with_group s g y)

@@ -1,6 +1,6 @@
 -- Changes of orders and of banks as parts of what a window owes, and the deeds after them.
--- From words.WordsOfModule, services.WriteBatchSteps, words.DisjointWords.
--- Used by words.OrderBetweenWrites, services.StopWords, services.RequestRight, services.PulseRight and 3 more.
+-- From service_outline: Words, words.WordsOfModule, services.WriteBatchSteps, words.DisjointWords.
+-- Used by words.OrderBetweenWrites, adc_serving: services.ServeWords, adc_turns: services.KeepRight and 19 more.
 use Rattle.std.proofs.Common.{◌≡◌, ◌≢◌, ◌+◌, ◌*◌, ◌<◌, ◌&&◌, ◌==◌, [], ◌∷◌, ◌∙◌, if◌then◌else◌}
 use Rattle.adc_groups.specs.Terms
 use Terms.{AdcTable, adding, after_list, Answer, ap, AreListed, arith, Bool, Chip, chip_after, Continuation, deed_move}

@@ -1,5 +1,5 @@
 -- The words that a window looks at, in their order.
--- Used by services.LookRight, window/rt, Places, services.BodySteps, services.CallSteps.
+-- Used by adc_driver: bookkeeping.Decreases, services.LookRight, adc_driver: bookkeeping.CleanPlaces and 9 more.
 use Rattle.std.specs.Prelude.{ℕ, Option, List, [], ◌∷◌, slice_get}
 use Rattle.adc_groups.specs.declared.window.Window.{Window}
 use Rattle.adc_groups.specs.declared.window.Window.TheVariants.{Close, Setup, Status, Point, Read, Start, Enable, Stop, Yield, Suspend, Keep, Begin, Leave, Convert, Take, Claim, Serve, Trigger}

@@ -1,13 +1,13 @@
 -- Where nothing is under way, neither before nor after, the agreement rests on few words: those of banks and of users' buffers.
--- From hardware.HardwareMoves.
--- Used by services.DeInitRight.
+-- From hardware.HardwareMoves, words.Cases.
+-- Used by adc_driver: services.InitWords, services.DeInitRight, adc_driver: services.InitActRight and 1 more.
 use Rattle.std.proofs.Common.{◌≡◌, ◌+◌, ◌<◌, ◌≤◌, ◌==◌, ◌∙◌}
 use Rattle.adc_groups.specs.Terms
-use Terms.{AdcState, AdcTable, Agrees, all_groups, AllRight, ap, arith, Backed, BanksAgree, bit_of, Bool, Chip}
-use Terms.{chosen_of, Converters, false, first_held, group_at, group_of, has_bit, Idle, is_clearing, is_owed, is_some}
-use Terms.{IsBlock, IsOver, IsSound, listener, mark_at, nat_tests, None, own_of, place_value, put_of, refl}
-use Terms.{Reservations, result_word, ResultBuffer, round_at, RoundAgrees, Rounds, rounds_of, Settled, some_hold}
-use Terms.{stands-agree, StandsIn, STATE, subst, sym, take_of, trio_of, true, word_number, word_of, World, ℕ}
+use Terms.{AdcState, AdcTable, Agrees, all_groups, AllRight, ap, arith, Backed, BanksAgree, bit_of, Chip, chosen_of}
+use Terms.{Converters, false, first_held, group_at, group_of, has_bit, Idle, is_clearing, is_owed, is_some, IsBlock}
+use Terms.{IsOver, IsSound, listener, mark_at, nat_tests, None, own_of, place_value, put_of, Reservations}
+use Terms.{result_word, ResultBuffer, round_at, RoundAgrees, Rounds, rounds_of, Settled, some_hold, stands-agree}
+use Terms.{StandsIn, STATE, subst, sym, take_of, trio_of, true, whether, word_number, word_of, World, ℕ}
 use Rattle.adc_groups.specs.laws.hardware.HardwareMoves.{none_listens}
 use Rattle.chip_converter.specs.Converters as chips
 use Rattle.adc_machine.specs.declared.call.ResultBuffer.TheVariants as buffers
@@ -17,11 +17,9 @@ use Rattle.adc_groups.specs.declared.words.Word.TheVariants as words
 
 -- a word of three banks is behind the first eight of its group
 pub trio_past : (r : Rounds) (k : ℕ) → own_of (trio_of r) k ≡ true → STATE + r.start + 7 ≤ k
-trio_past r k own = by (k == STATE + r.start + 7) refl own
-  where
-    by : (q : Bool) → (k == STATE + r.start + 7) ≡ q → own_of (trio_of r) k ≡ true → STATE + r.start + 7 ≤ k
-    by true e own = let same : k ≡ STATE + r.start + 7 = grind (arith, nat_tests) in omega (arith, same)
-    by false e own = let low : STATE + r.start + 32 ≤ k = grind (arith, nat_tests) in omega (arith, low)
+trio_past r k own = whether (k == STATE + r.start + 7)
+    (λ e. let same : k ≡ STATE + r.start + 7 = grind (arith, nat_tests) in omega (arith, same))
+    (λ e. let low : STATE + r.start + 32 ≤ k = grind (arith, nat_tests) in omega (arith, low))
 
 -- a place of a user's buffer is behind the words of all groups
 pub result_past : (g : ℕ) (b : ResultBuffer) (p : ℕ) → STATE + 8192 ≤ result_word g b p
@@ -67,11 +65,7 @@ module _ (d : AdcTable) (before after : Reservations) (a b : Chip) (w : World) (
 
   -- nothing is marked of an input that no group listens to
   unmarked : (x : AdcState) (i : ℕ) → (mark_at x i ≡ true → is_some (listener d x i) ≡ true) → is_some (listener d x i) ≡ false → mark_at x i ≡ false
-  unmarked x i heard none = by (mark_at x i) refl
-    where
-      by : (q : Bool) → mark_at x i ≡ q → mark_at x i ≡ false
-      by true e = absurd (let on = heard e in cc)
-      by false e = e
+  unmarked x i heard none = whether (mark_at x i) (λ e. absurd (let on = heard e in cc)) (λ e. e)
 
   over : (u : ℕ) → u < 2 → RoundAgrees d b.converters w (chips.unit_at b.converters u) (round_at t u)
   over u lt = subst (λ q. RoundAgrees d b.converters w (chips.unit_at b.converters u) q) (sym (r.free u lt))

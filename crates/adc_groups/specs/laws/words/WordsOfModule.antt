@@ -1,15 +1,15 @@
 -- Which words are the module's: those of units and groups, the banks and kept values, and the places of the users' buffers.
--- From services.InitSteps.
--- Used by hardware.StableUnderHardware, services.RequestRight, words.StoreOneWord, services.PulseRight and 15 more.
+-- From services.InitSteps, words.Cases.
+-- Used by hardware.StableUnderHardware, adc_driver: bookkeeping.MayMove, services.RequestRight and 51 more.
 use Rattle.std.proofs.Common.{◌≡◌, ◌+◌, ◌-◌, ◌*◌, ◌/◌, ◌%◌, ◌<◌, ◌≤◌, ◌&&◌, ◌||◌, ◌==◌, [], ◌∷◌, ◌∙◌, if◌then◌else◌}
 use Rattle.adc_groups.specs.Terms
 use Terms.{AdcTable, all_groups, ap, arith, Bank, bank_number, bank_word, Bool, buffer_number, clear_at, cleared_word}
-use Terms.{drop, false, FitsAdc, Group, group_clear, group_of, group_start, group_word, input_count, inputs_of, is_full}
-use Terms.{is_in_buffer, is_linear_stream, is_on, is_own_word, is_result_word, is_some, is_word, kept_word, length}
-use Terms.{List, list_any, listed, Load, Move, mul-le-mul_right, nat_le, nat_lt, nat_tests, None, not, object_count}
-use Terms.{One, Option, or_left, or_right, order_of, own_of, place_count, refl, result_word, ResultBuffer, rounds_of}
-use Terms.{samples_of, slice_get, slice_index_or, Some, SOURCES, STATE, Store, subst, suc, trio_of, true}
-use Terms.{unit_level, unit_of, unit_word, word_number, Zero, zero, ℕ}
+use Terms.{drop, false, FitsAdc, Group, group_clear, group_of, group_start, group_word, input_count, inputs_of}
+use Terms.{is_full, is_in_buffer, is_linear_stream, is_on, is_own_word, is_result_word, is_some, is_word, kept_word}
+use Terms.{length, List, list_any, listed, Load, Move, mul-le-mul_right, nat_le, nat_lt, nat_tests, None, not}
+use Terms.{object_count, One, Option, or_left, or_right, order_of, own_of, place_count, refl, result_word}
+use Terms.{ResultBuffer, rounds_of, samples_of, slice_get, slice_index_or, Some, SOURCES, STATE, Store, subst, suc}
+use Terms.{trio_of, true, unit_level, unit_of, unit_word, whether_as, word_number, Zero, zero, ℕ}
 use Rattle.mcal_base.specs.{Layout.{start_of}, declared.layout.Array.TheVariants.{Round}}
 use Rattle.word_shapes.specs.PriorityQueue as ranked
 use Rattle.adc_machine.specs.declared.call.ResultBuffer.TheVariants as buffers
@@ -260,7 +260,9 @@ module _ (d : AdcTable) (fits : FitsAdc d) where
 
   -- the words that Adc_Init clears
   pub clear_words : (i : ℕ) → IsOwnStore d (clear_at d i)
-  clear_words i = by (nat_lt i 6) refl
+  clear_words i = whether_as (nat_lt i 6) (λ q. IsOwnStore d (if q then Store (unit_word d (i / 3) (i % 3)) 0 else group_clear d ((i - 6) / 4) ((i - 6) % 4)))
+      (λ e. let lt : i < 6 = grind (arith, nat_tests) in unit_own (i / 3) (i % 3) (omega (arith, lt)))
+      (λ e. group_by ((i - 6) / 4) ((i - 6) % 4) (is_some (group_of d ((i - 6) / 4))) refl)
     where
       unit_own : (u at : ℕ) → u < 2 → is_word d (unit_word d u at) ≡ true
       unit_own u at lt = either_of (λ k. is_word d k ≡ true) (at == 0) _ _ (running_words d u lt) (either_of (λ k. is_word d k ≡ true) (at == 1) _ _ (claim_words d u lt) (tally_words d u lt))
@@ -271,7 +273,3 @@ module _ (d : AdcTable) (fits : FitsAdc d) where
       group_by : (g at : ℕ) (q : Bool) → is_some (group_of d g) ≡ q → IsOwnStore d (if q then Store (word_number d (cleared_word g at)) 0 else Load STATE)
       group_by g at true e = group_own g at e
       group_by g at false e = tt
-
-      by : (q : Bool) → nat_lt i 6 ≡ q → IsOwnStore d (if q then Store (unit_word d (i / 3) (i % 3)) 0 else group_clear d ((i - 6) / 4) ((i - 6) % 4))
-      by true e = let lt : i < 6 = grind (arith, nat_tests) in unit_own (i / 3) (i % 3) (omega (arith, lt))
-      by false e = group_by ((i - 6) / 4) ((i - 6) % 4) (is_some (group_of d ((i - 6) / 4))) refl

@@ -1,11 +1,12 @@
 -- A group whose round was served is one that a state may have.
+-- From adc_groups: words.Cases.
 -- Used by services.ServeActRight.
 use Rattle.std.proofs.Common.{◌≡◌, ◌≢◌, ◌+◌, ◌%◌, ◌<◌, ◌≤◌, ◌&&◌, ◌||◌, ◌==◌, [], ◌∷◌, ◌++◌, ◌∙◌, ◌⊎◌}
 use Rattle.adc_serving.specs.Terms
-use Terms.{ap, arith, Bool, cond, ends_with_stream, eq_is, false, Group, GroupState, Idle, inl}
-use Terms.{inputs_of, inr, is_continuous, is_full, is_linear_stream, is_some, length, length_push, List, mod-le, nat_le}
-use Terms.{nat_tests, None, not, Option, refl, Request, samples_of, slice_get, Some, SoundGroup, Status, status_after}
-use Terms.{StreamCompleted, suc, sym, trigger_input, true, zero, ℕ}
+use Terms.{ap, arith, Bool, cases, cond, ends_with_stream, eq_is, false, Group, GroupState, Idle, inl, inputs_of, inr}
+use Terms.{is_continuous, is_full, is_linear_stream, is_some, length, length_push, List, mod-le, nat_le, nat_tests}
+use Terms.{None, not, Option, refl, Request, samples_of, slice_get, Some, SoundGroup, Status, status_after}
+use Terms.{StreamCompleted, suc, sym, trigger_input, true, whether, zero, ℕ}
 
 -- the status after a round
 pub not_idle : (last : Bool) (x : Status) → status_after last x ≡ Idle → ⊥
@@ -40,11 +41,9 @@ module _ (k : Option Group) (x : GroupState) (there : is_some k ≡ true) (some 
 
   -- a completed stream has as many rounds as its buffer holds
   all_there : status ≡ StreamCompleted → samples_of k ≤ length x.rounds + 1
-  all_there e = by (completed_by last x.status e)
-    where
-      by : (last ≡ true) ⊎ (x.status ≡ StreamCompleted) → samples_of k ≤ length x.rounds + 1
-      by (inl i) = let is = eq_is (length x.rounds % samples_of k + 1) (samples_of k) i in let le = mod-le (length x.rounds) (samples_of k) in omega (arith, is, le)
-      by (inr i) = let le = sound.stream i in omega (arith, le)
+  all_there e = cases (completed_by last x.status e)
+      (λ i. let is = eq_is (length x.rounds % samples_of k + 1) (samples_of k) i in let le = mod-le (length x.rounds) (samples_of k) in omega (arith, is, le))
+      (λ i. let le = sound.stream i in omega (arith, le))
 
   -- a full stream is linear, and a linear one that isn't completed isn't full
   full_linear : is_full k (length x.rounds + 1) ≡ true → is_linear_stream k ≡ true
@@ -107,22 +106,18 @@ module _ (k : Option Group) (x : GroupState) (there : is_some k ≡ true) (some 
   full_going e = sym (ap (λ q. not q) (ends_linear (full_linear e)))
 
   pub again_going : is_full k (length x.rounds + 1) ≡ false → is_continuous k ≡ true → status ≡ StreamCompleted → true ≡ not (ends_with_stream k)
-  again_going e on is = by (is_linear_stream k) refl
-    where
-      by : (q : Bool) → is_linear_stream k ≡ q → true ≡ not (ends_with_stream k)
-      by true i = absurd (going_on e i is)
-      by false i = sym (ap (λ q. not q) (ends_other i ∙ ap (λ q. not q && not (is_some (trigger_input k))) on))
+  again_going e on is = whether (is_linear_stream k)
+      (λ i. absurd (going_on e i is))
+      (λ i. sym (ap (λ q. not q) (ends_other i ∙ ap (λ q. not q && not (is_some (trigger_input k))) on)))
 
   pub rest_going : is_full k (length x.rounds + 1) ≡ false → is_continuous k ≡ false → status ≡ StreamCompleted → x.trigger ≡ not (ends_with_stream k)
-  rest_going e off is = by (is_linear_stream k) refl
+  rest_going e off is = whether (is_linear_stream k)
+      (λ i. absurd (going_on e i is))
+      (λ i. hears_same ∙ (twice (is_some (trigger_input k)) ∙ sym (ap (λ q. not q) (ends_other i ∙ ap (λ q. not q && not (is_some (trigger_input k))) off))))
     where
       twice : (q : Bool) → q ≡ not (not q)
       twice true = refl
       twice false = refl
-
-      by : (q : Bool) → is_linear_stream k ≡ q → x.trigger ≡ not (ends_with_stream k)
-      by true i = absurd (going_on e i is)
-      by false i = hears_same ∙ (twice (is_some (trigger_input k)) ∙ sym (ap (λ q. not q) (ends_other i ∙ ap (λ q. not q && not (is_some (trigger_input k))) off)))
 
   -- the three ways on: its stream is full, it waits again, or it has no turn any more
   pub after_full : is_full k (length x.rounds + 1) ≡ true → SoundGroup k false (record x { status = status_after (length x.rounds % samples_of k + 1 == samples_of k) x.status; rounds = x.rounds ++ values ∷ []; trigger = false })

@@ -1,4 +1,5 @@
 -- The machine's state after a round was served: its unit is free, its group has the round, and waits again where it is continuous.
+-- From adc_groups: services.RequestRight.
 -- Used by services.ServeActRight, services.ServeActSteps.
 use Rattle.std.proofs.Common.{◌≡◌, ◌≢◌, ◌<◌, ◌≤◌, [], ◌∙◌, ◌&&◌, ◌+◌}
 use Rattle.adc_serving.specs.Terms

@@ -1,5 +1,6 @@
 -- The handler has closed the mask after its copy: it serves the round, unless its group was stopped meanwhile.
--- From services.ClaimRight, services.GiveUpRight.
+-- From adc_groups: services.Decisions, adc_groups: services.BodySteps, adc_groups: services.LookRight and 4 more.
+-- Used by adc_driver: services.LookRight.
 use Rattle.std.proofs.Common.{◌≡◌, ◌+◌, ◌<◌, ◌≤◌, ◌==◌, if◌then◌else◌}
 use Rattle.adc_serving.specs.Terms
 use Terms.{adc_bodies, adc_machine, AdcBody, AdcGround, AdcState, AdcTable, Agrees, ap, arith, AssertedAt, body_ends}

@@ -1,22 +1,22 @@
 -- The handler claims its unit, before it opens the mask to copy a finished round to the bank that it has chosen.
--- From words.WordsChange, services.TakeRoundSteps.
--- Used by services.CopyRight, services.ServeActRight, services.ServeActSteps, services.GiveUpRight and 3 more.
-use Rattle.std.proofs.Common.{◌≡◌, ◌≢◌, ◌+◌, ◌/◌, ◌%◌, ◌<◌, ◌&&◌, ◌||◌, ◌==◌, [], ◌∷◌, ◌∙◌, ◌⊎◌, if◌then◌else◌}
+-- From words.WordsChange, adc_groups: words.WordsOfModule, adc_groups: services.BodySteps and 11 more.
+-- Used by services.CopyRight, services.GiveUpRight, services.ServeActRight, services.ServeActSteps and 4 more.
+use Rattle.std.proofs.Common.{◌≡◌, ◌≢◌, ◌+◌, ◌/◌, ◌%◌, ◌<◌, ◌&&◌, ◌==◌, [], ◌∷◌, ◌∙◌, ◌⊎◌, if◌then◌else◌}
 use Rattle.adc_serving.specs.Terms
 use Terms.{aborts, adc_bodies, adc_machine, AdcBody, AdcGround, AdcState, AdcTable, Agrees, AllRight, ap, arith}
-use Terms.{AssertedAt, Bank, bank_below, bank_number, bank_word, BanksAgree, body_ends, body_work, Bool, Call, Chip}
-use Terms.{chip_after, chooses, choosing, claim, claim_right, claim_words, Claims, claims_on, CommitsTo}
+use Terms.{AssertedAt, Bank, bank_below, bank_number, bank_word, BanksAgree, body_ends, body_work, Bool, Call, cases}
+use Terms.{Chip, chip_after, chooses, choosing, claim, claim_right, claim_words, Claims, claims_on, CommitsTo}
 use Terms.{Continuation, Copies, copies_or, copying, DecidedRight, ended_at, Entered, eq_is, eq_other, eq_self, false}
-use Terms.{few_inputs, Fills, first_held, FitsAdc, foot_of, FrameHistory, free, fresh_history, Full, group_at, group_of}
-use Terms.{has_turn, HasWords, held, HeldRight, inl, inputs_of, inr, InWindow, is_finished, is_handler, is_on}
+use Terms.{few_inputs, Fills, first_held, FitsAdc, foot_of, FrameHistory, free, fresh_history, Full, group_at}
+use Terms.{group_of, HasWords, held, HeldRight, inl, inputs_of, inr, InWindow, is_finished, is_handler, is_on}
 use Terms.{is_round_of, is_some, Is_this_frame, is_word, IsAlone, IsChosen, IsTaken, Keeps, kept_by, kept_in}
 use Terms.{kept_of_round, length, limited, List, Load, Looks, looks_right, makes, making, making_owed, missed_after}
 use Terms.{nat_lt, nat_tests, None, none_aborted, not, on_there, one_owed, or_else, or_from, or_left, or_parts}
-use Terms.{or_right, Origin, own-control, own-word, own_named, own_of, PendingWrites, Place, place_ends, put_of, Reads}
-use Terms.{refl, Reservation, Reservations, ReservedBy, result_word, ResultBuffer, RightOr, Round, round_at, rounds_of}
-use Terms.{same_or_other, Serves, Set, Some, some_hold, some_inputs, stands-agree, start_from, Starts, starts_on, Store}
-use Terms.{stored_other, stored_same, subst, suc, sym, Taken, trio_of, TripleBuffer, true, unclaimed, unit_is, unit_of}
-use Terms.{value_of, Whole, will_yield, word_number, word_of, word_there, World, zero, ℕ}
+use Terms.{or_right, Origin, own-control, own-word, own_named, own_of, PendingWrites, Place, place_ends, put_of}
+use Terms.{Reads, refl, Reservation, Reservations, ReservedBy, result_word, ResultBuffer, RightOr, Round, round_at}
+use Terms.{round_turn, rounds_of, same_or_other, Serves, Set, Some, some_hold, some_inputs, stands-agree, start_from}
+use Terms.{Starts, starts_on, Store, stored_other, stored_same, subst, sym, Taken, trio_of, TripleBuffer, true}
+use Terms.{unclaimed, unit_is, unit_of, value_of, Whole, will_yield, word_number, word_of, word_there, World, zero, ℕ}
 use Rattle.adc_serving.specs.laws.services.TakeRoundSteps.{round_on}
 use Rattle.adc_serving.specs.laws.words.WordsChange.{BankStays, HoldStays, AllStay, CoreStays, all_stay, stays_agree}
 use Rattle.adc_serving.specs.laws.words.WordsChange.{trio_place, core_claim}
@@ -90,11 +90,9 @@ module _ (d : AdcTable) (fits : FitsAdc d) (u : ℕ) (few : u < 2) (c : Chip) (w
   -- what is held below stays right, where the claim keeps no values now
   module _ (low : v < 2) where
     kept_before : (n k : ℕ) → word_of claimed (word_number d (words.Claim n)) ≡ 2 + k → word_of c (word_number d (words.Claim n)) ≡ 2 + k
-    kept_before n k e = by (same_or_other n u)
-      where
-        by : (n ≡ u) ⊎ (n ≢ u) → word_of c (word_number d (words.Claim n)) ≡ 2 + k
-        by (inl same) = absurd (let now : v ≡ 2 + k = sym claim_now ∙ subst (λ z. word_of claimed (word_number d (words.Claim z)) ≡ 2 + k) same e in omega (arith, now, low))
-        by (inr ne) = sym (claim_other n ne) ∙ e
+    kept_before n k e = cases (same_or_other n u)
+        (λ same. absurd (let now : v ≡ 2 + k = sym claim_now ∙ subst (λ z. word_of claimed (word_number d (words.Claim z)) ≡ 2 + k) same e in omega (arith, now, low)))
+        (λ ne. sym (claim_other n ne) ∙ e)
 
     -- and where no frame below claims the unit, other claims stay too
     kept_after : (n k : ℕ) → (u == n) ≡ false → word_of c (word_number d (words.Claim n)) ≡ 2 + k → word_of claimed (word_number d (words.Claim n)) ≡ 2 + k
@@ -124,23 +122,6 @@ claimed_parts u x below rest e = by (x == 1) refl (some_hold (claims_on u) below
     by : (p : Bool) → (x == 1) ≡ p → (q : Bool) → some_hold (claims_on u) below ≡ q → p && not q ≡ true → (x ≡ 1) × (some_hold (claims_on u) below ≡ false)
     by true i false j f = (eq_is x 1 i, j)
     by _ i _ j f = absurd (cc)
-
--- a group has a turn whose round is on a unit
-pub turn_of_round : (s : AdcState) (g u : ℕ) → u < 2 → is_round_of g (round_at s u) ≡ true → has_turn s g ≡ true
-turn_of_round s g u lt e = by u lt e
-  where
-    last : (a b c : Bool) → c ≡ true → a || b || c ≡ true
-    last false false c i = i
-    last _ _ c i = refl
-
-    middle : (a b c : Bool) → b ≡ true → a || b || c ≡ true
-    middle false false c i = absurd (cc)
-    middle _ _ c i = refl
-
-    by : (u : ℕ) → u < 2 → is_round_of g (round_at s u) ≡ true → has_turn s g ≡ true
-    by zero lt i = middle (is_some (group_at s g).waiting) (is_round_of g (round_at s 0)) (is_round_of g (round_at s 1)) i
-    by (suc zero) lt i = last (is_some (group_at s g).waiting) (is_round_of g (round_at s 0)) (is_round_of g (round_at s 1)) i
-    by (suc (suc u)) lt i = absurd (omega (arith, lt))
 
 module _ (d : AdcTable) (fits : FitsAdc d) (below : Reservations) (chip : Chip) (w : World) (s : AdcState) (h : Agrees d below chip w s) (t : Taken) (few : t.unit < 2) (alone : IsAlone (24 + t.unit) below) (taken : IsTaken d w s t.unit t.group) where
   abbrev u : ℕ
@@ -186,7 +167,7 @@ module _ (d : AdcTable) (fits : FitsAdc d) (below : Reservations) (chip : Chip) 
   unkept e = let zero = ap (λ n. word_of chip (word_number d (words.Claim n))) unit ∙ zero_claim in omega (arith, e, zero)
 
   count_is : word_of chip (word_number d (words.Kept t.group)) ≡ length taken.round.request.kept
-  count_is = ((h.settled on).groups g there).kept (turn_of_round s g u few of_group) unkept ∙ ap length kept_is
+  count_is = ((h.settled on).groups g there).kept (round_turn s g u few of_group) unkept ∙ ap length kept_is
 
   pub limited_is : limited (word_of chip (word_number d (words.Kept t.group))) 32 ≡ length taken.round.request.kept
   limited_is = ap (λ n. limited n 32) count_is ∙ ap (λ q. if q then length taken.round.request.kept else 32) small

@@ -1,22 +1,22 @@
 -- A handler copies a finished round to its bank value by value, with the mask open: what words and registers agree with meanwhile.
--- From words.WordsChange, services.ClaimRight, words.ControlWord.
--- Used by services.CopySteps, services.ServeActRight.
+-- From words.WordsChange, adc_groups: words.WordsOfModule, services.ClaimRight, service_outline: Words and 5 more.
+-- Used by services.CopySteps, adc_driver: services.KeepCopySteps, services.ServeActRight.
 use Rattle.std.proofs.Common.{◌≡◌, ◌≢◌, ◌+◌, ◌-◌, ◌*◌, ◌/◌, ◌%◌, ◌<◌, ◌≤◌, ◌==◌, [], ◌∷◌, ◌++◌, ◌∙◌, ◌⊎◌}
 use Rattle.std.proofs.Common.{if◌then◌else◌, length-drop}
 use Rattle.adc_serving.specs.Terms
 use Terms.{AdcState, AdcTable, Agrees, AllRight, ap, arith, Bank, bank_below, bank_number, bank_word, banks-apart}
-use Terms.{BanksAgree, Bool, Call, Chip, chip_after, claim_right, claims_on, control-apart, Copies}
-use Terms.{ends_at, eq_is, eq_other, eq_self, false, filling, Fills, fills, FillsRight, finish_of, first_held, FitsAdc}
-use Terms.{Full, group_at, group_of, HasValues, HasWords, HeldRight, inl, inputs_left, inputs_of, inr, is_finished}
-use Terms.{is_on, is_round_of, is_some, IsNext, IsRound, Keeps, kept_by, kept_in, kept_of_round, kept_word, length}
+use Terms.{BanksAgree, Bool, Call, cases, Chip, chip_after, claim_right, claims_on, control-apart, Copies, ends_at}
+use Terms.{eq_is, eq_other, eq_self, false, filling, Fills, fills, FillsRight, finish_of, first_held, FitsAdc, Full}
+use Terms.{group_at, group_of, HasValues, HasWords, HeldRight, inl, inputs_left, inputs_of, inr, is_finished, is_on}
+use Terms.{is_round_of, is_some, IsNext, IsRound, Keeps, kept_by, kept_in, kept_of_round, kept_word, length}
 use Terms.{length_push, List, nat_le, nat_tests, newest-in, None, on_there, Option, option_map, or_else, or_parts}
 use Terms.{own-control, own-word, own_of, pin_of, put_of, PutIn, PutStands, Putting, Reads, refl, Reservation}
-use Terms.{Reservations, ReservedBy, result_of, Round, round_at, RoundAgrees, rounds_of, same_or_other, sample_at}
-use Terms.{slice_get, Some, some_hold, Stands, stands-agree, Store, stored, stored_other, stored_same, subst}
-use Terms.{suc, sym, trio_of, trio_words, TripleBuffer, true, unit_is, unit_of, unit_small, unit_within, value_within}
-use Terms.{values_of, Whole, whole_values, word_at, word_number, word_of, word_there, words-after, World, zero}
-use Terms.{ℕ}
-use Rattle.adc_serving.specs.laws.services.ClaimRight.{claiming, claimed_parts, turn_of_round}
+use Terms.{Reservations, ReservedBy, result_of, Round, round_at, round_turn, RoundAgrees, rounds_of, same_or_other}
+use Terms.{sample_at, slice_get, Some, some_hold, Stands, stands-agree, Store, stored, stored_other, stored_same}
+use Terms.{subst, suc, sym, trio_of, trio_words, TripleBuffer, true, unit_is, unit_of, unit_small, unit_within}
+use Terms.{value_within, values_of, Whole, whole_values, word_at, word_number, word_of, word_there, words-after}
+use Terms.{World, zero, ℕ}
+use Rattle.adc_serving.specs.laws.services.ClaimRight.{claiming, claimed_parts}
 use Rattle.adc_serving.specs.laws.words.ControlWord.{trio_fits}
 use Rattle.adc_serving.specs.laws.words.WordsChange.{BankStays, HoldStays, AllStay, CoreStays, all_stay, stays_agree}
 use Rattle.adc_serving.specs.laws.words.WordsChange.{core_trio, trio_other, trio_claim, trio_result}
@@ -135,7 +135,7 @@ module _ (d : AdcTable) (fits : FitsAdc d) (below : Reservations) (chip : Chip) 
     kept_value lt =
         let count = same.1 in
         let x = got r.request.kept i (omega (arith, lt, count)) in
-        ((h.settled on).groups g filler_there).values (turn_of_round s g u few of_group) unkept i x.0 (ap (λ xs. slice_get xs i) kept_is ∙ x.1)
+        ((h.settled on).groups g filler_there).values (round_turn s g u few of_group) unkept i x.0 (ap (λ xs. slice_get xs i) kept_is ∙ x.1)
         ∙ one x.0 (values.kept i x.0 x.1)
 
     -- and one that the unit has converted
@@ -228,11 +228,9 @@ module _ (d : AdcTable) (fits : FitsAdc d) (below : Reservations) (chip : Chip) 
   -- ---- what is held below
 
   control_group : (k : ℕ) → is_some (group_of d k) ≡ true → word_of now (trio_of (rounds_of d k)).control ≡ word_of chip (trio_of (rounds_of d k)).control
-  control_group k here = by (same_or_other k g)
-    where
-      by : (k ≡ g) ⊎ (k ≢ g) → word_of now (trio_of (rounds_of d k)).control ≡ word_of chip (trio_of (rounds_of d k)).control
-      by (inl same) = subst (λ n. word_of now (trio_of (rounds_of d n)).control ≡ word_of chip (trio_of (rounds_of d n)).control) (sym same) control_stays
-      by (inr ne) = trio_other d fits chip x whole g word there own k (trio_of (rounds_of d k)).control here ne (own-control (trio_of (rounds_of d k)))
+  control_group k here = cases (same_or_other k g)
+      (λ same. subst (λ n. word_of now (trio_of (rounds_of d n)).control ≡ word_of chip (trio_of (rounds_of d n)).control) (sym same) control_stays)
+      (λ ne. trio_other d fits chip x whole g word there own k (trio_of (rounds_of d k)).control here ne (own-control (trio_of (rounds_of d k))))
 
   -- no other frame fills a bank of the group
   filled_stays : (v k : ℕ) (n : Bank) → is_on v (group_of d k) ≡ true → (u == v) ≡ false → BankStays d chip now k n

@@ -1,5 +1,5 @@
 -- Each step of a handler that copies a finished round to its bank, with the mask open.
--- From services.CopyRight.
+-- From services.CopyRight, adc_groups: services.BodySteps.
 -- Used by services.OpenMaskSteps.
 use Rattle.std.proofs.Common.{◌≡◌, ◌+◌, ◌-◌, ◌<◌, if◌then◌else◌}
 use Rattle.adc_serving.specs.Terms

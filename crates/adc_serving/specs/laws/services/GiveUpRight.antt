@@ -1,14 +1,14 @@
 -- A group was stopped while its round was copied: the round is served no more, and the handler gives the bank up.
--- From services.ClaimRight.
+-- From adc_groups: words.WordsOfModule, services.ClaimRight, adc_groups: words.Cases.
 -- Used by services.ServeActRight, services.AfterCopySteps.
-use Rattle.std.proofs.Common.{◌≡◌, ◌≢◌, ◌<◌, ◌&&◌, ◌==◌, [], ◌∷◌, ◌∙◌, ◌⊎◌, if◌then◌else◌}
+use Rattle.std.proofs.Common.{◌≡◌, ◌≢◌, ◌<◌, ◌&&◌, ◌==◌, [], ◌∷◌, ◌∙◌, if◌then◌else◌}
 use Rattle.adc_serving.specs.Terms
 use Terms.{abandoning, abandons, AdcState, AdcTable, Agrees, AllRight, ap, Bank, bank_number, BanksAgree, Bool, Call}
-use Terms.{Chip, claim_fits, claim_right, Claims, claims_on, eq_is, eq_other, eq_self, false, Fills}
-use Terms.{first_held, FitsAdc, Full, group_of, HeldRight, inl, inputs_of, inr, is_on, is_some, length, None}
-use Terms.{not, on_there, Option, or_else, or_parts, put_of, refl, Reservation, Reservations, ReservedBy}
-use Terms.{round_at, rounds_of, same_or_other, Some, some_hold, starts, subst, sym, trio_of, true, unit_is}
-use Terms.{unit_of, word_number, word_of, World, ℕ}
+use Terms.{cases, Chip, claim_fits, claim_right, Claims, claims_on, eq_is, eq_other, eq_self, false, Fills}
+use Terms.{first_held, FitsAdc, Full, group_of, HeldRight, inputs_of, is_on, is_some, length, None, not, on_there}
+use Terms.{Option, or_else, or_parts, put_of, refl, Reservation, Reservations, ReservedBy, round_at, rounds_of}
+use Terms.{same_or_other, Some, some_hold, starts, subst, sym, trio_of, true, unit_is, unit_of, word_number, word_of}
+use Terms.{World, ℕ}
 use Rattle.adc_serving.specs.laws.services.ClaimRight.{claiming, claimed_parts}
 use Rattle.adc_groups.specs.declared.words.Word.TheVariants as words
 
@@ -69,7 +69,9 @@ module _ (d : AdcTable) (fits : FitsAdc d) (below : Reservations) (chip : Chip) 
     outside = h.outside;
     state = h.state;
     right = ((h.right.0.0, h.right.0.1, none), h.right.1);
-    banks = λ k there. by k there (same_or_other k g);
+    banks = λ k there. cases (same_or_other k g)
+        (λ e. subst (λ n. BanksAgree d (claiming u (Claims u) below) (word_of chip) s n) (sym e) given_up)
+        (λ ne. others k there ne);
     block = h.block;
     rounds = h.rounds;
     triggers = h.triggers;
@@ -78,10 +80,6 @@ module _ (d : AdcTable) (fits : FitsAdc d) (below : Reservations) (chip : Chip) 
     settled = λ f. (let q = h.settled f in record { groups = q.groups; units = q.units; claims = λ n lt. q.claims n lt; lines = q.lines; promised = λ n. (let z = q.promised n in record { starts = z.starts; yields = z.yields }) });
     left = λ off. absurd (let on = h.right.0.1 in cc);
   }
-    where
-      by : (k : ℕ) → is_some (group_of d k) ≡ true → (k ≡ g) ⊎ (k ≢ g) → BanksAgree d (claiming u (Claims u) below) (word_of chip) s k
-      by k there (inl e) = subst (λ n. BanksAgree d (claiming u (Claims u) below) (word_of chip) s n) (sym e) given_up
-      by k there (inr ne) = others k there ne
 
 -- ---- a unit that none claims
 

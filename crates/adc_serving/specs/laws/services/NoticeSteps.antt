@@ -1,16 +1,16 @@
 -- Each step of a handler that copies a served round to the user's buffer, and the notice after the whole copy.
--- From services.TellRight.
--- Used by services.OpenMaskSteps.
+-- From services.TellRight, adc_groups: services.BodySteps, adc_groups: words.Cases, adc_groups: words.WordsOfModule.
+-- Used by services.OpenMaskSteps, adc_driver: services.OutsideSteps.
 use Rattle.std.proofs.Common.{◌≡◌, ◌≢◌, ◌+◌, ◌/◌, ◌%◌, ◌<◌, ◌&&◌, ◌==◌, [], ◌∷◌, ◌∙◌, if◌then◌else◌}
 use Rattle.adc_serving.specs.Terms
-use Terms.{adc_bodies, AdcBody, AdcGround, AdcState, AdcTable, Agrees, AllRight, ap, arith, AssertedAt, Bank, bank_word}
-use Terms.{body_ends, body_work, Bool, buffer_in, Call, Chip, chip_after, Column, column_word, Copies}
-use Terms.{copies_on, Copying, ended_at, Entered, eq_is, false, FitsAdc, FrameHistory, group_of}
-use Terms.{Has_served, has_served, HeldRight, inputs_of, is_on, is_owed, is_same, Is_this_frame, IsAlone, IsAtUnit}
-use Terms.{length, lt_is, lt_isnt, MayCopy, nat_le, nat_lt, None, Option, or_from, Origin, Out, owes_note}
-use Terms.{place_out, refl, Reservation, Reservations, ReservedBy, ResultBuffer, RightOr, rounds_of, samples_of}
-use Terms.{Some, some_hold, Starts, Store, subst, sym, Tells, true, unit_is, unit_of, value_of, with_holds}
-use Terms.{word_of, World, ℕ}
+use Terms.{adc_bodies, AdcBody, AdcGround, AdcState, AdcTable, Agrees, AllRight, ap, arith, AssertedAt, Bank}
+use Terms.{bank_word, body_ends, body_work, Bool, buffer_in, Call, Chip, chip_after, Column, column_word, Copies}
+use Terms.{copies_on, Copying, ended_at, Entered, eq_is, false, FitsAdc, FrameHistory, group_of, Has_served}
+use Terms.{has_served, HeldRight, inputs_of, is_on, is_owed, is_same, Is_this_frame, IsAlone, IsAtUnit, length, lt_is}
+use Terms.{lt_isnt, MayCopy, nat_le, nat_lt, None, Option, or_from, Origin, Out, owes_note, place_out, refl}
+use Terms.{Reservation, Reservations, ReservedBy, ResultBuffer, RightOr, rounds_of, samples_of, Some, some_hold}
+use Terms.{Starts, Store, subst, sym, Tells, true, unit_is, unit_of, value_of, whether_as, with_holds, word_of, World}
+use Terms.{ℕ}
 use Rattle.adc_serving.specs.laws.services.TellRight.{teller, column_is, tells_value, tells_all, told_agrees}
 use Rattle.adc_stream.specs.declared.copying.Copied.TheVariants as copied
 use Rattle.adc_groups.specs.declared.outside.Outside.TheVariants as outsides
@@ -76,11 +76,9 @@ module _ (d : AdcTable) (fits : FitsAdc d) (f r : AdcBody → ℕ) (below : Rese
 -- no other frame copies a round of a group of the unit
 module _ (d : AdcTable) (fits : FitsAdc d) (chip : Chip) (w : World) (s : AdcState) (u g : ℕ) (at : is_on u (group_of d g) ≡ true) where
   not_owed : (x : ReservedBy Call Reservation) (z : Reservation) (n : ResultBuffer) (p : ℕ) → HeldRight d chip w s x z → x.by ≢ Entered (24 + u) → is_owed g n p z ≡ false
-  not_owed x (Copies b c i v) n p right ne = by (c.group == g) refl
-    where
-      by : (q : Bool) → (c.group == g) ≡ q → q && (is_same (buffer_in c) n && (p % c.samples == c.place && nat_le i (p / c.samples))) ≡ false
-      by true e = absurd (ne (right.0 ∙ ap (λ k. Entered (24 + k)) (ap (λ k. unit_of (group_of d k)) (eq_is c.group g e) ∙ unit_is d fits u (group_of d g) at)))
-      by false e = refl
+  not_owed x (Copies b c i v) n p right ne = whether_as (c.group == g) (λ q. q && (is_same (buffer_in c) n && (p % c.samples == c.place && nat_le i (p / c.samples))) ≡ false)
+      (λ e. absurd (ne (right.0 ∙ ap (λ k. Entered (24 + k)) (ap (λ k. unit_of (group_of d k)) (eq_is c.group g e) ∙ unit_is d fits u (group_of d g) at))))
+      (λ e. refl)
   not_owed x _ n p right ne = refl
 
   pub none_owed : (hs : Reservations) (n : ResultBuffer) (p : ℕ) → AllRight d chip w s hs → IsAlone (24 + u) hs → some_hold (is_owed g n p) hs ≡ false

@@ -1,5 +1,6 @@
 -- Each step of a handler with the mask open: it copies to a bank, copies to the user's buffer, or gives its notice.
--- From services.NoticeSteps, services.CopySteps, services.TellRight.
+-- From adc_groups: services.BodySteps, services.NoticeSteps, services.CopySteps, services.TellRight.
+-- Used by adc_driver: services.OutsideSteps.
 use Rattle.std.proofs.Common.{◌≡◌, ◌+◌, ◌<◌, ◌∙◌}
 use Rattle.adc_serving.specs.Terms
 use Terms.{adc_bodies, AdcBody, AdcGround, AdcState, AdcTable, Agrees, ap, AssertedAt, Bank, body_ends, body_work, Bool}

@@ -1,9 +1,10 @@
 -- Adc_ReadGroup of a group that has a round: it looks which bank is the newest, acts, and pins that.
--- From words.ControlWord.
+-- From adc_groups: words.StoreOneWord, adc_groups: services.BodySteps, adc_groups: services.StatusCalls and 10 more.
+-- Used by adc_driver: services.ChooseBankSteps, adc_driver: services.MakeRight.
 use Rattle.std.proofs.Common.{◌≡◌, ◌≢◌, ◌+◌, ◌*◌, ◌%◌, ◌<◌, ◌||◌, [], ◌∷◌, ◌∙◌, ◌⊎◌}
 use Rattle.adc_serving.specs.Terms
 use Terms.{acts_by, adc_bodies, adc_machine, AdcBody, AdcGround, AdcState, AdcTable, Agrees, answers, ap, arith}
-use Terms.{asks_no, bank_of, Banks, body_ends, body_work, Bool, Call, Called, Chip, chip_after, circumstances}
+use Terms.{asks_no, bank_of, Banks, body_ends, body_work, Bool, Call, Called, cases, Chip, chip_after, circumstances}
 use Terms.{CommitsTo, Completed, ended_at, ends_with_stream, EOk, error_by, false, first_error, FitsAdc, foot_of}
 use Terms.{FrameHistory, fresh_history, group_at, group_errors, group_of, group_with, group_word, GroupAgrees}
 use Terms.{GroupState, has_turn, Idle, inl, inr, is_idle, Is_this_frame, IsCalling, IsOnlyReader, IsPinning}
@@ -59,11 +60,9 @@ module _ (d : AdcTable) (fits : FitsAdc d) (f r : AdcBody → ℕ) (below : Rese
   awake = by_status (λ z. z ≢ Idle) (λ e. absurd (cc)) (λ e. absurd (cc))
 
   some_rounds : 0 < length (group_at s g).rounds
-  some_rounds = by pins.status pins.some pins.is
-    where
-      by : (z : Status) → (z ≡ Completed) ⊎ (z ≡ StreamCompleted) → (group_at s g).status ≡ z → 0 < length (group_at s g).rounds
-      by z (inl e) is = (h.sound.groups g).rounds (is ∙ e)
-      by z (inr e) is = let le = (h.sound.groups g).stream (is ∙ e) in let some = some_samples d fits g may.there in omega (arith, le, some)
+  some_rounds = cases pins.some
+      (λ e. (h.sound.groups g).rounds (pins.is ∙ e))
+      (λ e. let le = (h.sound.groups g).stream (pins.is ∙ e) in let some = some_samples d fits g may.there in omega (arith, le, some))
 
   none_error : error_by d (calls.Group g ReadGroup) (circumstances d s (calls.Group g ReadGroup)) ≡ None
   none_error = group_errors d s g ReadGroup may ∙ ap (λ z. first_error services.AdcReadGroup (false ∷ false ∷ z ∷ false ∷ false ∷ false ∷ [])) (by_status (λ z. is_idle z ≡ false) refl refl)

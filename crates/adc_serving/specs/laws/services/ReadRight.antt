@@ -1,5 +1,6 @@
 -- Adc_ReadGroup reads the bank that it has pinned, whatever interrupts, ends the pin, and answers all values of one round.
--- From words.ControlWord.
+-- From adc_groups: services.BodySteps, adc_groups: words.WordsOfModule, words.ControlWord and 3 more.
+-- Used by adc_driver: services.MakeSteps, adc_driver: services.OutsideSteps.
 use Rattle.std.proofs.Common.{◌≡◌, ◌+◌, ◌%◌, ◌<◌, ◌≤◌, ◌&&◌, [], ◌∷◌, ◌++◌, ◌∙◌, if◌then◌else◌}
 use Rattle.adc_serving.specs.Terms
 use Terms.{adc_bodies, AdcBody, AdcGround, AdcState, AdcTable, Agrees, Answer, ap, arith, AssertedAt, Bank, bank_number}

@@ -1,27 +1,27 @@
 -- A finished round is served: all agrees after the acknowledgement, the change of the unit's order, the new newest bank and the deeds.
--- From words.PlainFacts, services.ServeWords, words.CommittedWords, bookkeeping.ServedState and 6 more.
+-- From words.PlainFacts, services.ServeWords, words.CommittedWords, bookkeeping.ServedState and 19 more.
 -- Used by services.ServeActSteps, services.ServeRight.
 use Rattle.std.proofs.Common.{◌≡◌, ◌≢◌, ◌+◌, ◌*◌, ◌/◌, ◌%◌, ◌<◌, ◌≤◌, ◌&&◌, ◌||◌, ◌==◌, [], ◌∷◌, ◌++◌, ◌∙◌, ◌⊎◌}
 use Rattle.std.proofs.Common.{if◌then◌else◌}
 use Rattle.adc_serving.specs.Terms
-use Terms.{aborts_by, acknowledged_list, acknowledged_over, AdcState, AdcTable, Agrees, all_changed, AllRight, AllSpare}
-use Terms.{ap, Bank, bank_below, bank_number, bank_word, BanksAgree, bit_of, Bool, buffer_by, Call, changed, Chip}
-use Terms.{chip_after, chosen_of, claim_right, claim_stays, claims_on, clash, Column, Converter, ConverterAck}
-use Terms.{Converters, Copies, CopiesRight, deed_move, DiffersIn, Entered, Entry, eq_is, eq_other, eq_self, false}
-use Terms.{finished_here, first_held, FitsAdc, Fresh, Full, group_at, group_of, group_word, GroupAgrees, GroupState}
-use Terms.{has_bit, has_turn, HasWords, held_in, HeldRight, HoldsOrder, inl, inputs_of, inr, is_continuous, is_done}
-use Terms.{Is_finished, is_finished, is_full, is_on, is_owed, is_round_of, is_some, IsAlone, IsBlock, IsOrder, IsOver}
-use Terms.{IsSoundGroup, IsSoundRequest, kept_by, kept_in, kept_of_round, le_since, left_of, length, length-drop}
-use Terms.{length-set, length_push, List, listener, listener_as, mark_at, marks_off, min, mod-lt, newest, None}
-use Terms.{none_past, none_some, not, number_at, number_by, off_block, off_group, off_on, off_time, off_unit, on_there}
-use Terms.{Option, or_else, or_parts, order_of, order_waiting, order_without, own_of, phase_of, place_count}
+use Terms.{aborts_by, acknowledged_list, acknowledged_over, AdcState, AdcTable, Agrees, all_changed, AllRight}
+use Terms.{AllSpare, ap, Bank, bank_below, bank_number, bank_word, BanksAgree, bit_of, Bool, buffer_by, Call, cases}
+use Terms.{changed, Chip, chip_after, chosen_of, claim_right, claim_stays, claims_on, clash, Column, Converter}
+use Terms.{ConverterAck, Converters, Copies, CopiesRight, deed_move, DiffersIn, Entered, Entry, eq_is, eq_other}
+use Terms.{eq_self, false, finished_here, first_held, FitsAdc, Fresh, Full, group_at, group_of, group_word}
+use Terms.{GroupAgrees, GroupState, has_bit, has_turn, HasWords, held_in, HeldRight, HoldsOrder, inl, inputs_of, inr}
+use Terms.{is_continuous, is_done, Is_finished, is_finished, is_full, is_on, is_owed, is_round_of, is_some, IsAlone}
+use Terms.{IsBlock, IsOrder, IsOver, IsSoundGroup, IsSoundRequest, kept_by, kept_in, kept_of_round, le_since, left_of}
+use Terms.{length, length-drop, length_push, List, listener, listener_as, mark_at, marks_off, min, mod-lt, newest}
+use Terms.{None, none_past, none_some, not, number_at, number_by, off_block, off_group, off_on, off_time, off_unit}
+use Terms.{on_there, Option, or_else, or_parts, order_of, order_waiting, order_without, own_of, phase_of, place_count}
 use Terms.{place_stays, place_value, Promised, promised_same, put_of, refl, Request, Reservation, Reservations}
 use Terms.{ReservedBy, result_word, ResultBuffer, Round, round_at, round_turn, RoundAgrees, rounds_of, running_of}
 use Terms.{same_or_other, samples_of, slice_get, Some, some_hold, some_same, some_samples, sound_past, SoundGroup}
 use Terms.{start_from, starts_on, STATE, status_after, Stays, subst, sym, trigger_bit, trigger_input, triggers_off}
-use Terms.{TriggersAgree, trio_of, true, turn_round, unit_is, unit_of, unit_of_round, unit_other, unit_set, UnitAgrees}
-use Terms.{untouched, values_of, waiting, waits_other, whole_values, with_round_of, within, without_mark, word_number}
-use Terms.{word_of, World, ℕ}
+use Terms.{TriggersAgree, trio_of, true, turn_round, unit_block, unit_is, unit_of, unit_of_round, unit_other}
+use Terms.{unit_set, UnitAgrees, untouched, values_of, waiting, waits_other, whole_values, with_round_of, within}
+use Terms.{without_mark, word_number, word_of, World, ℕ}
 use Rattle.adc_groups.specs.laws.bookkeeping.FrameRule.{turn_same}
 use Rattle.adc_serving.specs.laws.{services.ClaimRight.{claiming, claimed_parts}, words.CommittedWords.{part_of}}
 use Rattle.adc_serving.specs.laws.{words.CommittedWords.{newest_pushed, quarter_left, rest_left, committed}}
@@ -133,15 +133,13 @@ module _ (d : AdcTable) (fits : FitsAdc d) (below : Reservations) (chip : Chip) 
     still = rest_as.2 ∙ on
 
     none_of_group : (v : ℕ) → is_round_of g (round_at t v) ≡ false
-    none_of_group v = by (same_or_other v u)
+    none_of_group v = cases (same_or_other v u)
+        (λ e. ap (λ n. is_round_of g (round_at t n)) e ∙ ap (λ q. is_round_of g q) free)
+        (λ ne. ap (λ q. is_round_of g q) (rounds_as v ne) ∙ not_here ne (is_round_of g (round_at s v)) refl)
       where
         not_here : v ≢ u → (q : Bool) → is_round_of g (round_at s v) ≡ q → q ≡ false
         not_here ne true e = absurd (ne (unit_of_round d fits w s h.sound g v e ∙ here))
         not_here ne false e = refl
-
-        by : (v ≡ u) ⊎ (v ≢ u) → is_round_of g (round_at t v) ≡ false
-        by (inl e) = ap (λ n. is_round_of g (round_at t n)) e ∙ ap (λ q. is_round_of g q) free
-        by (inr ne) = ap (λ q. is_round_of g q) (rounds_as v ne) ∙ not_here ne (is_round_of g (round_at s v)) refl
 
     waiting_by : (f c : Bool) → is_some (served_group d s g u few lt past x.request.number values f c).waiting ≡ c && not f
     waiting_by true true = ap (λ q. is_some q) waits_none
@@ -269,16 +267,7 @@ module _ (d : AdcTable) (fits : FitsAdc d) (below : Reservations) (chip : Chip) 
     other_units k ne = unit_other chip.converters.units u k (chips.acknowledged chip.converters.time (chips.unit_at chip.converters u)) ne
 
     acked_block : IsBlock acked w
-    acked_block = record {
-      all = length-set chip.converters.units u (chips.acknowledged chip.converters.time (chips.unit_at chip.converters u)) ∙ h.block.all;
-      lists = λ k less. by k less (same_or_other k u);
-      past = h.block.past;
-      samples = h.block.samples;
-    }
-      where
-        by : (k : ℕ) → k < 2 → (k ≡ u) ⊎ (k ≢ u) → length (chips.unit_at acked k).list ≡ 8
-        by k less (inl i) = subst (λ n. length (chips.unit_at acked n).list ≡ 8) (sym i) (ap (λ (q : Converter). length q.list) is_unit ∙ (ap length (acknowledged_list unit_a chip.converters.time) ∙ h.block.lists u few))
-        by k less (inr ne) = ap (λ (q : Converter). length q.list) (other_units k ne) ∙ h.block.lists k less
+    acked_block = unit_block chip.converters w u (chips.acknowledged chip.converters.time unit_a) h.block (λ less. ap length (acknowledged_list unit_a chip.converters.time) ∙ h.block.lists u less)
 
     off_same : (q : Bool) (n : ℕ) (e : Converters) → IsBlock e w → IsBlock (off_block q n e) w
     off_same true n e k = record { all = k.all; lists = k.lists; past = k.past; samples = k.samples }
@@ -323,11 +312,9 @@ module _ (d : AdcTable) (fits : FitsAdc d) (below : Reservations) (chip : Chip) 
       marks_same i = ap (λ q. mark_at (served d s g u few lt past x.request.number values q c) i) e ∙ marks_rest d s g u few lt past x.request.number values c i
 
       listens_as : (i : ℕ) → listener d t1 i ≡ listener d s i
-      listens_as = listener_as d s t1 (λ k. by k (same_or_other k g))
-        where
-          by : (k : ℕ) → (k ≡ g) ⊎ (k ≢ g) → (group_at t1 k).trigger ≡ (group_at s k).trigger
-          by k (inl i) = subst (λ n. (group_at t1 n).trigger ≡ (group_at s n).trigger) (sym i) (trigger_now f c ∙ (ap (λ q. (group_at s g).trigger && not q) e ∙ and_true (group_at s g).trigger))
-          by k (inr ne) = trigger_others k ne
+      listens_as = listener_as d s t1 (λ k. cases (same_or_other k g)
+          (λ i. subst (λ n. (group_at t1 n).trigger ≡ (group_at s n).trigger) (sym i) (trigger_now f c ∙ (ap (λ q. (group_at s g).trigger && not q) e ∙ and_true (group_at s g).trigger)))
+          (λ ne. trigger_others k ne))
 
       rest_triggers : TriggersAgree d z.converters t1
       rest_triggers =

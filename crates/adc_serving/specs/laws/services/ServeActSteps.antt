@@ -1,6 +1,6 @@
 -- The step at which a handler serves its unit's round: its move is the acknowledgement, and what its window makes after that settles to
 -- all that the machine has then.
--- From services.ServeActRight, services.ClaimRight, services.ServeWords, bookkeeping.ServedState.
+-- From services.ServeActRight, adc_groups: words.StructureParts, adc_groups: services.Decisions and 9 more.
 -- Used by services.ServeRight.
 use Rattle.std.proofs.Common.{◌≡◌, ◌+◌, ◌*◌, ◌/◌, ◌%◌, ◌<◌, ◌&&◌, ◌||◌, ◌==◌, [], ◌∷◌, ◌++◌, ◌∙◌, if◌then◌else◌}
 use Rattle.adc_serving.specs.Terms

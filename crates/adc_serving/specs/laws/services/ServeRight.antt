@@ -1,5 +1,6 @@
 -- A handler that is about to serve its round serves it rightly, by the words that its window has seen.
--- From words.StreamNumbers, services.ServeActSteps, services.ServeActRight, services.ClaimRight.
+-- From adc_groups: services.Decisions, words.StreamNumbers, adc_groups: words.WordsOfModule and 4 more.
+-- Used by adc_driver: services.MakeRight.
 use Rattle.std.proofs.Common.{◌≡◌, ◌≢◌, ◌+◌, ◌%◌, ◌<◌, ◌≤◌, ◌&&◌, ◌||◌, ◌==◌, ◌∙◌, if◌then◌else◌}
 use Rattle.adc_serving.specs.Terms
 use Terms.{adc_bodies, AdcBody, AdcGround, AdcState, AdcTable, Agrees, ap, arith, bit_of, body_ends, body_work, Bool}

@@ -1,5 +1,6 @@
 -- The moves of a serving after its acknowledgement: what each word is after a change of the unit's order, the new control word of the
 -- group's banks, and the deeds behind that; and that all of them may be made.
+-- From adc_groups: words.StructureParts, adc_groups: words.WordsOfModule, adc_groups: services.Decisions and 5 more.
 -- Used by services.ServeActRight, services.ServeActSteps.
 use Rattle.std.proofs.Common.{◌≡◌, ◌≢◌, ◌+◌, ◌-◌, ◌*◌, ◌<◌, ◌≤◌, ◌&&◌, ◌||◌, ◌==◌, [], ◌∷◌, ◌++◌, ◌∙◌, if◌then◌else◌}
 use Rattle.adc_serving.specs.Terms

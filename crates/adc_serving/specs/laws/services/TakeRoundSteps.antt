@@ -1,15 +1,16 @@
 -- The handler of a unit's line reads whether a finished round is there, looks whose it is, and chooses a bank for it.
--- From adc_groups: services.Decisions, words.ControlWord.
--- Used by services.ClaimRight.
+-- From adc_groups: services.Decisions, adc_groups: services.BodySteps, adc_groups: services.CallSteps and 5 more.
+-- Used by adc_driver: services.ChooseBankSteps, adc_driver: services.FlagSteps and 2 more.
 use Rattle.std.proofs.Common.{◌≡◌, ◌+◌, ◌-◌, ◌%◌, ◌/◌, ◌<◌, ◌&&◌, ◌||◌, ◌==◌, ◌∙◌, if◌then◌else◌}
 use Rattle.adc_serving.specs.Terms
 use Terms.{adc_bodies, adc_machine, AdcBody, AdcGround, AdcState, AdcTable, Agrees, ap, arith, AssertedAt, bank_of}
-use Terms.{body_ends, body_work, Bool, Call, Chip, Chooses, chosen, ConverterState, DecidedRight, decides_so, ended_at}
-use Terms.{Entered, false, finished_here, FitsAdc, Flag, flagged, FrameHistory, free, fresh_history, Goes, group_in}
-use Terms.{group_of, held, InFlag, InWindow, is_done, is_on, Is_this_frame, List, Load, looking, Looks, looks_right}
-use Terms.{missed_after, nat_le, nat_lt, nat_tests, None, not, on_there, Option, Origin, over, Place, place_ends, Put}
-use Terms.{put_start, Read, ready, refl, Reservations, RightOr, Round, round_at, rounds_of, running_of, Some, subst}
-use Terms.{or_right, suc, sym, take_by, trio_of, true, value_of, within, word_number, word_of, World, zero, ℕ}
+use Terms.{body_ends, body_work, Bool, Call, Chip, Chooses, chosen, ConverterState, DecidedRight, decides_so}
+use Terms.{ended_at, Entered, false, finished_here, FitsAdc, Flag, flagged, FrameHistory, free, fresh_history, Goes}
+use Terms.{group_in, group_of, held, InFlag, InWindow, is_done, is_on, Is_this_frame, List, Load, looking, Looks}
+use Terms.{looks_right, missed_after, nat_le, nat_lt, nat_tests, None, not, on_there, Option, or_right, Origin, over}
+use Terms.{Place, place_ends, Put, put_start, Read, ready, refl, Reservations, RightOr, Round, round_at, rounds_of}
+use Terms.{running_of, Some, subst, suc, sym, take_by, trio_of, true, value_of, whether_as, within, word_number}
+use Terms.{word_of, World, zero, ℕ}
 use Rattle.adc_stream.specs.declared.rounds.Bank.TheVariants.{Zero}
 use Rattle.adc_groups.specs.laws.services.Decisions.{take}
 use Rattle.adc_serving.specs.laws.words.ControlWord.{number_of_bank}
@@ -45,11 +46,9 @@ group_back g lt = by (nat_lt 0 (1 + g) && nat_le (1 + g) 16) (grind (arith, nat_
 
 -- a round that is there is one of an initialised module
 pub round_on : (d : AdcTable) (held : Reservations) (chip : Chip) (w : World) (s : AdcState) (u : ℕ) (r : Round) → Agrees d held chip w s → round_at s u ≡ Some r → s.initialised ≡ true
-round_on d held chip w s u r h e = by s.initialised refl
-  where
-    by : (q : Bool) → s.initialised ≡ q → q ≡ true
-    by true i = refl
-    by false i = absurd (let none = (h.sound.rest i 0).1 u in let gone : None ≡ Some r = sym none ∙ e in cc)
+round_on d held chip w s u r h e = whether_as s.initialised (λ q. q ≡ true)
+    (λ i. refl)
+    (λ i. absurd (let none = (h.sound.rest i 0).1 u in let gone : None ≡ Some r = sym none ∙ e in cc))
 
 module _ (d : AdcTable) (fits : FitsAdc d) (f r : AdcBody → ℕ) (below : Reservations) (chip : Chip) (w : World) (s : AdcState) (m : ℕ → Bool) (y : ℕ) where
   abbrev missed : ℕ → Bool

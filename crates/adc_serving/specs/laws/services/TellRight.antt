@@ -1,6 +1,6 @@
 -- A served round is copied to the user's buffer, value by value with the mask open; then its group is notified, where that is on.
--- From words.WordsChange, services.ClaimRight.
--- Used by services.NoticeSteps, services.OpenMaskSteps.
+-- From words.WordsChange, adc_groups: words.WordsOfModule, service_outline: Words and 2 more.
+-- Used by services.NoticeSteps, adc_driver: bookkeeping.MayMove, services.OpenMaskSteps.
 use Rattle.std.proofs.Common.{◌≡◌, ◌≢◌, ◌+◌, ◌*◌, ◌/◌, ◌%◌, ◌<◌, ◌≤◌, ◌&&◌, ◌||◌, ◌==◌, [], ◌∷◌, ◌∙◌, ◌⊎◌}
 use Rattle.adc_serving.specs.Terms
 use Terms.{AdcState, AdcTable, Agrees, AllRight, ap, arith, Bank, bank_below, bank_number, bank_word, bit_of, Bool}

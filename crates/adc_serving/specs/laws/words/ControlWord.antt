@@ -1,17 +1,17 @@
 -- The control word of a group's banks is stored: the newest bank is pinned, or a pin ends.
--- From words.WordsChange.
+-- From words.WordsChange, adc_groups: words.WordsOfModule, service_outline: Words, adc_groups: words.Cases and 2 more.
 -- Used by services.PinRight, services.ReadRight, services.CopyRight, services.TakeRoundSteps, words.CommittedWords.
 use Rattle.std.proofs.Common.{◌≡◌, ◌≢◌, ◌+◌, ◌*◌, ◌/◌, ◌%◌, ◌<◌, ◌==◌, [], ◌∷◌, ◌∙◌, ◌⊎◌, if◌then◌else◌}
 use Rattle.adc_serving.specs.Terms
 use Terms.{AdcState, AdcTable, Agrees, AllRight, ap, arith, Bank, bank_below, bank_number, bank_of, bank_word, Banks}
-use Terms.{BanksAgree, Bool, Call, Called, Chip, chip_after, claim_right, control-apart, Copies, EOk}
-use Terms.{eq_other, eq_self, false, Fills, first_held, Fits, FitsAdc, Full, group_of, HasWords, HeldRight, inl}
-use Terms.{inputs_of, inr, is_some, IsBank, Keeps, length, List, listed, named_with, nat_tests, newest-in, None}
-use Terms.{on_there, Option, option_map, or_else, own-control, own-word, own_of, pinning, pins, put_of, ReadGroup}
-use Terms.{Reads, refl, releases, releasing, Reservation, Reservations, ReservedBy, result_word, ResultBuffer}
-use Terms.{rounds_of, same_or_other, Some, Stands, stands-agree, start_from, Store, stored, stored_other}
-use Terms.{stored_same, subst, sym, take_of, Taking, trio_of, trio_words, TripleBuffer, true, unit_of, unit_small}
-use Terms.{unit_within, Whole, word_at, word_number, word_of, word_there, WORDS, words-after, World, ℕ}
+use Terms.{BanksAgree, Bool, Call, Called, cases, Chip, chip_after, claim_right, control-apart, Copies, EOk, eq_other}
+use Terms.{eq_self, false, Fills, first_held, Fits, FitsAdc, Full, group_of, HasWords, HeldRight, inl, inputs_of, inr}
+use Terms.{is_some, IsBank, Keeps, length, List, listed, named_with, nat_tests, newest-in, None, on_there, Option}
+use Terms.{option_map, or_else, own-control, own-word, own_of, pinning, pins, put_of, ReadGroup, Reads, refl}
+use Terms.{releases, releasing, Reservation, Reservations, ReservedBy, result_word, ResultBuffer, rounds_of}
+use Terms.{same_or_other, Some, Stands, stands-agree, start_from, Store, stored, stored_other, stored_same, subst}
+use Terms.{sym, take_of, Taking, trio_of, trio_words, TripleBuffer, true, unit_of, unit_small, unit_within, Whole}
+use Terms.{word_at, word_number, word_of, word_there, WORDS, words-after, World, ℕ}
 use Rattle.adc_serving.specs.laws.words.WordsChange.{BankStays, HoldStays, AllStay, CoreStays, all_stay, stays_agree}
 use Rattle.adc_serving.specs.laws.words.WordsChange.{core_trio, trio_other, trio_claim, trio_result}
 use Rattle.adc_machine.specs.declared.call.Call.TheVariants as calls
@@ -84,11 +84,9 @@ module _ (d : AdcTable) (fits : FitsAdc d) (g : ℕ) (there : is_some (group_of 
 
     module _ (low : value % 4 ≡ word_of c (trio_of (rounds_of d g)).control % 4) where
       control_low : (k : ℕ) → is_some (group_of d k) ≡ true → word_of now (trio_of (rounds_of d k)).control % 4 ≡ word_of c (trio_of (rounds_of d k)).control % 4
-      control_low k here = by (same_or_other k g)
-        where
-          by : (k ≡ g) ⊎ (k ≢ g) → word_of now (trio_of (rounds_of d k)).control % 4 ≡ word_of c (trio_of (rounds_of d k)).control % 4
-          by (inl same) = subst (λ z. word_of now (trio_of (rounds_of d z)).control % 4 ≡ word_of c (trio_of (rounds_of d z)).control % 4) (sym same) (ap (λ n. n % 4) control_now ∙ low)
-          by (inr ne) = ap (λ n. n % 4) (other_trio k (trio_of (rounds_of d k)).control here ne (own-control (trio_of (rounds_of d k))))
+      control_low k here = cases (same_or_other k g)
+          (λ same. subst (λ z. word_of now (trio_of (rounds_of d z)).control % 4 ≡ word_of c (trio_of (rounds_of d z)).control % 4) (sym same) (ap (λ n. n % 4) control_now ∙ low))
+          (λ ne. ap (λ n. n % 4) (other_trio k (trio_of (rounds_of d k)).control here ne (own-control (trio_of (rounds_of d k)))))
 
       one_stays : (w : World) (s : AdcState) (x : ReservedBy Call Reservation) (z : Reservation) → HeldRight d c w s x z → take_of g z ≡ None → HoldStays d c now z
       one_stays w s x (Fills u k e n i y) r none = bank_stays k n (on_there u (group_of d k) r.2)
@@ -202,17 +200,15 @@ module _ (d : AdcTable) (fits : FitsAdc d) (g : ℕ) (there : is_some (group_of 
         ),
         all_stay d fits below c pinned w s h on core below (control_stays d fits g there c h.outside.all.words value low w s below h.right alone) h.right,
       );
-      banks = λ k here. banks_by k here (same_or_other k g);
+      banks = λ k here. cases (same_or_other k g)
+          (λ e. subst (λ n. BanksAgree d held (word_of pinned) s n) (sym e) agreed)
+          (λ ne. others_agree d fits g there c h.outside.all.words value low below held s k here ne (h.banks k here) refl (taken_other g k (bank_of (v % 4)) [] whole below ne));
       places = λ k n p lt free. place_stays d fits g there c h.outside.all.words value k n p ∙ h.places k n p lt free;
       backed = (λ u e. absurd (cc), h.backed);
       claimed = λ k here ne same. ne (claim_stays d fits g there c h.outside.all.words value (unit_of (group_of d k)) (unit_small d fits k here) ∙ same);
       claims = λ u few. ap (λ x. claim_right below u x) (claim_stays d fits g there c h.outside.all.words value u few) ∙ (h.settled on).claims u few;
       promised = λ u. (let q = (h.settled on).promised u in record { starts = q.starts; yields = q.yields });
     })
-      where
-        banks_by : (k : ℕ) → is_some (group_of d k) ≡ true → (k ≡ g) ⊎ (k ≢ g) → BanksAgree d held (word_of pinned) s k
-        banks_by k here (inl e) = subst (λ n. BanksAgree d held (word_of pinned) s n) (sym e) agreed
-        banks_by k here (inr ne) = others_agree d fits g there c h.outside.all.words value low below held s k here ne (h.banks k here) refl (taken_other g k (bank_of (v % 4)) [] whole below ne)
 
   -- ---- the pin ends
 
@@ -241,14 +237,12 @@ module _ (d : AdcTable) (fits : FitsAdc d) (g : ℕ) (there : is_some (group_of 
     pub release_agrees : Agrees d below freed w s
     release_agrees = stays_agree d fits (reader g b vs whole ∷ below) c freed w s h on core_freed below (record {
       right = all_stay d fits (reader g b vs whole ∷ below) c freed w s h on core_freed below (control_stays d fits g there c h.outside.all.words (v % 4) low_freed w s below h.right.1 alone) h.right.1;
-      banks = λ k here. banks_by k here (same_or_other k g);
+      banks = λ k here. cases (same_or_other k g)
+          (λ e. subst (λ n. BanksAgree d below (word_of freed) s n) (sym e) agreed_freed)
+          (λ ne. others_agree d fits g there c h.outside.all.words (v % 4) low_freed (reader g b vs whole ∷ below) below s k here ne (h.banks k here) refl (sym (taken_other g k b vs whole below ne)));
       places = λ k n p lt free. place_stays d fits g there c h.outside.all.words (v % 4) k n p ∙ h.places k n p lt free;
       backed = h.backed.1;
       claimed = λ k here ne same. ne (claim_stays d fits g there c h.outside.all.words (v % 4) (unit_of (group_of d k)) (unit_small d fits k here) ∙ same);
       claims = λ u few. ap (λ x. claim_right below u x) (claim_stays d fits g there c h.outside.all.words (v % 4) u few) ∙ (h.settled on).claims u few;
       promised = λ u. (let q = (h.settled on).promised u in record { starts = q.starts; yields = q.yields });
     })
-      where
-        banks_by : (k : ℕ) → is_some (group_of d k) ≡ true → (k ≡ g) ⊎ (k ≢ g) → BanksAgree d below (word_of freed) s k
-        banks_by k here (inl e) = subst (λ n. BanksAgree d below (word_of freed) s n) (sym e) agreed_freed
-        banks_by k here (inr ne) = others_agree d fits g there c h.outside.all.words (v % 4) low_freed (reader g b vs whole ∷ below) below s k here ne (h.banks k here) refl (sym (taken_other g k b vs whole below ne))

@@ -1,20 +1,19 @@
 -- The numbers of a stream in words are the machine's after one more round: how many its buffer holds, the next place, and the phase.
+-- From adc_groups: services.Decisions, adc_groups: words.Cases.
 -- Used by services.ServeRight.
 use Rattle.std.proofs.Common.{◌≡◌, ◌≢◌, ◌+◌, ◌%◌, ◌<◌, ◌≤◌, ◌&&◌, ◌||◌, ◌==◌, ◌∙◌, if◌then◌else◌}
 use Rattle.adc_serving.specs.Terms
 use Terms.{ap, arith, Bool, Busy, Completed, false, following, Group, Idle, is_full, is_linear_stream, is_streamed}
 use Terms.{lt_is, lt_isnt, min, mod-eq_of_lt, mod-lt, mod_self, nat_le, nat_lt, nat_tests, one_more, Option, phase_in}
 use Terms.{phase_number, phase_of, phase_on, refl, samples_of, Status, status_after, StreamCompleted, subst, suc}
-use Terms.{suc-mod, sym, true, ℕ}
+use Terms.{suc-mod, sym, true, whether_as, ℕ}
 use Rattle.adc_groups.specs.declared.words.Phase.TheVariants as phases
 use Rattle.mcal_base.specs.facts.Numbers.{eq_from}
 
 pub count_after : (n m : ℕ) → one_more (min n m) m ≡ min (n + 1) m
-count_after n m = by (nat_lt (min n m) m) refl
-  where
-    by : (q : Bool) → nat_lt (min n m) m ≡ q → (if q then min n m + 1 else m) ≡ min (n + 1) m
-    by true e = let lt = lt_is (min n m) m e in omega (arith, lt)
-    by false e = let le = lt_isnt (min n m) m e in omega (arith, le)
+count_after n m = whether_as (nat_lt (min n m) m) (λ q. (if q then min n m + 1 else m) ≡ min (n + 1) m)
+    (λ e. let lt = lt_is (min n m) m e in omega (arith, lt))
+    (λ e. let le = lt_isnt (min n m) m e in omega (arith, le))
 
 one_past : (n m : ℕ) → (n + 1) % m ≡ suc (n % m) % m
 one_past n m = let is : n + 1 ≡ suc n = omega arith in ap (λ k. k % m) is ∙ suc-mod n m
@@ -57,7 +56,9 @@ pub full_after : (k : Option Group) (n : ℕ) → is_full k (one_more (min n (sa
 full_after k n = ap (λ c. is_linear_stream k && nat_le (samples_of k) c) (count_after n (samples_of k)) ∙ ap (λ q. is_linear_stream k && q) (same (samples_of k))
   where
     same : (m : ℕ) → nat_le m (min (n + 1) m) ≡ nat_le m (n + 1)
-    same m = by (nat_le m (n + 1)) refl
+    same m = whether_as (nat_le m (n + 1)) (λ q. nat_le m (min (n + 1) m) ≡ q)
+        (λ e. let le = was m (n + 1) e in yes m (min (n + 1) m) (omega (arith, le)))
+        (λ e. let lt = past m (n + 1) e in no m (min (n + 1) m) (omega (arith, lt)))
       where
         yes : (a b : ℕ) → a ≤ b → nat_le a b ≡ true
         yes a b le = grind (arith, nat_tests)
@@ -70,10 +71,6 @@ full_after k n = ap (λ c. is_linear_stream k && nat_le (samples_of k) c) (count
 
         past : (a b : ℕ) → nat_le a b ≡ false → b < a
         past a b e = grind (arith, nat_tests)
-
-        by : (q : Bool) → nat_le m (n + 1) ≡ q → nat_le m (min (n + 1) m) ≡ q
-        by true e = let le = was m (n + 1) e in yes m (min (n + 1) m) (omega (arith, le))
-        by false e = let lt = past m (n + 1) e in no m (min (n + 1) m) (omega (arith, lt))
 
 -- the phase after a round that is the last one of the stream or not, of a group that goes on or not
 pub phase_served : (x : Status) (goes last goes_on : Bool) → x ≢ Idle

@@ -1,16 +1,17 @@
 -- Words change while the machine's state and all registers stay: what is held stays right, and so does the whole agreement.
--- Used by services.CopyRight, words.ControlWord, services.TellRight, services.ClaimRight.
-use Rattle.std.proofs.Common.{◌≡◌, ◌≢◌, ◌+◌, ◌-◌, ◌*◌, ◌/◌, ◌%◌, ◌<◌, ◌≤◌, ◌&&◌, ◌||◌, ◌==◌, [], ◌∷◌, ◌∙◌, ◌⊎◌}
+-- From adc_groups: hardware.StableUnderHardware, adc_groups: words.DisjointWords, adc_groups: words.Cases and 3 more.
+-- Used by services.CopyRight, words.ControlWord, services.ClaimRight, services.TellRight, adc_driver: words.KeptWords.
+use Rattle.std.proofs.Common.{◌≡◌, ◌≢◌, ◌+◌, ◌-◌, ◌*◌, ◌/◌, ◌%◌, ◌<◌, ◌≤◌, ◌&&◌, ◌||◌, ◌==◌, [], ◌∷◌, ◌∙◌}
 use Rattle.adc_serving.specs.Terms
-use Terms.{AdcState, AdcTable, Agrees, AllRight, ap, arith, Backed, Bank, bank_word, BanksAgree, Bool, Call, cases_lt}
-use Terms.{Chip, chip_after, claim_right, Clears, Converters, Copies, end_of, eq_is, eq_other, false, Fills}
+use Terms.{AdcState, AdcTable, Agrees, AllRight, ap, arith, Backed, Bank, bank_word, BanksAgree, Bool, Call, cases}
+use Terms.{cases_lt, Chip, chip_after, claim_right, Clears, Converters, Copies, end_of, eq_is, eq_other, false, Fills}
 use Terms.{FitsAdc, Full, Group, group_of, group_word, GroupAgrees, has_bit, HasWords, HeldRight, holds-agree, inl}
 use Terms.{inputs_of, inr, is_on, is_some, IsBlock, Keeps, KeepsRight, kept_within, kept_word, length, length-set}
 use Terms.{listed_agree, nat_le, nat_lt, nat_tests, on_there, Option, order_of, order_own, own_of, place_apart}
-use Terms.{PlacesAgree, Promised, Reads, refl, Reservation, Reservations, ReservedBy, result_word, ResultBuffer, Round}
-use Terms.{round_at, RoundAgrees, rounds_of, same_or_other, slice_get, Some, stands_words, start_from, start_of}
-use Terms.{STATE, Store, stored_other, subst, sym, TriggersAgree, trio_apart, trio_of, true, unit_of, UnitAgrees}
-use Terms.{value_within, values_of, Whole, WholeRight, word_number, word_of, World, ℕ}
+use Terms.{PlacesAgree, Promised, Reads, refl, Reservation, Reservations, ReservedBy, result_word, ResultBuffer}
+use Terms.{Round, round_at, RoundAgrees, rounds_of, same_or_other, slice_get, Some, stands_words, start_from}
+use Terms.{start_of, STATE, Store, stored_other, subst, sym, TriggersAgree, trio_apart, trio_of, true, unit_of}
+use Terms.{UnitAgrees, value_within, values_of, Whole, WholeRight, word_number, word_of, World, ℕ}
 use Rattle.chip_converter.specs.Converters as chips
 use Rattle.chip_converter.specs.Rounds as rounds
 use Rattle.adc_machine.specs.declared.call.ResultBuffer.TheVariants as buffers
@@ -206,14 +207,12 @@ module _ (d : AdcTable) (fits : FitsAdc d) where
       low = (start_from d fits g here).0
 
       kept_apart : (k j : ℕ) → is_some (group_of d k) ≡ true → j < length (inputs_of (group_of d k)) → kept_word (rounds_of d k) j ≢ at
-      kept_apart k j there less e = by (same_or_other k g)
+      kept_apart k j there less e = cases (same_or_other k g)
+          (λ same. let few = place.3 in let i = is in let f : group_word d g (32 + 3 * length (inputs_of (group_of d g)) + j) ≡ at = subst (λ n. group_word d n (32 + 3 * length (inputs_of (group_of d n)) + j) ≡ at) same (sym kept ∙ e) in omega (arith, f, i, few))
+          (λ ne. let few = place.3 in ranges_apart g k place.0 (32 + 3 * length (inputs_of (group_of d k)) + j) here there (λ z. ne (sym z)) (omega (arith, few)) (omega (arith, less)) (sym kept ∙ (e ∙ is)))
         where
           kept : kept_word (rounds_of d k) j ≡ group_word d k (32 + 3 * length (inputs_of (group_of d k)) + j)
           kept = omega arith
-
-          by : (k ≡ g) ⊎ (k ≢ g) → ⊥
-          by (inl same) = let few = place.3 in let i = is in let f : group_word d g (32 + 3 * length (inputs_of (group_of d g)) + j) ≡ at = subst (λ n. group_word d n (32 + 3 * length (inputs_of (group_of d n)) + j) ≡ at) same (sym kept ∙ e) in omega (arith, f, i, few)
-          by (inr ne) = let few = place.3 in ranges_apart g k place.0 (32 + 3 * length (inputs_of (group_of d k)) + j) here there (λ z. ne (sym z)) (omega (arith, few)) (omega (arith, less)) (sym kept ∙ (e ∙ is))
 
       pub core_trio : CoreStays d a (later at)
       core_trio = record {

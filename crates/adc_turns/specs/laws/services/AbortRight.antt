@@ -1,30 +1,30 @@
 -- A round that is outranked is aborted, or was finished before: the step that reads the abort register, and all that its window makes
 -- after it.
--- From words.EndedRound, service_outline: Words, services.ClaimEndRight.
+-- From adc_groups: bookkeeping.FrameRule, adc_groups: words.OrderBetweenWrites and 17 more.
 -- Used by services.YieldSteps.
 use Rattle.std.proofs.Common.{◌≡◌, ◌≢◌, ◌+◌, ◌-◌, ◌*◌, ◌/◌, ◌%◌, ◌<◌, ◌≤◌, ◌&&◌, ◌||◌, ◌==◌, [], ◌∷◌, ◌∙◌, ◌⊎◌}
 use Rattle.std.proofs.Common.{if◌then◌else◌}
 use Rattle.adc_turns.specs.Terms
-use Terms.{Abort, aborted, aborts, aborts_by, AdcState, AdcTable, after_list, again-ends, again_part, again_start}
-use Terms.{Agrees, all_changed, AllOf, AllRight, AllSpare, ap, arith, Backed, BanksAgree, bit_of, Bool, Call, changed}
-use Terms.{Chip, chip_after, chosen_of, claim_right, claim_stays, claim_words, claims_on, Closes, CommitsAfter}
-use Terms.{CommitsTo, Continuation, Converter, Converters, Counts, deed_move, deeds_listed, differs_none, DiffersIn}
-use Terms.{ended-over, Entry, entry, eq_is, eq_other, eq_self, false, first_held, FitsAdc, FrameHistory, Fresh}
-use Terms.{group_at, group_of, group_same, group_word, GroupAgrees, GroupState, has_bit, has_turn, HasWords, hold_in}
-use Terms.{hold_then, HoldsOrder, inl, inputs_left, inputs_of, inr, is_finished, is_handler, is_on, is_owed}
-use Terms.{is_round_of, is_some, is_word, IsBlock, IsOrder, IsOver, IsRound, IsSoundGroup, IsSoundRequest, KeepsRight}
-use Terms.{kept_by, kept_in, kept_of, kept_of_round, kept_round, kept_word, length, length-set, length_after, List}
-use Terms.{listener, listener_as, low_last, lows_set, making_owed, min, mod-eq_of_lt, newest, None, none_past, not}
-use Terms.{now_here, number_at, number_by, off_unit, on_there, Option, order_first, order_last, order_of, order_waiting}
-use Terms.{order_words, Origin, other_at, other_last, owed_of, owed_own, own_named, own_of, phase_of, place_stays}
-use Terms.{Promised, promised_same, put_of, refl, Request, Reservations, result-over, result_of, ResultBuffer, Round}
-use Terms.{round_at, round_other, round_same, round_turn, RoundAgrees, rounds_of, running_of, running_words}
-use Terms.{same_or_other, samples_of, Set, settles_list, settles_part, slice_get, Some, some_hold, sound_past}
-use Terms.{SoundGroup, stands-agree, stands_last, start_from, starts_on, STATE, Stays, Store, subst, suspends, sym}
-use Terms.{take_of, TriggersAgree, trio_group, trio_of, true, turn_round, turn_same, unclaimed, unit_is, unit_last}
-use Terms.{unit_of, unit_other, unit_set, UnitAgrees, units_set, waiting, waiting_again, waits_other, waits_turn}
-use Terms.{whole_first, will_yield, WindowWrite, with_holds, with_waiting, within, word_number, word_of, word_there}
-use Terms.{World, ℕ}
+use Terms.{Abort, aborted, aborted_list, aborts, aborts_by, AdcState, AdcTable, after_list, again-ends, again_part}
+use Terms.{again_start, Agrees, all_changed, AllOf, AllRight, AllSpare, ap, arith, Backed, BanksAgree, bit_of, Bool}
+use Terms.{Call, cases, changed, Chip, chip_after, chosen_of, claim_right, claim_stays, claim_words, claims_on}
+use Terms.{Closes, CommitsAfter, CommitsTo, Continuation, Converter, Converters, Counts, deed_move, deeds_listed}
+use Terms.{differs_none, DiffersIn, ended-over, Entry, entry, eq_is, eq_other, eq_self, false, first_held, FitsAdc}
+use Terms.{FrameHistory, Fresh, group_at, group_of, group_same, group_word, GroupAgrees, GroupState, has_bit}
+use Terms.{has_turn, HasWords, hold_in, hold_then, HoldsOrder, inl, inputs_left, inputs_of, inr, is_finished}
+use Terms.{is_handler, is_on, is_owed, is_round_of, is_some, is_word, IsBlock, IsOrder, IsOver, IsRound, IsSoundGroup}
+use Terms.{IsSoundRequest, KeepsRight, kept_by, kept_in, kept_of, kept_of_round, kept_round, kept_word, length}
+use Terms.{length_after, List, listener, listener_as, low_last, lows_set, making_owed, min, mod-eq_of_lt, newest}
+use Terms.{None, none_past, not, now_here, number_at, number_by, off_unit, on_there, Option, order_first, order_last}
+use Terms.{order_of, order_waiting, order_words, Origin, other_at, other_last, owed_of, owed_own, own_named, own_of}
+use Terms.{phase_of, place_stays, Promised, promised_same, put_of, refl, Request, Reservations, result-over}
+use Terms.{result_of, ResultBuffer, Round, round_at, round_other, round_same, round_turn, RoundAgrees, rounds_of}
+use Terms.{running_of, running_words, same_or_other, samples_of, Set, settles_list, settles_part, slice_get, Some}
+use Terms.{some_hold, sound_past, SoundGroup, stands-agree, stands_last, start_from, starts_on, STATE, Stays, Store}
+use Terms.{subst, suspends, sym, take_of, TriggersAgree, trio_group, trio_of, true, turn_round, turn_same, unclaimed}
+use Terms.{unit_block, unit_is, unit_last, unit_of, unit_other, unit_set, UnitAgrees, units_set, waiting}
+use Terms.{waiting_again, waiting_sound, waits_other, waits_turn, whole_first, will_yield, WindowWrite, with_holds}
+use Terms.{with_waiting, within, word_number, word_of, word_there, World, ℕ}
 use Rattle.adc_turns.specs.laws.words.EndedRound.{ended_now, kept_count, kept_front, kept_behind, kept_none, kept_less}
 use Rattle.adc_turns.specs.laws.services.ClaimEndRight.{claim_none}
 use Rattle.chip_converter.specs.Converters as chips
@@ -109,7 +109,9 @@ module _ (d : AdcTable) (fits : FitsAdc d) (below : Reservations) (chip : Chip) 
   kept_now = ap (λ (z : GroupState). kept_by z.waiting (kept_of_round x.group (round_at t (unit_of (group_of d x.group))))) is_group
 
   numbers : (k : ℕ) → has_turn s k ≡ true → is_on u (group_of d k) ≡ true → number_at d t k ≡ number_at d s k
-  numbers k turned unit = by (same_or_other k x.group)
+  numbers k turned unit = cases (same_or_other k x.group)
+      (λ i. subst (λ n. number_at d t n ≡ number_at d s n) (sym i) own)
+      (λ ne. ap (λ (z : GroupState). number_by z.waiting (round_at t (unit_of (group_of d k)))) (is_other k ne) ∙ not_waiting ne (group_at s k).waiting refl)
     where
       own : number_at d t x.group ≡ number_at d s x.group
       own =
@@ -120,34 +122,13 @@ module _ (d : AdcTable) (fits : FitsAdc d) (below : Reservations) (chip : Chip) 
       not_waiting ne (Some q) f = refl
       not_waiting ne None f = absurd (ne (sym (eq_is x.group k (sym (ap (λ q. is_round_of k q) is) ∙ turn_round d fits w s h.sound u k turned f unit))))
 
-      by : (k ≡ x.group) ⊎ (k ≢ x.group) → number_at d t k ≡ number_at d s k
-      by (inl i) = subst (λ n. number_at d t n ≡ number_at d s n) (sym i) own
-      by (inr ne) = ap (λ (z : GroupState). number_by z.waiting (round_at t (unit_of (group_of d k)))) (is_other k ne) ∙ not_waiting ne (group_at s k).waiting refl
-
-  was_sound : SoundGroup (group_of d g) (has_turn s g) (group_at s g)
-  was_sound = h.sound.groups x.group
-
   sound : IsSoundGroup d t g
-  sound = subst (λ z. SoundGroup (group_of d x.group) (has_turn t x.group) z) (sym is_group) (subst (λ q. SoundGroup (group_of d x.group) q waits) (turn_was ∙ sym turn) (record {
-    configured = λ f. absurd (let i : is_some (group_of d x.group) ≡ false = ap (λ k. is_some k) f in let k = there in cc);
-    chosen = was_sound.chosen;
-    turn = was_sound.turn;
-    trigger = was_sound.trigger;
-    input = was_sound.input;
-    going = was_sound.going;
-    rounds = was_sound.rounds;
-    stream = was_sound.stream;
-    linear = was_sound.linear;
-    lasts = was_sound.lasts;
-    whole = was_sound.whole;
-  }))
+  sound = subst (λ z. SoundGroup (group_of d x.group) (has_turn t x.group) z) (sym is_group) (subst (λ q. SoundGroup (group_of d x.group) q waits) (turn_was ∙ sym turn) (waiting_sound (group_of d x.group) (has_turn s x.group) (group_at s x.group) (Some request) there (h.sound.groups x.group)))
 
   listens_as : (i : ℕ) → listener d t i ≡ listener d s i
-  listens_as = listener_as d s t (λ k. by k (same_or_other k x.group))
-    where
-      by : (k : ℕ) → (k ≡ x.group) ⊎ (k ≢ x.group) → (group_at t k).trigger ≡ (group_at s k).trigger
-      by k (inl i) = subst (λ n. (group_at t n).trigger ≡ (group_at s n).trigger) (sym i) (ap (λ (z : GroupState). z.trigger) is_group)
-      by k (inr ne) = ap (λ (z : GroupState). z.trigger) (is_other k ne)
+  listens_as = listener_as d s t (λ k. cases (same_or_other k x.group)
+      (λ i. subst (λ n. (group_at t n).trigger ≡ (group_at s n).trigger) (sym i) (ap (λ (z : GroupState). z.trigger) is_group))
+      (λ ne. ap (λ (z : GroupState). z.trigger) (is_other k ne)))
 
   -- ---- what was there before
 
@@ -208,16 +189,7 @@ module _ (d : AdcTable) (fits : FitsAdc d) (below : Reservations) (chip : Chip) 
   result_as i = ap (λ z. chips.result chip.converters.levels chip.converters.time z i) is_unit ∙ result-over chip.converters.levels chip.converters.time unit_a i not_idle h.block.past
 
   block_all : IsBlock acted.converters w
-  block_all = record {
-    all = length-set chip.converters.units u (chips.aborted chip.converters.time unit_a) ∙ h.block.all;
-    lists = λ v less. by v less (same_or_other v u);
-    past = h.block.past;
-    samples = h.block.samples;
-  }
-    where
-      by : (v : ℕ) → v < 2 → (v ≡ u) ⊎ (v ≢ u) → length (chips.unit_at acted.converters v).list ≡ 8
-      by v less (inl i) = subst (λ n. length (chips.unit_at acted.converters n).list ≡ 8) (sym i) (ap (λ (z : Converter). length z.list) is_unit ∙ h.block.lists u few)
-      by v less (inr ne) = ap (λ (z : Converter). length z.list) (other_units v ne) ∙ h.block.lists v less
+  block_all = unit_block chip.converters w u (chips.aborted chip.converters.time unit_a) h.block (λ less. ap length (aborted_list unit_a chip.converters.time) ∙ h.block.lists u less)
 
   -- ---- by whether the group suspends
 

@@ -1,20 +1,20 @@
 -- A claim on a unit ends with the frame that has it: nothing waits for the unit any more, or what waits starts.
--- From service_outline: Words.
--- Used by adc_driver: services.MakeSteps, services.StartLastStep, services.AbortRight, services.KeepRight and 1 more.
+-- From adc_groups: services.BodySteps, adc_groups: words.WordsOfModule, service_outline: Words and 6 more.
+-- Used by adc_driver: services.MakeSteps, services.AbortRight, services.KeepRight, services.StartLastStep and 1 more.
 use Rattle.std.proofs.Common.{◌≡◌, ◌≢◌, ◌+◌, ◌*◌, ◌/◌, ◌%◌, ◌<◌, ◌≤◌, ◌&&◌, ◌||◌, ◌==◌, [], ◌∷◌, ◌∙◌, ◌⊎◌}
 use Rattle.std.proofs.Common.{if◌then◌else◌}
 use Rattle.adc_turns.specs.Terms
 use Terms.{adc_bodies, adc_machine, AdcBody, AdcGround, AdcState, AdcTable, Agrees, AllRight, and_second, Answer, ap}
-use Terms.{arith, Bank, bank_number, bank_word, body_ends, body_work, Bool, Call, Chip, chip_after, claim_fits}
+use Terms.{arith, Bank, bank_number, bank_word, body_ends, body_work, Bool, Call, cases, Chip, chip_after, claim_fits}
 use Terms.{claim_right, claim_words, Claims, claims_on, Clears, Copies, done, drop_starts, ended_at, Entered, eq_is}
 use Terms.{eq_isnt, eq_other, eq_self, false, Fills, FitsAdc, FrameHistory, fresh_history, Full, group_of, group_word}
 use Terms.{GroupAgrees, HeldRight, hold_in, holds-agree, inl, inputs_of, inr, is_done, is_some, Is_this_frame, Keeps}
 use Terms.{kept_word, length, listed_agree, MaySeek, MayStop, missed_after, nat_le, nat_lt, nat_tests, next_group}
 use Terms.{no_answer, None, not, on_there, Option, or_parts, order_of, Origin, Quits, Reads, ready, refl, Reservation}
-use Terms.{Reservations, ReservedBy, result_word, ResultBuffer, RightOr, round_at, rounds_of, same_or_other, some_hold}
-use Terms.{stands-agree, stands-move, start_from, Starts, starts, starts_by, STATE, Store, stored_other, stored_same}
-use Terms.{subst, suc, sym, trio_of, true, unit_of, UnitAgrees, value_of, Whole, with_holds, word_number, word_of}
-use Terms.{word_there, World, ℕ}
+use Terms.{Reservations, ReservedBy, result_word, ResultBuffer, RightOr, round_at, rounds_of, same_or_other}
+use Terms.{some_hold, stands-agree, stands-move, start_from, Starts, starts, starts_by, STATE, Store, stored_other}
+use Terms.{stored_same, subst, suc, sym, trio_of, true, unit_of, UnitAgrees, value_of, Whole, with_holds, word_number}
+use Terms.{word_of, word_there, World, ℕ}
 use Rattle.word_shapes.specs.TripleBuffer.{own_of}
 use Rattle.word_shapes.specs.PriorityQueue as ranked
 use Rattle.adc_machine.specs.declared.call.ResultBuffer.TheVariants as buffers
@@ -161,11 +161,9 @@ module _ (d : AdcTable) (fits : FitsAdc d) (u : ℕ) (few : u < 2) (chip : Chip)
         high buffers.One e = omega (arith, e, few)
 
     claim_group : (k : ℕ) → word_of b (word_number d (words.Claim (unit_of (group_of d k)))) ≢ 2 + k → word_of chip (word_number d (words.Claim (unit_of (group_of d k)))) ≢ 2 + k
-    claim_group k ne e = by (same_or_other (unit_of (group_of d k)) u)
-      where
-        by : (unit_of (group_of d k) ≡ u) ⊎ (unit_of (group_of d k) ≢ u) → ⊥
-        by (inl i) = let one : 1 ≡ 2 + k = sym was_one ∙ (ap (λ v. word_of chip (word_number d (words.Claim v))) (sym i) ∙ e) in omega (arith, one)
-        by (inr nu) = ne (claim_same (unit_of (group_of d k)) nu ∙ e)
+    claim_group k ne e = cases (same_or_other (unit_of (group_of d k)) u)
+        (λ i. let one : 1 ≡ 2 + k = sym was_one ∙ (ap (λ v. word_of chip (word_number d (words.Claim v))) (sym i) ∙ e) in omega (arith, one))
+        (λ nu. ne (claim_same (unit_of (group_of d k)) nu ∙ e))
 
     group_same : (k : ℕ) → is_some (group_of d k) ≡ true → GroupAgrees d (word_of chip) s k → GroupAgrees d (word_of b) s k
     group_same k here q = record {

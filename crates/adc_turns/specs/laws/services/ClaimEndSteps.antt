@@ -1,6 +1,6 @@
 -- The windows in which a claim ends: the search of what waits first, and the look at the claim.
--- From services.KeepRight.
--- Used by adc_driver: services.SeekSteps, adc_driver: services.LookRight.
+-- From adc_groups: services.BodySteps, adc_groups: services.Decisions, adc_groups: services.LookRight and 3 more.
+-- Used by adc_driver: services.LookRight, adc_driver: services.SeekSteps.
 use Rattle.std.proofs.Common.{◌≡◌, [], ◌∷◌, ◌∙◌, if◌then◌else◌}
 use Rattle.adc_turns.specs.Terms
 use Terms.{adc_bodies, adc_machine, AdcBody, AdcGround, AdcState, AdcTable, Agrees, and_parts, ap, arith, AssertedAt}

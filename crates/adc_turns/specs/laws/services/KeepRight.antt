@@ -1,5 +1,5 @@
 -- The values of an aborted round are kept, unless its group was stopped meanwhile, and the claim of the frame that kept them ends.
--- From services.ClaimEndRight.
+-- From adc_groups: bookkeeping.FrameRule, adc_groups: words.StructureParts, adc_groups: words.WordsOfModule and 6 more.
 -- Used by services.ClaimEndSteps.
 use Rattle.std.proofs.Common.{◌≡◌, ◌≢◌, ◌+◌, ◌-◌, ◌*◌, ◌/◌, ◌%◌, ◌<◌, ◌≤◌, ◌&&◌, ◌||◌, ◌==◌, [], ◌∷◌, ◌++◌, ◌∙◌, ◌⊎◌}
 use Rattle.std.proofs.Common.{if◌then◌else◌}
@@ -7,13 +7,13 @@ use Rattle.adc_turns.specs.Terms
 use Terms.{AdcBody, AdcState, AdcTable, after_list, Agrees, all_changed, AllOf, AllSpare, and_second, ap, arith, Bool}
 use Terms.{Call, changed, Chip, claim_right, claim_stays, claim_words, claims_on, Closes, CommitsAfter, Continuation}
 use Terms.{Converters, Decided, DecidedRight, deed_move, deeds_listed, deeds_low, deeds_other, deeds_unit, eq_is}
-use Terms.{eq_isnt, eq_other, eq_self, false, FitsAdc, FrameHistory, Fresh, group_of, group_word, GroupAgrees, has_bit}
-use Terms.{has_turn, HasDone, HasWords, hold_in, holds-agree, inl, inputs_of, inr, is_on, is_some, is_word, IsBlock}
-use Terms.{keep, kept_in, kept_where, kept_word, length, List, Load, low_words, makes, making, making_owed, nat_tests}
-use Terms.{None, not, on_there, order_of, Origin, owed_of, owed_own, own_named, own_of, Place, place_stays, refl}
-use Terms.{Reservations, round_at, RoundAgrees, rounds_of, same_or_other, Set, set_at, settles_list, slice_get, Some}
-use Terms.{some_hold, stands-agree, stands_list, start_from, STATE, Stays, Store, subst, sym, TriggersAgree, trio_group}
-use Terms.{trio_of, true, unit_is, WindowWrite, with_holds, word_number, word_of, World, ℕ}
+use Terms.{eq_isnt, eq_other, eq_self, false, FitsAdc, FrameHistory, Fresh, group_of, group_word, GroupAgrees}
+use Terms.{has_bit, has_turn, HasDone, HasWords, hold_in, holds-agree, inl, inputs_of, inr, is_on, is_some, is_word}
+use Terms.{IsBlock, keep, kept_in, kept_where, kept_word, length, List, Load, low_words, makes, making, making_owed}
+use Terms.{nat_tests, None, not, on_there, order_of, Origin, owed_of, owed_own, own_named, own_of, Place, place_stays}
+use Terms.{refl, Reservations, round_at, RoundAgrees, rounds_of, same_or_other, Set, set_at, settles_list, slice_get}
+use Terms.{Some, some_hold, stands-agree, stands_list, start_from, STATE, Stays, Store, subst, sym, TriggersAgree}
+use Terms.{trio_group, trio_of, true, unit_is, whether_as, WindowWrite, with_holds, word_number, word_of, World, ℕ}
 use Rattle.adc_turns.specs.laws.services.ClaimEndRight.{claim_none}
 use Rattle.chip_converter.specs.Converters as chips
 use Rattle.adc_groups.specs.declared.making.Continuation.TheVariants as thens
@@ -71,18 +71,14 @@ module _ (d : AdcTable) (fits : FitsAdc d) (f r : AdcBody → ℕ) (below : Rese
     whole = h.outside.all.words
 
     block : b.converters ≡ chip.converters
-    block = by q
-      where
-        by : (z : Bool) → (after_list (deed_move d) chip (kept_where z (record { unit = u; group = g; kept = n }) ++ Set (words.Claim u) 0 ∷ [])).converters ≡ chip.converters
-        by true = refl
-        by false = refl
+    block = whether_as q (λ z. (after_list (deed_move d) chip (kept_where z (record { unit = u; group = g; kept = n }) ++ Set (words.Claim u) 0 ∷ [])).converters ≡ chip.converters)
+        (λ _. refl)
+        (λ _. refl)
 
     control : b.control ≡ chip.control
-    control = by q
-      where
-        by : (z : Bool) → (after_list (deed_move d) chip (kept_where z (record { unit = u; group = g; kept = n }) ++ Set (words.Claim u) 0 ∷ [])).control ≡ chip.control
-        by true = refl
-        by false = refl
+    control = whether_as q (λ z. (after_list (deed_move d) chip (kept_where z (record { unit = u; group = g; kept = n }) ++ Set (words.Claim u) 0 ∷ [])).control ≡ chip.control)
+        (λ _. refl)
+        (λ _. refl)
 
     abbrev kept_set : Bool → (j x : ℕ) → ℕ
     kept_set true j x = set_at 6 n j x
@@ -251,8 +247,6 @@ module _ (d : AdcTable) (fits : FitsAdc d) (f r : AdcBody → ℕ) (below : Rese
     Decides x = DecidedRight d f r below chip w s o (Load k) false v y p m K x
 
     pub keep_right : Decides (keep (record { unit = u; group = g; kept = n }) claimed)
-    keep_right = by (claimed == 2 + g) refl
-      where
-        by : (q : Bool) → (claimed == 2 + g) ≡ q → Decides (makes (making None (kept_where q (record { unit = u; group = g; kept = n }) ++ Set (words.Claim u) 0 ∷ []) begins))
-        by true e = ((comes true e, (refl, (has, few))), refl)
-        by false e = ((comes false e, (refl, (has, few))), refl)
+    keep_right = whether_as (claimed == 2 + g) (λ q. Decides (makes (making None (kept_where q (record { unit = u; group = g; kept = n }) ++ Set (words.Claim u) 0 ∷ []) begins)))
+        (λ e. ((comes true e, (refl, (has, few))), refl))
+        (λ e. ((comes false e, (refl, (has, few))), refl))

@@ -1,20 +1,20 @@
 -- The last move of a start: the unit starts its round, and the frame is done. And a window that is to start a group, as a whole.
--- From services.StartRight, services.WriteBatchRight, words.BegunWords, services.ClaimEndRight.
--- Used by adc_driver: services.MakeRight, adc_driver: services.LookRight, adc_driver: bookkeeping.NoneWaitsMaking.
+-- From adc_groups: services.Decisions, services.StartRight, adc_groups: bookkeeping.TurnsOfUnit and 10 more.
+-- Used by adc_driver: bookkeeping.NoneWaitsMaking, adc_driver: services.LookRight, adc_driver: services.MakeRight.
 use Rattle.std.proofs.Common.{◌≡◌, ◌≢◌, ◌+◌, ◌-◌, ◌*◌, ◌<◌, ◌≤◌, ◌&&◌, ◌==◌, [], ◌∷◌, ◌∙◌, ◌⊎◌, if◌then◌else◌}
 use Rattle.adc_turns.specs.Terms
 use Terms.{acted, adc_bodies, adc_machine, AdcBody, AdcGround, AdcRepresents, AdcState, AdcTable, Agrees, ap, arith}
-use Terms.{AssertedAt, body_ends, body_work, Bool, Call, Called, Chip, chip_after, choice_next, claim_right, claims_on}
-use Terms.{conversion, convert, ConverterGo, DecidedRight, done, ended_at, ends_claim, Entered, Entry, eq_is, false}
-use Terms.{FitsAdc, foot_of, four_from, FrameHistory, group_at, group_of, Has_acted, Has_served, has_served, HasMade}
-use Terms.{hold_in, holds-below, HoldsOrder, inl, inputs_of, inr, InWindow, is_some, Is_this_frame, IsFirst, IsOrder}
-use Terms.{IsStart, IsStarting, kept_in, kept_request, length, List, list_any, lists_for, Load, Looks, looks_right}
-use Terms.{Makes, makes, MakesTo, may_end, missed_after, moves_ahead, named_converter, named_number, named_of, nat_lt}
-use Terms.{nat_tests, next-ends, next_group, next_start, no_answer, None, not, nothing_more, on_there, Option, order_of}
-use Terms.{Orders, Origin, Place, Prepares, ranks_of, refl, Request, Reservations, RightOr, same_or_other, slice_index}
-use Terms.{Some, some_hold, start_deeds, started, starting, starts_by, steps_so, subst, sym, tells_nothing, true}
-use Terms.{unclaimed, unit_is, unit_named, UnitAgrees, value_of, waiting, waits_turn, with_holds, within, word_number}
-use Terms.{word_of, World, Write, WriteBatch, ℕ}
+use Terms.{AssertedAt, body_ends, body_work, Bool, Call, Called, cases, Chip, chip_after, choice_next, claim_right}
+use Terms.{claims_on, conversion, convert, ConverterGo, DecidedRight, done, ended_at, ends_claim, Entered, Entry}
+use Terms.{eq_is, false, FitsAdc, foot_of, four_from, FrameHistory, group_at, group_of, Has_acted, Has_served}
+use Terms.{has_served, HasMade, hold_in, holds-below, HoldsOrder, inl, inputs_of, inr, InWindow, is_some}
+use Terms.{Is_this_frame, IsFirst, IsOrder, IsStart, IsStarting, kept_in, kept_request, length, List, list_any}
+use Terms.{lists_for, Load, Looks, looks_right, Makes, makes, MakesTo, may_end, missed_after, moves_ahead}
+use Terms.{named_converter, named_number, named_of, nat_lt, nat_tests, next-ends, next_group, next_start, no_answer}
+use Terms.{None, not, nothing_more, on_there, Option, order_of, Orders, Origin, Place, Prepares, ranks_of, refl}
+use Terms.{Request, Reservations, RightOr, same_or_other, slice_index, Some, some_hold, start_deeds, started}
+use Terms.{starting, starts_by, steps_so, subst, sym, tells_nothing, true, unclaimed, unit_is, unit_named, UnitAgrees}
+use Terms.{value_of, waiting, waits_turn, with_holds, within, word_number, word_of, World, Write, WriteBatch, ℕ}
 use Rattle.adc_machine.specs.Machine.{starts_on}
 use Rattle.adc_turns.specs.laws.{words.BegunWords.{started_agrees}, services.WriteBatchRight.{deed_work, last_takes}}
 use Rattle.adc_turns.specs.laws.{services.WriteBatchRight.{claim_among, len_start, go_at}}
@@ -150,13 +150,11 @@ module _ (d : AdcTable) (fits : FitsAdc d) (f r : AdcBody → ℕ) (below : Rese
               let same : moves_ahead left c ≡ j = (let n = ap (λ z. moves_ahead left z) i in omega (arith, n, lt, le, ne)) in
               subst (λ n. StepRight (body g e left c n)) same (go_step g e left c start h xs is_order holds (subst (λ n. HasMade d (foot_of chip) u g e left c n) (sym same) made))
 
-      middle : (j ≡ lists_for left) ⊎ (j ≢ lists_for left) → nat_lt j (lists_for left) ≡ false → StepRight (body g e left c j)
-      middle (inl k) i = subst (λ n. StepRight (body g e left c n)) (sym k) (running_step d fits f r below w s o p u few chip m y g e left c start h xs is_order holds (subst (λ n. HasMade d (foot_of chip) u g e left c n) k made))
-      middle (inr ne) i = last c refl (let ge : lists_for left ≤ j = grind (arith, nat_tests) in omega (arith, ge, ne))
-
       by : (q : Bool) → nat_lt j (lists_for left) ≡ q → StepRight (body g e left c j)
       by true i = list_step d fits f r below w s o p u few chip m y g e left c start h xs is_order holds j (grind (arith, nat_tests)) made
-      by false i = middle (same_or_other j (lists_for left)) i
+      by false i = cases (same_or_other j (lists_for left))
+          (λ k. subst (λ n. StepRight (body g e left c n)) (sym k) (running_step d fits f r below w s o p u few chip m y g e left c start h xs is_order holds (subst (λ n. HasMade d (foot_of chip) u g e left c n) k made)))
+          (λ ne. last c refl (let ge : lists_for left ≤ j = grind (arith, nat_tests) in omega (arith, ge, ne)))
 
   -- the step of a start, wherever it is
   pub starting_right : (k : WriteBatch) → IsStarting d below (foot_of chip) w s o p u k → AdcRepresents d (with_holds o p.acted (hold_in (windows.Convert u 0 (list_any ends_claim k.deeds))) below) (Some u) chip w s → StepRight (record { table = d; place = Makes k })

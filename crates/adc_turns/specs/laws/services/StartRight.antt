@@ -1,23 +1,23 @@
 -- A frame starts the group that waits first on a free unit, step by step: the order changes, then the unit's list registers and words,
 -- and at the last move the unit starts.
--- From services.WriteBatchRight, service_outline: Words, words.ListedInputs.
+-- From services.WriteBatchRight, adc_groups: services.Decisions, adc_groups: words.WordsOfModule and 9 more.
 -- Used by services.StartLastStep.
 use Rattle.std.proofs.Common.{◌≡◌, ◌≢◌, ◌+◌, ◌*◌, ◌<◌, ◌≤◌, ◌||◌, ◌==◌, [], ◌∷◌, ◌∙◌, ◌⊎◌, if◌then◌else◌}
 use Rattle.adc_turns.specs.Terms
 use Terms.{adc_bodies, adc_machine, adc_windows, AdcBody, AdcGround, AdcRepresents, AdcState, AdcTable, after, Answer}
-use Terms.{ap, arith, AssertedAt, body_ends, body_takes, body_work, Bool, Call, Chip, chip_after, choice, choosing_next}
-use Terms.{chosen, claim_words, claims_on, conversion, Converter, ConverterList, deed_move, drop, ended_at, ended_by}
-use Terms.{Ends, ends_claim, Entry, eq_self, false, few_inputs, FitsAdc, foot_of, four_from, FrameHistory, gap_at}
-use Terms.{get_or-map, get_or-set_other, get_or-set_same, group_of, HasMade, HasWords, hold_in, holds-agree, holds_at}
-use Terms.{HoldsOrder, inl, inputs_of, inr, InWindow, is_ahead, is_some, IsFirst, IsOrder, IsStart, IsStarting, length}
-use Terms.{length-set, List, list_any, list_deed, lists_for, Load, Makes, MakesTo, memories, Memory, missed_after}
-use Terms.{Move, moves_ahead, named_of, NamesOwn, nat_le, nat_lt, nat_tests, Next, next_gave, next_left, next_move}
-use Terms.{None, nothing_more, number_of, of_driver, on_there, Option, order_of, order_words, Orders, Origin}
-use Terms.{owed_of, own_of, place_at, PointAssertion, Prepares, ranks_of, refl, Reservations, RightOr}
-use Terms.{running_words, Set, slice_index, slice_index_or, slice_set, Some, some_hold, spot_or, spot_start}
-use Terms.{start_deeds, STATE, step, steps_so, Store, stored_other, stored_same, StructureOp, subst, suc, sym, true}
-use Terms.{unit_named, unit_set, unused, value-same, value_of, waiting, with_holds, word_number, word_of}
-use Terms.{word_there, words-after, World, Write, WriteBatch, zero, ℕ}
+use Terms.{ap, arith, AssertedAt, body_ends, body_takes, body_work, Bool, Call, cases, Chip, chip_after, choice}
+use Terms.{choosing_next, chosen, claim_words, claims_on, conversion, Converter, ConverterList, deed_move, drop}
+use Terms.{ended_at, ended_by, Ends, ends_claim, Entry, eq_self, false, few_inputs, FitsAdc, foot_of, four_from}
+use Terms.{FrameHistory, gap_at, get_or-map, get_or-set_other, get_or-set_same, group_of, HasMade, HasWords, hold_in}
+use Terms.{holds-agree, holds_at, HoldsOrder, inl, inputs_of, inr, InWindow, is_ahead, is_some, IsFirst, IsOrder}
+use Terms.{IsStart, IsStarting, length, length-set, List, list_any, list_deed, lists_for, Load, Makes, MakesTo}
+use Terms.{memories, Memory, missed_after, Move, moves_ahead, named_of, NamesOwn, nat_le, nat_lt, nat_tests, Next}
+use Terms.{next_gave, next_left, next_move, None, nothing_more, number_of, of_driver, on_there, Option, order_of}
+use Terms.{order_words, Orders, Origin, owed_of, own_of, place_at, PointAssertion, Prepares, ranks_of, refl}
+use Terms.{Reservations, RightOr, running_words, Set, slice_index, slice_index_or, slice_set, Some, some_hold}
+use Terms.{spot_or, spot_start, start_deeds, STATE, step, steps_so, Store, stored_other, stored_same, StructureOp}
+use Terms.{subst, suc, sym, true, unit_named, unit_set, unused, value-same, value_of, waiting, with_holds}
+use Terms.{word_number, word_of, word_there, words-after, World, Write, WriteBatch, zero, ℕ}
 use Rattle.adc_turns.specs.laws.words.ListedInputs.{list_agrees}
 use Rattle.adc_turns.specs.laws.services.WriteBatchRight.{order_work, deed_work, order_takes, deed_takes, claim_among}
 use Rattle.adc_turns.specs.laws.services.WriteBatchRight.{len_start, list_at, running_at, claim_at}
@@ -240,16 +240,12 @@ module _ (d : AdcTable) (fits : FitsAdc d) (f r : AdcBody → ℕ) (below : Rese
           now = record {
             lists = λ i le less. ap (λ zs. slice_index zs i) is_list ∙ by i le less (same_or_other i j);
             running = λ le. absurd (omega (arith, le, lt));
-            claim = λ i. made.claim (sooner i);
+            claim = λ i. made.claim (cases i (λ i. inl i) (λ i. absurd (omega (arith, i, lt))));
           }
             where
               by : (i : ℕ) → i < j + 1 → i < lists_for left → (i ≡ j) ⊎ (i ≢ j) → slice_index (slice_set (slice_index_or (foot_of chip).lists u []) j (four_from (inputs_of (group_of d g)) (e + 4 * j))) i ≡ four_from (inputs_of (group_of d g)) (e + 4 * i)
               by i le less (inl same) = subst (λ n. slice_index (slice_set (slice_index_or (foot_of chip).lists u []) j (four_from (inputs_of (group_of d g)) (e + 4 * j))) n ≡ four_from (inputs_of (group_of d g)) (e + 4 * n)) (sym same) (get_or-set_same (slice_index_or (foot_of chip).lists u []) j (four_from (inputs_of (group_of d g)) (e + 4 * j)) 0 (let n = eight in let l = few_left in omega (arith, n, l, lt)))
               by i le less (inr ne) = get_or-set_other (slice_index_or (foot_of chip).lists u []) j i (four_from (inputs_of (group_of d g)) (e + 4 * j)) 0 ne ∙ made.lists i (omega (arith, le, ne)) less
-
-              sooner : (c ≡ false) ⊎ (lists_for left + 1 < j + 1) → (c ≡ false) ⊎ (lists_for left + 1 < j)
-              sooner (inl i) = inl i
-              sooner (inr i) = absurd (omega (arith, i, lt))
 
       -- a word of the unit is stored
       order_left : (k v : ℕ) → k < STATE + 10 + 8 * u → HoldsOrder (order_of u) (word_of (chip_after chip (Store k v) y)) (waiting g false xs)
@@ -273,12 +269,10 @@ module _ (d : AdcTable) (fits : FitsAdc d) (f r : AdcBody → ℕ) (below : Rese
           now = record {
             lists = λ i le less. made.lists i less less;
             running = λ le. stored_same chip (word_number d (words.Running u)) (1 + g) y (word_there d fits (word_number d (words.Running u)) (running_words d u few)) whole;
-            claim = λ i. stored_other chip (word_number d (words.Running u)) (1 + g) y (word_number d (words.Claim u)) (λ n. omega (arith, n)) ∙ made.claim (sooner i);
+            claim = λ i. stored_other chip (word_number d (words.Running u)) (1 + g) y (word_number d (words.Claim u)) (λ n. omega (arith, n)) ∙ made.claim (cases i
+                (λ i. inl i)
+                (λ i. absurd (omega (arith, i))));
           }
-            where
-              sooner : (c ≡ false) ⊎ (lists_for left + 1 < lists_for left + 1) → (c ≡ false) ⊎ (lists_for left + 1 < lists_for left)
-              sooner (inl i) = inl i
-              sooner (inr i) = absurd (omega (arith, i))
 
   -- the claim ends with the start
   module _ (chip : Chip) (m : ℕ → Bool) (y : ℕ) (g e left : ℕ) (start : IsStart d below w s o p u g e left true) (h : AdcRepresents d (held true) (Some u) chip w s) (xs : List Entry) (is_order : IsOrder d s u xs) (holds : HoldsOrder (order_of u) (word_of chip) (waiting g false xs)) where

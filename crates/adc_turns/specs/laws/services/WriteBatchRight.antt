@@ -1,4 +1,5 @@
 -- The moves of a window whose event comes after some of them, one after the other.
+-- From adc_groups: services.WriteBatchSteps, adc_groups: services.Decisions, adc_groups: services.BodySteps.
 -- Used by services.StartRight, adc_driver: bookkeeping.MayMove, services.StartLastStep and 2 more.
 use Rattle.std.proofs.Common.{◌≡◌, ◌+◌, ◌<◌, ◌&&◌, ◌||◌, ◌==◌, [], ◌∷◌, ◌++◌, ◌∙◌, if◌then◌else◌}
 use Rattle.adc_turns.specs.Terms

@@ -1,7 +1,7 @@
 -- The windows in which a unit's round yields: how many values it has kept before is looked up, and then it is aborted, unless it is
 -- finished.
--- From adc_groups: services.Decisions, services.AbortRight, words.EndedRound.
--- Used by adc_driver: services.MakeSteps, adc_driver: services.LookRight.
+-- From adc_groups: bookkeeping.TurnsOfUnit, adc_groups: services.BodySteps, adc_groups: services.Decisions and 7 more.
+-- Used by adc_driver: services.LookRight, adc_driver: services.MakeSteps.
 use Rattle.std.proofs.Common.{◌≡◌, ◌+◌, ◌<◌, ◌≤◌, ◌&&◌, ◌==◌, [], ◌∷◌, ◌∙◌, if◌then◌else◌}
 use Rattle.adc_turns.specs.Terms
 use Terms.{abort-not_running, aborted, aborted_by, aborted_in, aborting, Aborts, aborts, aborts_by, aborts_on, acted}

@@ -1,25 +1,26 @@
 -- A unit starts the round of the group that waits first, after its words and list registers took what the round has: all agrees again.
--- From words.ListedInputs, services.ClaimEndRight.
+-- From adc_groups: bookkeeping.FrameRule, adc_groups: bookkeeping.TurnsOfUnit and 14 more.
 -- Used by adc_driver: bookkeeping.NoneWaitsMaking, services.StartLastStep.
 use Rattle.std.proofs.Common.{◌≡◌, ◌≢◌, ◌+◌, ◌-◌, ◌*◌, ◌/◌, ◌%◌, ◌<◌, ◌≤◌, ◌&&◌, ◌||◌, ◌==◌, [], ◌∷◌, ◌∙◌, ◌⊎◌}
 use Rattle.std.proofs.Common.{if◌then◌else◌}
 use Rattle.adc_turns.specs.Terms
 use Terms.{aborts, aborts_by, AdcState, AdcTable, Agrees, all_changed, AllRight, AllSpare, any_off, ap, arith, Backed}
-use Terms.{BanksAgree, begun, bit_of, Bool, Call, changed, Chip, chip_after, chosen_of, claim_right, claim_stays}
-use Terms.{claims_on, cond, Converter, ConverterGo, Entry, eq_is, eq_other, eq_self, false, few_inputs, first_held}
-use Terms.{FitsAdc, four_from, FrameHistory, Fresh, group_at, group_of, group_same, group_word, GroupAgrees, GroupState}
-use Terms.{has_turn, HasUnit, HasWords, hold_in, HoldsOrder, inl, inputs_of, inr, is_ahead, is_finished, is_handler}
-use Terms.{is_on, is_outranked, is_owed, is_round_of, is_some, IsBefore, IsBlock, IsOrder, IsOver, IsRound, IsSound}
-use Terms.{IsSoundGroup, IsSoundRequest, kept_by, kept_in, kept_of_round, kept_request, kept_word, length, length-drop}
-use Terms.{length-set, List, listener, listener_as, min, nat_lt, nat_tests, newest, next_group, next_is, None}
-use Terms.{none_past, not, now_here, number_at, number_by, off_unit, on_there, Option, order_of, order_waiting, Origin}
-use Terms.{other_at, phase_of, place_stays, Promised, promised_same, put_of, rank_of, refl, Request, Reservations}
-use Terms.{ResultBuffer, Round, round_at, round_other, round_same, round_turn, RoundAgrees, rounds_of, running_of}
-use Terms.{same_or_other, samples_of, slice_get, slice_index, Some, some_hold, sound_past, SoundGroup, stands-agree}
-use Terms.{stands-move, StandsIn, start_from, started, starts, starts_by, starts_on, STATE, Stays, subst, sym, take_of}
-use Terms.{trio_group, trio_of, true, turn_round, turn_same, unclaimed, unit_at-begun, unit_is, unit_of, unit_other}
-use Terms.{waiting, waits_for, waits_other, waits_turn, will_yield, with_holds, with_waiting, within, word_number}
-use Terms.{word_of, World, Write, yields_below, ℕ}
+use Terms.{BanksAgree, begun, bit_of, Bool, Call, cases, changed, Chip, chip_after, chosen_of, claim_right}
+use Terms.{claim_stays, claims_on, cond, Converter, ConverterGo, Entry, eq_is, eq_other, eq_self, false, few_inputs}
+use Terms.{first_held, FitsAdc, four_from, FrameHistory, Fresh, group_at, group_of, group_same, group_word}
+use Terms.{GroupAgrees, GroupState, has_turn, HasUnit, HasWords, hold_in, HoldsOrder, inl, inputs_of, inr, is_ahead}
+use Terms.{is_finished, is_handler, is_on, is_outranked, is_owed, is_round_of, is_some, IsBefore, IsBlock, IsOrder}
+use Terms.{IsOver, IsRound, IsSound, IsSoundGroup, IsSoundRequest, kept_by, kept_in, kept_of_round, kept_request}
+use Terms.{kept_word, length, length-drop, List, listener, listener_as, min, nat_lt, nat_tests, newest, next_group}
+use Terms.{next_is, None, none_past, not, now_here, number_at, number_by, off_unit, on_there, Option, order_of}
+use Terms.{order_waiting, Origin, other_at, phase_of, place_stays, Promised, promised_same, put_of, rank_of, refl}
+use Terms.{Request, Reservations, ResultBuffer, Round, round_at, round_other, round_same, round_turn, RoundAgrees}
+use Terms.{rounds_of, running_of, same_or_other, samples_of, slice_get, slice_index, Some, some_hold, sound_past}
+use Terms.{SoundGroup, stands-agree, stands-move, stands_words, start_from, started, starts, starts_by, starts_on}
+use Terms.{STATE, Stays, subst, sym, take_of, trio_group, trio_of, true, turn_round, turn_same, unclaimed}
+use Terms.{unit_at-begun, unit_block, unit_is, unit_of, unit_other, unit_set, waiting, waiting_sound, waits_for}
+use Terms.{waits_other, waits_turn, will_yield, with_holds, with_waiting, within, word_number, word_of, World, Write}
+use Terms.{yields_below, ℕ}
 use Rattle.adc_turns.specs.laws.{words.ListedInputs.{listed_inputs}, services.ClaimEndRight.{claim_none}}
 use Rattle.chip_converter.specs.Converters as chips
 use Rattle.chip_converter.specs.Rounds as rounds
@@ -69,11 +70,9 @@ module _ (d : AdcTable) (w : World) (s : AdcState) (u g : ℕ) (few : u < 2) (so
       first = (next_is d s u g (sym (ap (λ r. starts_by r (next_group d s u)) free) ∙ next)).first
 
       before_it : (k : ℕ) → waits_for d goes u k ≡ true → waits_for d s u k ≡ true
-      before_it k f = by (same_or_other k g)
-        where
-          by : (k ≡ g) ⊎ (k ≢ g) → waits_for d s u k ≡ true
-          by (inl i) = subst (λ n. waits_for d s u n ≡ true) (sym i) (ap (λ r. r && is_some (group_at s g).waiting) at ∙ ap (λ r. is_some r) asks)
-          by (inr ne) = sym (ap (λ (v : GroupState). is_on u (group_of d k) && is_some v.waiting) (goes_other k ne)) ∙ f
+      before_it k f = cases (same_or_other k g)
+          (λ i. subst (λ n. waits_for d s u n ≡ true) (sym i) (ap (λ r. r && is_some (group_at s g).waiting) at ∙ ap (λ r. is_some r) asks))
+          (λ ne. sym (ap (λ (v : GroupState). is_on u (group_of d k) && is_some v.waiting) (goes_other k ne)) ∙ f)
 
   pub none_starts : is_some (starts d (started w s u g) u) ≡ false
   none_starts = ap (λ r. is_some (starts_by r (next_group d goes u))) goes_round
@@ -158,7 +157,9 @@ module _ (d : AdcTable) (fits : FitsAdc d) (below : Reservations) (z : Chip) (ws
       ∙ (ap (λ v. kept_of_round g (round_at t v)) here ∙ (ap (λ r. kept_of_round g r) round_now ∙ ap (λ e. if e then q.kept else []) (eq_self g)))
 
   numbers : (k : ℕ) → has_turn s k ≡ true → is_on u (group_of d k) ≡ true → number_at d t k ≡ number_at d s k
-  numbers k turned unit = by (same_or_other k g)
+  numbers k turned unit = cases (same_or_other k g)
+      (λ i. subst (λ n. number_at d t n ≡ number_at d s n) (sym i) own)
+      (λ ne. ap (λ (v : GroupState). number_by v.waiting (round_at t (unit_of (group_of d k)))) (is_other k ne) ∙ not_waiting ne (group_at s k).waiting refl)
     where
       own : number_at d t g ≡ number_at d s g
       own =
@@ -169,34 +170,13 @@ module _ (d : AdcTable) (fits : FitsAdc d) (below : Reservations) (z : Chip) (ws
       not_waiting ne (Some r) f = refl
       not_waiting ne None f = absurd (let on_unit = turn_round d fits w s h.sound u k turned f unit in let off : is_round_of k (round_at s u) ≡ false = ap (λ r. is_round_of k r) free in cc)
 
-      by : (k ≡ g) ⊎ (k ≢ g) → number_at d t k ≡ number_at d s k
-      by (inl i) = subst (λ n. number_at d t n ≡ number_at d s n) (sym i) own
-      by (inr ne) = ap (λ (v : GroupState). number_by v.waiting (round_at t (unit_of (group_of d k)))) (is_other k ne) ∙ not_waiting ne (group_at s k).waiting refl
-
-  was_sound : SoundGroup (group_of d g) (has_turn s g) (group_at s g)
-  was_sound = h.sound.groups g
-
   sound : IsSoundGroup d t g
-  sound = subst (λ v. SoundGroup (group_of d g) (has_turn t g) v) (sym is_group) (subst (λ r. SoundGroup (group_of d g) r runs_now) (turn_was ∙ sym turn) (record {
-    configured = λ f. absurd (let i : is_some (group_of d g) ≡ false = ap (λ k. is_some k) f in let k = there in cc);
-    chosen = was_sound.chosen;
-    turn = was_sound.turn;
-    trigger = was_sound.trigger;
-    input = was_sound.input;
-    going = was_sound.going;
-    rounds = was_sound.rounds;
-    stream = was_sound.stream;
-    linear = was_sound.linear;
-    lasts = was_sound.lasts;
-    whole = was_sound.whole;
-  }))
+  sound = subst (λ v. SoundGroup (group_of d g) (has_turn t g) v) (sym is_group) (subst (λ r. SoundGroup (group_of d g) r runs_now) (turn_was ∙ sym turn) (waiting_sound (group_of d g) (has_turn s g) (group_at s g) None there (h.sound.groups g)))
 
   listens_as : (i : ℕ) → listener d t i ≡ listener d s i
-  listens_as = listener_as d s t (λ k. by k (same_or_other k g))
-    where
-      by : (k : ℕ) → (k ≡ g) ⊎ (k ≢ g) → (group_at t k).trigger ≡ (group_at s k).trigger
-      by k (inl i) = subst (λ n. (group_at t n).trigger ≡ (group_at s n).trigger) (sym i) (ap (λ (v : GroupState). v.trigger) is_group)
-      by k (inr ne) = ap (λ (v : GroupState). v.trigger) (is_other k ne)
+  listens_as = listener_as d s t (λ k. cases (same_or_other k g)
+      (λ i. subst (λ n. (group_at t n).trigger ≡ (group_at s n).trigger) (sym i) (ap (λ (v : GroupState). v.trigger) is_group))
+      (λ ne. ap (λ (v : GroupState). v.trigger) (is_other k ne)))
 
   -- ---- claims before
 
@@ -274,16 +254,10 @@ module _ (d : AdcTable) (fits : FitsAdc d) (below : Reservations) (z : Chip) (ws
       small_inputs (Some k) f i v e = (fits.groups g k f).inputs i v (ap (λ k. slice_get (inputs_of k) i) (sym f) ∙ e)
 
   block_all : IsBlock b.converters w
-  block_all = record {
-    all = length-set z.converters.units u (chips.gone z.converters.levels left z.converters.time unit_a) ∙ h.block.all;
-    lists = λ v less. by v less (same_or_other v u);
-    past = h.block.past;
-    samples = h.block.samples;
-  }
-    where
-      by : (v : ℕ) → v < 2 → (v ≡ u) ⊎ (v ≢ u) → length (chips.unit_at b.converters v).list ≡ 8
-      by v less (inl i) = subst (λ n. length (chips.unit_at b.converters n).list ≡ 8) (sym i) (ap (λ (v : Converter). length v.list) is_unit ∙ h.block.lists u few)
-      by v less (inr ne) = ap (λ (v : Converter). length v.list) (other_units v ne) ∙ h.block.lists v less
+  block_all =
+      let there : u < length z.converters.units = (let all = h.block.all in omega (arith, all, few)) in
+      let same = sym (unit_set z.converters.units u (chips.gone z.converters.levels left z.converters.time unit_a) there) ∙ is_unit in
+      unit_block z.converters w u (chips.gone z.converters.levels left z.converters.time unit_a) h.block (λ less. ap (λ (v : Converter). length v.list) same ∙ h.block.lists u less)
 
   -- ---- all of it
 
@@ -398,7 +372,7 @@ module _ (d : AdcTable) (fits : FitsAdc d) (below : Reservations) (z : Chip) (ws
     runs = λ r i same. (none_waits, subst (λ (v : Round). v.start ≤ w.now) (is_x r i) (omega arith), subst (λ (v : Round). IsSoundRequest d t g v.request) (is_x r i) sound_request);
     marks = λ i f. ap (λ r. is_some r) (listens_as i) ∙ h.sound.marks i f;
     hears = λ turned i. ap (λ (v : GroupState). v.trigger) is_group ∙ h.sound.hears g turn_was i;
-    outside = stands-move z w (Write (ConverterGo u) left) y stands;
+    outside = stands-move z w (Write (ConverterGo u) left) y (stands_words a z w refl whole h.outside);
     block = block_all;
     round = subst (λ r. RoundAgrees d b.converters w (chips.unit_at b.converters u) r) (sym round_now) is_round;
     triggers = record { gates = λ i less. h.triggers.gates i less ∙ ap (λ r. is_some r) (sym (listens_as i)); flags = h.triggers.flags; others = h.triggers.others };
@@ -414,17 +388,6 @@ module _ (d : AdcTable) (fits : FitsAdc d) (below : Reservations) (z : Chip) (ws
     where
       is_x : (r : Round) → round_at t u ≡ Some r → x ≡ r
       is_x r i = let same : Some x ≡ Some r = sym round_now ∙ i in let k : x ≡ r = cc in k
-
-      stands : StandsIn z w
-      stands = record {
-        all = record { words = whole; ram = h.outside.all.ram; outside = h.outside.all.outside; incoming = h.outside.all.incoming; timers = h.outside.all.timers; inputs = h.outside.all.inputs; sources = h.outside.all.sources };
-        together = record { pulses = h.outside.together.pulses; captures = h.outside.together.captures; converters = h.outside.together.converters; serials = h.outside.together.serials };
-        osc = h.outside.osc;
-        now = h.outside.now;
-        levels = h.outside.levels;
-        analog = h.outside.analog;
-        past = h.outside.past;
-      }
 
       owed_as : (v : Bool) (k : ℕ) (n : ResultBuffer) (j : ℕ) → some_hold (is_owed k n j) (with_holds o p.acted (hold_in (windows.Convert u g v)) below) ≡ some_hold (is_owed k n j) below
       owed_as true k n j = refl

@@ -1,11 +1,12 @@
 -- A round of the machine and the one on its unit: when it is finished, and what an abort keeps of it.
+-- From adc_groups: words.Cases.
 -- Used by services.AbortRight, services.YieldSteps.
 use Rattle.std.proofs.Common.{◌≡◌, ◌+◌, ◌-◌, ◌*◌, ◌/◌, ◌<◌, ◌≤◌, ◌&&◌, ◌==◌, [], ◌∷◌, ◌∙◌}
 use Rattle.adc_turns.specs.Terms
 use Terms.{ap, arith, Bool, cond, Converter, Converters, ended-open, ended_values, ends_at, false, inputs_left}
 use Terms.{inputs_of, is_finished, is_some, IsRound, kept_of, length, length-append, length-drop, levels_from, List}
 use Terms.{min, nat_tests, None, not, Option, refl, Round, Sample, sample_at, slice_get, slice_get_within, Some, suc}
-use Terms.{suspends, sym, take, true, values_so_far, World, zero, ℕ}
+use Terms.{suspends, sym, take, true, values_so_far, whether, World, zero, ℕ}
 use Rattle.chip_converter.specs.Rounds as rounds
 use Rattle.adc_machine.specs.declared.table.Group as configured
 
@@ -81,11 +82,9 @@ module _ (w : World) (k : Option configured.Group) (r : Round) where
 
   -- not all of it, where the round isn't finished
   pub kept_less : length r.request.kept < length (inputs_of k) → is_finished w k r ≡ false → length (kept_of w k r) < length (inputs_of k)
-  kept_less few unfinished = by (suspends k) refl
+  kept_less few unfinished = whether (suspends k)
+      (λ e. let count = kept_count e in let left = length-drop (length r.request.kept) (inputs_of k) in let lt = late in omega (arith, count, left, few, lt))
+      (λ e. let none : length (kept_of w k r) ≡ 0 = ap length (kept_none e) in omega (arith, none, few))
     where
       late : w.now < r.start + 4 * length (inputs_left k r)
       late = grind (arith, nat_tests)
-
-      by : (q : Bool) → suspends k ≡ q → length (kept_of w k r) < length (inputs_of k)
-      by true e = let count = kept_count e in let left = length-drop (length r.request.kept) (inputs_of k) in let lt = late in omega (arith, count, left, few, lt)
-      by false e = let none : length (kept_of w k r) ≡ 0 = ap length (kept_none e) in omega (arith, none, few)

@@ -1,11 +1,12 @@
 -- The list registers of a free unit take the inputs that are left of a round: all else agrees meanwhile, and the round has them.
+-- From adc_groups: hardware.StableUnderHardware, adc_groups: hardware.HardwareCommutes and 1 more.
 -- Used by services.StartRight, words.BegunWords.
 use Rattle.std.proofs.Common.{◌≡◌, ◌≢◌, ◌+◌, ◌*◌, ◌/◌, ◌%◌, ◌^◌, ◌<◌, [], ◌∷◌, ◌∙◌, ◌⊎◌}
 use Rattle.adc_turns.specs.Terms
-use Terms.{AdcState, AdcTable, Agrees, ap, arith, Chip, chip_after, Converter, ConverterList, drop, FitsAdc, four_from}
-use Terms.{get_dropped, Goes_on, inl, input_at, inr, length, length-set, List, Onward, onward_agrees, refl}
+use Terms.{AdcState, AdcTable, Agrees, ap, arith, Chip, chip_after, Converter, ConverterList, drop, FitsAdc}
+use Terms.{four_from, get_dropped, Goes_on, inl, input_at, inr, length, length-set, List, Onward, onward_agrees, refl}
 use Terms.{Reservations, same_or_other, slice_get, slice_get_within, slice_index, Some, stands-move, subst, suc, sym}
-use Terms.{unit_other, unit_set, UnitGoes, World, Write, zero, ℕ}
+use Terms.{unit_block, unit_other, unit_set, UnitGoes, World, Write, zero, ℕ}
 use Rattle.chip_converter.specs.Converters as chips
 use Rattle.chip_converter.specs.Rounds as rounds
 
@@ -66,10 +67,6 @@ module _ (d : AdcTable) (fits : FitsAdc d) (held : Reservations) (a : Chip) (w :
   other_listed : (k : ℕ) → k ≢ u → chips.unit_at b.converters k ≡ chips.unit_at a.converters k
   other_listed k ne = unit_other a.converters.units u k (chips.listed i v (chips.unit_at a.converters u)) ne
 
-  lists : (k : ℕ) → k < 2 → (k ≡ u) ⊎ (k ≢ u) → length (chips.unit_at b.converters k).list ≡ 8
-  lists k lt (inl e) = subst (λ n. length (chips.unit_at b.converters n).list ≡ 8) (sym e) (ap (λ (x : Converter). length x.list) unit_listed ∙ (length-set (chips.unit_at a.converters u).list i v ∙ h.block.lists u few))
-  lists k lt (inr ne) = ap (λ (x : Converter). length x.list) (other_listed k ne) ∙ h.block.lists k lt
-
   -- rounds and results don't depend on them
   goes : (k : ℕ) → (k ≡ u) ⊎ (k ≢ u) → UnitGoes d a b w w s k
   goes k (inl e) = subst (λ n. UnitGoes d a b w w s n) (sym e) (Goes_on (record {
@@ -89,7 +86,7 @@ module _ (d : AdcTable) (fits : FitsAdc d) (held : Reservations) (a : Chip) (w :
       on : Onward d a b w w s s.marks
       on = record {
         outside = stands-move a w (Write (ConverterList u i) v) 0 h.outside;
-        block = record { all = length-set a.converters.units u (chips.listed i v (chips.unit_at a.converters u)) ∙ h.block.all; lists = λ k lt. lists k lt (same_or_other k u); past = h.block.past; samples = h.block.samples };
+        block = unit_block a.converters w u (chips.listed i v (chips.unit_at a.converters u)) h.block (λ less. length-set (chips.unit_at a.converters u).list i v ∙ h.block.lists u less);
         words = λ k own. refl;
         lines = λ l e. refl;
         now = omega arith;

@@ -1,4 +1,4 @@
-use Rattle.mcal_drivers.proofs.Limits.{within_limits}
+use Rattle.shown_rows.proofs.Limits.{within_limits}
 use Rattle.audit_whole.proofs.Limits.{in_limits}
 use Rattle.audit_whole.proofs.laws.tables_are_within.Goals as goal
 

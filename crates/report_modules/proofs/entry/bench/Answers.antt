@@ -1,7 +1,7 @@
 use Rattle.std.proofs.Common.{◌∙◌, ap, subst, sym}
-use Rattle.audit_whole.specs.Whole.{InLimits}
 use Rattle.chip_model.specs.Chip.{power_on}
 use Rattle.report_audit.specs.Judged.{IsFresh}
+use Rattle.report_audit.specs.Whole.{InLimits}
 use Rattle.script_runner.specs.Scripts.{words_given}
 use Rattle.report_modules.proofs.FreshLaws.{is_fresh}
 use Rattle.report_modules.proofs.entry.bench.Goals as goal

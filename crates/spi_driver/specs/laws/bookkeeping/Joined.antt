@@ -1,6 +1,6 @@
 -- The serial driver with its start and its serving window, and with its frames that send a sequence and wait.
--- From services.UnitBegins, services.ServePart, services.StartPart, services.SendPart, words.WordsToState.
--- Used by frames/rt, mcal_drivers: Laws, proofs/frames/SpiDriverModule/source_use/Answers and 4 more.
+-- From services.UnitBegins, services.ServePart, services.StartPart, words.WordsToState and 5 more.
+-- Used by src/frames.rt, mcal_drivers: Laws, mcal_drivers: proofs/Hosting, mcal_drivers: proofs/Sources and 4 more.
 use Rattle.std.proofs.Common.{◌≡◌, ◌≤◌}
 use Rattle.spi_driver.specs.Terms
 use Terms.{all_wait, AllOutside, AreEndingServices, Asked, Call, Chip, ending_gave, FitsSpi, holds_in, IsLawful, List}

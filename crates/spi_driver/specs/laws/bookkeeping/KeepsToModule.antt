@@ -1,18 +1,18 @@
 -- The driver keeps to its module: registers, words and lines of others are nothing to it.
--- From bookkeeping.ModuleBounds, bookkeeping.Joined, bookkeeping.Lawful.
+-- From bookkeeping.ModuleBounds, spi_sequences: bookkeeping.RefinementRight, bookkeeping.Joined and 4 more.
 -- Used by mcal_drivers: proofs/Joining.
 use Rattle.std.proofs.Common.{◌≡◌, ◌+◌, ◌<◌, ◌≤◌, ◌^◌, ◌==◌, ◌&&◌, ◌||◌, [], ◌∷◌, ◌∙◌, if◌then◌else◌}
 use Rattle.spi_driver.specs.Terms
-use Terms.{All, and_first, and_parts, ap, arith, Asked, basis_right, Bool, Call, Called, Channel}
-use Terms.{Destination, EnableClear, EnableSet, EnablesOthers, EnablesWithin, entering, enumerate_from, false, FitsSpi}
-use Terms.{has_bit, has_lines, inl, inr, is_for_lines, is_line_of, is_number, is_of, is_own_word, is_polling, is_serial, is_some}
-use Terms.{is_used, is_users_place, is_users_word, is_within, is_word_of, IsSome, KeepsTo, length, length_by, List}
-use Terms.{list_all, list_any, Load, may_name, may_write, module_of_line, module_of_register, module_of_unit}
-use Terms.{module_of_word, Move, names_there, NamesOthers, NamesWithin, nat_lt, nat_tests, None, not, not-unless, only}
-use Terms.{Option, own_words, owns_written, polls, Read, refl, Reg, SerialAck, SerialData, SerialReceived}
-use Terms.{SerialSelect, SerialState, SerialWait, SerialWidth, services_driver, Some, Source, Spi, Spi0, Spi1, spi_machine}
-use Terms.{spi_owns, SpiState, SpiTable, start_of, Starts, Store, subst, suc, sym, true, uses_by, World, Write, WritesOthers}
-use Terms.{WritesWithin, ℕ}
+use Terms.{All, and_first, and_parts, ap, arith, Asked, basis_right, Bool, Call, Called, Channel, Destination}
+use Terms.{EnableClear, EnableSet, EnablesOthers, EnablesWithin, entering, enumerate_from, false, FitsSpi, has_bit}
+use Terms.{has_lines, inl, inr, is_for_lines, is_line_of, is_number, is_of, is_own_word, is_polling, is_serial}
+use Terms.{is_some, is_used, is_users_place, is_users_word, is_within, is_word_of, IsSome, KeepsTo, length, length_by}
+use Terms.{List, list_all, list_any, Load, may_name, may_write, module_of_line, module_of_register, module_of_unit}
+use Terms.{module_of_word, Move, names_there, NamesOthers, NamesWithin, nat_lt, nat_tests, None, not, not-unless}
+use Terms.{only, Option, own_words, owns_written, polls, Read, refl, Reg, SerialAck, SerialData, SerialReceived}
+use Terms.{SerialSelect, SerialState, SerialWait, SerialWidth, services_driver, Some, Source, Spi, Spi0, Spi1}
+use Terms.{spi_machine, spi_owns, SpiState, SpiTable, start_of, Starts, Store, subst, suc, sym, true, uses_by}
+use Terms.{whether, World, Write, WritesOthers, WritesWithin, ℕ}
 use Rattle.run_model.specs.Frame.{is_wait}
 use Rattle.spi_sequences.specs.laws.bookkeeping.RefinementRight.{FrameMoves, frame_moves}
 use Rattle.spi_driver.specs.laws.{bookkeeping.Joined.{joined}, bookkeeping.Lawful.{handled_by}}
@@ -109,11 +109,9 @@ module _ (d : SpiTable) (fits : FitsSpi d) where
       by false f false g h = absurd (cc)
 
   own_bit : (v l : ℕ) → is_for_lines v ≡ true → has_bit v l ≡ true → is_of (only Spi) (module_of_line l) ≡ true
-  own_bit v l e on = by (l == 26 || l == 27) refl
-    where
-      by : (q : Bool) → (l == 26 || l == 27) ≡ q → is_of (only Spi) (module_of_line l) ≡ true
-      by true i = own_line l i
-      by false i = let off = (basis_right d fits).enables (Called calls.Init) v l (ap (λ q. q && names_there (Write EnableSet v)) e) i in absurd (cc)
+  own_bit v l e on = whether (l == 26 || l == 27)
+      (λ i. own_line l i)
+      (λ i. let off = (basis_right d fits).enables (Called calls.Init) v l (ap (λ q. q && names_there (Write EnableSet v)) e) i in absurd (cc))
 
   enables : (v : ℕ) → is_for_lines v ≡ true → EnablesWithin (only Spi) v
   enables v e = record { fits = small v e; lines = λ l on. own_bit v l e on }

@@ -1,32 +1,32 @@
 -- The driver, as the outline and the runner see it. It is lawful where the frames are that start or serve units.
--- From bookkeeping.UnpolledFrames.
--- Used by services.UnitBegins, bookkeeping.KeepsToModule.
+-- From bookkeeping.UnpolledFrames, spi_sequences: services.AtOnce, spi_sequences: services.LookSteps and 25 more.
+-- Used by services.UnitBegins, bookkeeping.KeepsToModule, services.SendPart.
 use Rattle.std.proofs.Common.{◌≡◌, ◌+◌, ◌-◌, ◌%◌, ◌<◌, ◌≤◌, ◌==◌, ◌||◌, [], ◌∷◌, ◌∙◌, if◌then◌else◌}
 use Rattle.spi_driver.specs.Terms
-use Terms.{Act, act_of, acts_by, all_carried, all_of, AllLet, AllRight, and_parts, Answer, answer_refused, answers, ap}
-use Terms.{AreEnding, AreEndingServices, AreLong, arith, Asked, asks_no, asks_none, AssertedAt, AsyncTransmit}
+use Terms.{Act, act_of, acts_by, all_carried, all_of, AllLet, AllRight, and_parts, Answer, answer_refused, answers}
+use Terms.{ap, AreEnding, AreEndingServices, AreLong, arith, Asked, asks_no, asks_none, AssertedAt, AsyncTransmit}
 use Terms.{basis_right, begins, Beside, blocks, Bool, both, both_ending, both_right, Call, Called, CanBegin, Cancel}
 use Terms.{cancel_begun, cancel_bodies, cancel_right, CancelBody, cancelled, CaptureCountHigh, CaptureTimeHigh}
 use Terms.{carried-right, carried_at, carried_for, Carrying, Channel, channel_begun, channel_of, ChannelCall}
-use Terms.{ChannelState, Chip, class_of, Decides, Declines, Done, ended_at, ending_gave, Entered}
-use Terms.{entry_carried, error_by, error_of_sending, error_told, ErrorName, false, finds_held, First, first_served}
-use Terms.{FitsSpi, found_none, FrameHistory, fresh_history, Handler, has_channel, HeldRight}
-use Terms.{in_list, init_bodies, inl, inr, init_right, init_within, InitBody, Interrupt, is_busy, is_closed, is_external_channel}
-use Terms.{is_internal_channel, is_number, is_off, is_past, is_pending, is_polling, is_some, is_sync_sequence}
-use Terms.{Is_this_frame, is_used, is_users, is_windowed, is_wrong_length, is_wrong_sequence, IsLawful, job_of}
-use Terms.{jobs_by, jobs_of, LeavesNone, length, length_by, List, LongBodies, Looked, looked_by, Main, mark_of, may_end}
-use Terms.{may_name, may_store, Mode, mode_word, Move, named, names_there, nat_lt, no_answer, no_duties, None}
-use Terms.{none_any, NoneBefore, not, not_sent, not_true, Nothing, of_sixteen, Off, Option, Or, or_rest, Origin}
-use Terms.{outcome, own_first, placed_of, Plain, Pointer, Polling, polls, Preparing, Proceeds, PulseCommit, PulseIdle}
-use Terms.{put_by, put_held, Query, query_begun, query_bodies, query_right, QueryBody, Read, read_bodies, read_right}
-use Terms.{ReadBody, ReadIb, Reading, refl, Reservation, Reservations, ReservedBy, same_number, Second}
-use Terms.{sending_ends, sent, sent_steps, Sequence, sequence_begun, sequence_of, SequenceCall, Services}
-use Terms.{services_driver, services_lawful, set_up_bodies, set_up_right, SetUpBody, SetupEb, short_left, short_move}
-use Terms.{Some, some_of, spi_basis, spi_ends, spi_looked, spi_machine, spi_setting, SpiBody, SpiRepresents, SpiState}
-use Terms.{SpiTable, SpiUninit, STATE, status_by, steps_of, subst, suc, sym, sync_begins, SyncBody, SyncTransmit, take}
-use Terms.{take_by, take_held, tells_error, tells_nothing, TimerHigh, to_write, Transmit, true, unit_body, unit_by}
-use Terms.{unit_few, unit_of_sequence, UnitBody, value_of, view, whole_bodies, whole_right, WholeBody, word_of}
-use Terms.{waiting_windows, words_in, World, Write, write_bodies, write_right, WriteBody, WriteIb, Writing, zero, ℕ}
+use Terms.{ChannelState, Chip, class_of, Decides, Declines, Done, ended_at, ending_gave, Entered, entry_carried}
+use Terms.{error_by, error_of_sending, error_told, ErrorName, false, finds_held, First, first_served, FitsSpi}
+use Terms.{found_none, FrameHistory, fresh_history, Handler, has_channel, HeldRight, in_list, init_bodies, init_right}
+use Terms.{init_within, InitBody, inl, inr, Interrupt, is_busy, is_closed, is_external_channel, is_internal_channel}
+use Terms.{is_number, is_off, is_past, is_pending, is_polling, is_some, is_sync_sequence, Is_this_frame, is_used}
+use Terms.{is_users, is_windowed, is_wrong_length, is_wrong_sequence, IsLawful, job_of, jobs_by, jobs_of, LeavesNone}
+use Terms.{length, length_by, List, LongBodies, Looked, looked_by, Main, mark_of, may_end, may_name, may_store, Mode}
+use Terms.{mode_word, Move, named, names_there, nat_lt, no_answer, no_duties, None, none_any, NoneBefore, not}
+use Terms.{not_sent, not_true, Nothing, of_sixteen, Off, Option, Or, or_rest, Origin, outcome, own_first, placed_of}
+use Terms.{Plain, Pointer, Polling, polls, Preparing, Proceeds, PulseCommit, PulseIdle, put_by, put_held, Query}
+use Terms.{query_begun, query_bodies, query_right, QueryBody, Read, read_bodies, read_right, ReadBody, ReadIb}
+use Terms.{Reading, refl, Reservation, Reservations, ReservedBy, same_number, Second, sending_ends, sent, sent_steps}
+use Terms.{Sequence, sequence_begun, sequence_of, SequenceCall, Services, services_driver, services_lawful}
+use Terms.{set_up_bodies, set_up_right, SetUpBody, SetupEb, short_left, short_move, Some, some_of, spi_basis}
+use Terms.{spi_ends, spi_looked, spi_machine, spi_setting, SpiBody, SpiRepresents, SpiState, SpiTable, SpiUninit}
+use Terms.{STATE, status_by, steps_of, subst, suc, sym, sync_begins, SyncBody, SyncTransmit, take, take_by, take_held}
+use Terms.{tells_error, tells_nothing, TimerHigh, to_write, Transmit, true, unit_body, unit_by, unit_few}
+use Terms.{unit_of_sequence, UnitBody, value_of, view, waiting_windows, whether, whole_bodies, whole_right, WholeBody}
+use Terms.{word_of, words_in, World, Write, write_bodies, write_right, WriteBody, WriteIb, Writing, zero, ℕ}
 use Rattle.run_model.specs.Frame.{is_wait}
 use Rattle.spi_sequences.specs.laws.bookkeeping.RefinementRight.{FrameMoves, frame_moves}
 use Rattle.spi_sequences.specs.laws.services.AtOnce.{cancel_once, init_once, never, query_once, read_once, set_up_once}
@@ -126,17 +126,15 @@ module _ (d : SpiTable) (mode : Mode) (cs : List ChannelState) (on : is_off mode
   -- no frame writes the channel
   not_written : (p : Pointer) (sources : ℕ → List ℕ) (h : ReservedBy Call Reservation) (x : Reservation) → HeldRight d mode cs h x → blocks (class_of (calls.Channel c (WriteIb p))) (mark_of (spi_setting d) h.by) ≡ false → put_by d sources c false x ≡ None
   not_written p sources h (Preparing stored readied x) right l = absurd (let off = right.1 in cc)
-  not_written p sources h (Writing n q b i x) right l = by (n == c) refl
+  not_written p sources h (Writing n q b i x) right l = whether (n == c)
+      (λ e. absurd (let f = same e in let g = other in cc))
+      (λ e. ap (λ a. if a then Some (record { bank = b; filled = take i (to_write (channel_of d c) q (sources c)) }) else None) e)
     where
       same : (n == c) ≡ true → (c == n) ≡ true
       same e = ap (λ k. c == k) (is_number n c e) ∙ same_number c
 
       other : (c == n) ≡ false
       other = subst (λ o. blocks (class_of (calls.Channel c (WriteIb p))) (mark_of (spi_setting d) o) ≡ false) right.0 l
-
-      by : (a : Bool) → (n == c) ≡ a → put_by d sources c false (Writing n q b i x) ≡ None
-      by true e = absurd (let f = same e in let g = other in cc)
-      by false e = ap (λ a. if a then Some (record { bank = b; filled = take i (to_write (channel_of d c) q (sources c)) }) else None) e
   not_written p sources h _ right l = refl
 
   none_writes : (p : Pointer) (sources : ℕ → List ℕ) (below : Reservations) → AllRight d mode cs below → AllLet (spi_setting d) (class_of (calls.Channel c (WriteIb p))) below → put_held d sources c false below ≡ None
@@ -145,17 +143,15 @@ module _ (d : SpiTable) (mode : Mode) (cs : List ChannelState) (on : is_off mode
 
   -- or reads it
   not_read : (h : ReservedBy Call Reservation) (x : Reservation) → HeldRight d mode cs h x → blocks (class_of (calls.Channel c ReadIb)) (mark_of (spi_setting d) h.by) ≡ false → take_by c h.acted x ≡ None
-  not_read h (Reading n b) right l = by (n == c) refl
+  not_read h (Reading n b) right l = whether (n == c)
+      (λ e. absurd (let f = same e in let g = other in cc))
+      (λ e. ap (λ a. if a then Some (record { bank = b; kept = words_in h.acted }) else None) e)
     where
       same : (n == c) ≡ true → (c == n) ≡ true
       same e = ap (λ k. c == k) (is_number n c e) ∙ same_number c
 
       other : (c == n) ≡ false
       other = subst (λ o. blocks (class_of (calls.Channel c ReadIb)) (mark_of (spi_setting d) o) ≡ false) right.0 l
-
-      by : (a : Bool) → (n == c) ≡ a → take_by c h.acted (Reading n b) ≡ None
-      by true e = absurd (let f = same e in let g = other in cc)
-      by false e = ap (λ a. if a then Some (record { bank = b; kept = words_in h.acted }) else None) e
   not_read h _ right l = refl
 
   none_reads : (below : Reservations) → AllRight d mode cs below → AllLet (spi_setting d) (class_of (calls.Channel c ReadIb)) below → take_held c below ≡ None

@@ -1,4 +1,5 @@
 -- The main function's hold: it may be taken where the mode is polling, and dropped.
+-- From spi_sequences: words.PendingWords.
 -- Used by services.UnitSteps, bookkeeping.PendingWritesRight.
 use Rattle.std.proofs.Common.{◌≡◌, ◌∷◌}
 use Rattle.spi_driver.specs.Terms

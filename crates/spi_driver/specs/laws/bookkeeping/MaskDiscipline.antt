@@ -1,5 +1,5 @@
 -- Frames of units: how their steps turn the mask, and the moves that their windows have left.
--- From services.UnitFrames, services.UnitParts, services.UnitRight.
+-- From services.UnitFrames, spi_sequences: services.ServeSteps, services.UnitParts and 7 more.
 -- Used by services.UnitBounds.
 use Rattle.std.proofs.Common.{◌≡◌, ◌+◌, ◌-◌, ◌/◌, ◌%◌, ◌<◌, ◌≤◌, ◌==◌, ◌&&◌, ◌||◌, ◌∷◌, if◌then◌else◌}
 use Rattle.spi_driver.specs.Terms
@@ -10,9 +10,9 @@ use Terms.{KeepsMask, lets_of, LongBodies, Main, main_over, nat_lt, None, Notice
 use Terms.{plain_turns, Position, refl, releasing, request_looked, requested_by, Reservations, Rest, run_in, Running}
 use Terms.{Sent, sequence_word, serve_finds, serve_more, serve_move, serve_owes, serve_run, serve_takes, ServePlace}
 use Terms.{ServeStep, shares, Some, spi_basis, spi_owing, SpiRepresents, SpiState, SpiTable, spot_or, start_finds}
-use Terms.{start_found, start_looks, start_more, start_move, start_owes, start_takes, Started, StartPlace}
-use Terms.{told_first, Transmit, true, TurnsMask, TurnsTo, unit_acts, unit_move, unit_over, unit_owes, unit_takes}
-use Terms.{UnitBody, UnitPlace, Units, Unmask, value_of, where_owed, with_holds, word_of, World, zero, ℕ}
+use Terms.{start_found, start_looks, start_more, start_move, start_owes, start_takes, Started, StartPlace, told_first}
+use Terms.{Transmit, true, TurnsMask, TurnsTo, unit_acts, unit_move, unit_over, unit_owes, unit_takes, UnitBody}
+use Terms.{UnitPlace, Units, Unmask, value_of, where_owed, whether_as, with_holds, word_of, World, zero, ℕ}
 use Rattle.spi_driver.specs.laws.services.UnitFrames.{IsFor, RequestAt, Transmits, Handles, Mains, Rests, at, holds_by}
 use Rattle.spi_driver.specs.laws.services.UnitFrames.{serve_spot, unit_bodies, unit_windows, start_spot}
 use Rattle.spi_driver.specs.laws.services.UnitParts.{IsServing, IsStarting, ServeLess, Serving, StartLess, Starting}
@@ -78,11 +78,9 @@ module _ (a : Starting) (b : Serving) (d : SpiTable) (fits : FitsSpi d) (startin
 
   start_open : (x : SpiTable) (u : ℕ) (p : StartPlace) (v : ℕ) → start_owes p ≡ false → is_closing (start_takes x u p v).0 ≡ false
   start_open x u start.Shut v i = refl
-  start_open x u start.Running v i = by (v == 0)
-    where
-      by : (q : Bool) → (let r : StartPlace × Started = if q then (start.Nexts, started.Goes None) else (start.Running, started.Over) in is_closing r.0) ≡ false
-      by true = refl
-      by false = refl
+  start_open x u start.Running v i = whether_as (v == 0) (λ q. (let r : StartPlace × Started = if q then (start.Nexts, started.Goes None) else (start.Running, started.Over) in is_closing r.0) ≡ false)
+      (λ _. refl)
+      (λ _. refl)
   start_open x u start.Nexts v i = refl
   start_open x u (start.Marks n) v i = refl
   start_open x u (start.Front n m f) v i = by (has_ended (front_gave f v))

@@ -1,5 +1,5 @@
 -- A frame of units that is done leaves no unit waiting whose line it has served.
--- From services.UnitFrames, services.UnitParts, bookkeeping.PendingWritesRight, bookkeeping.UnpolledFrames and 1 more.
+-- From services.UnitFrames, spi_sequences: services.UnitSteps, services.UnitParts and 9 more.
 -- Used by services.UnitBegins.
 use Rattle.std.proofs.Common.{◌≡◌, ◌+◌, ◌/◌, ◌%◌, ◌<◌, ◌==◌, ◌&&◌, [], ◌∷◌, ◌∙◌, if◌then◌else◌}
 use Rattle.spi_driver.specs.Terms

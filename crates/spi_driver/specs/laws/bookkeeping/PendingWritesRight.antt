@@ -1,25 +1,24 @@
 -- The moves that frames of units owe: after each one the frame owes the others, or goes on as it was to.
--- From services.UnitFrames, services.UnitParts, bookkeeping.MainFunctionHold.
+-- From services.UnitFrames, spi_sequences: services.ServeSteps, spi_sequences: services.UnitSteps and 8 more.
 -- Used by bookkeeping.NoneWaits, services.UnitBounds, services.UnitSteps.
 use Rattle.std.proofs.Common.{◌≡◌, ◌+◌, ◌-◌, ◌&&◌, ◌||◌, [], ◌∷◌, ◌++◌, ◌∙◌, ◌⊎◌, if◌then◌else◌}
 use Rattle.spi_driver.specs.Terms
 use Terms.{add_gave, after_request, after_serve, after_start, again_gave, and_parts, ap, AreWindows, arith, Arrived}
 use Terms.{AssertedAt, AsyncTransmit, BodyTaken, Bool, Call, Called, channel_at_place, channel_number, Chip}
 use Terms.{clear_over, cleared_of, commit_by, commit_ends, commit_last, Continues, drop_gave, ends_of, Entered, false}
-use Terms.{first_internal, first_pinned, FrameHistory, FrameRole, goes, goes_on, GoesFree, GoesOwing, Handler}
-use Terms.{has_ended, has_line, inl, inr, is_simple, is_sync_unit, job_note, job_notice, job_of, keep_ends, keep_of}
-use Terms.{Leaving, List, list_all, list_of, Main, main_over, may, MayStop, nat_le, nat_lt, next_gave, no_answer, None}
-use Terms.{Nothing, Notice, notifies_job, notifies_sequence, Option, Origin, owed_left, owed_move, PendingWrites}
-use Terms.{prepare_at, prepare_by, prepare_ends, prepared, refl, release_by, release_last, releasing, request_adds}
-use Terms.{request_owes, request_takes, Requested, requested_by, RequestPlace, Reservations, Rest, rest_after, Running}
-use Terms.{same_line, Sent, sequence_note, sequence_notice, sequence_of, SequenceNext, serve_again, serve_commits}
-use Terms.{serve_drops, serve_keeps, serve_keeps_last, serve_lets, serve_owes, serve_releases, serve_takes, Served}
-use Terms.{ServePlace, ServeStep, Some, some_is, spi_bare, spi_basis, spi_owing, SpiJobEndNotification, SpiRepresents}
-use Terms.{SpiSeqEndNotification, SpiState, SpiTable, start_chooses, start_owes, start_prepares, start_releases}
-use Terms.{start_takes, Started, StartPlace, subst, suc, sym, take_gave, Transmit, true, unit_over, unit_owed}
-use Terms.{unit_owes, unit_takes, UnitBody, UnitPlace, Units, unless_done, where_owed, Windows, with_holds, World}
-use Terms.{zero, ℕ}
-use Terms.{frame_names}
+use Terms.{first_internal, first_pinned, frame_names, FrameHistory, FrameRole, goes, goes_on, GoesFree, GoesOwing}
+use Terms.{Handler, has_ended, has_line, inl, inr, is_simple, is_sync_unit, job_note, job_notice, job_of, keep_ends}
+use Terms.{keep_of, Leaving, List, list_all, list_of, Main, main_over, may, MayStop, nat_le, nat_lt, next_gave}
+use Terms.{no_answer, None, Nothing, Notice, notifies_job, notifies_sequence, Option, Origin, owed_left, owed_move}
+use Terms.{PendingWrites, prepare_at, prepare_by, prepare_ends, prepared, refl, release_by, release_last, releasing}
+use Terms.{request_adds, request_owes, request_takes, Requested, requested_by, RequestPlace, Reservations, Rest}
+use Terms.{rest_after, Running, same_line, Sent, sequence_note, sequence_notice, sequence_of, SequenceNext}
+use Terms.{serve_again, serve_commits, serve_drops, serve_keeps, serve_keeps_last, serve_lets, serve_owes}
+use Terms.{serve_releases, serve_takes, Served, ServePlace, ServeStep, Some, some_is, spi_bare, spi_basis, spi_owing}
+use Terms.{SpiJobEndNotification, SpiRepresents, SpiSeqEndNotification, SpiState, SpiTable, start_chooses, start_owes}
+use Terms.{start_prepares, start_releases, start_takes, Started, StartPlace, subst, suc, sym, take_gave, Transmit}
+use Terms.{true, unit_over, unit_owed, unit_owes, unit_takes, UnitBody, UnitPlace, Units, unless_done, where_owed}
+use Terms.{whether_as, Windows, with_holds, World, zero, ℕ}
 use Rattle.spi_driver.specs.laws.services.UnitFrames.{About, Ahead, Frame, Handles, HasDone, IsFor, Mains, OwedAt}
 use Rattle.spi_driver.specs.laws.services.UnitFrames.{Rests, ToPass, ToStart, Transmits, about_owed, about_unit}
 use Rattle.spi_driver.specs.laws.services.UnitFrames.{ahead_holds, ahead_of, ahead_owing, all_told, and_other, at}
@@ -178,11 +177,9 @@ serve_on d u (serve.Again r a) v e =
     elim (has_ended (again_gave a v)) as (λ b. ServeOn d (Some (job_notice d r.run.job)) (serve_again d r a v b))
     [ true ↦ ap (λ ns. Some ns) (job_told d r.run.job ∙ told_first (job_note d r.run.job)) | false ↦ (refl, refl) ]
 serve_on d u (serve.End r x) v e = (refl, refl)
-serve_on d u (serve.Drop r p) v e = by (has_ended (drop_gave p v))
-  where
-    by : (b : Bool) → ServeOn d (Some (job_notice d r.run.job ++ sequence_notice d r.run.sequence)) (serve_drops d r p v b)
-    by true = ap (λ ns. Some ns) (ap (λ ns. ns ++ sequence_notice d r.run.sequence) (job_told d r.run.job) ∙ ap (λ ns. and_other (job_note d r.run.job) ++ ns) (sequence_told d r.run.sequence) ∙ told_both (job_note d r.run.job) (sequence_note d r.run.sequence))
-    by false = (refl, refl)
+serve_on d u (serve.Drop r p) v e = whether_as (has_ended (drop_gave p v)) (λ b. ServeOn d (Some (job_notice d r.run.job ++ sequence_notice d r.run.sequence)) (serve_drops d r p v b))
+    (λ _. ap (λ ns. Some ns) (ap (λ ns. ns ++ sequence_notice d r.run.sequence) (job_told d r.run.job) ∙ ap (λ ns. and_other (job_note d r.run.job) ++ ns) (sequence_told d r.run.sequence) ∙ told_both (job_note d r.run.job) (sequence_note d r.run.sequence)))
+    (λ _. (refl, refl))
 serve_on d u _ v e = absurd (cc)
 
 -- ---- all of them
@@ -217,11 +214,9 @@ module _ (a : Starting) (b : Serving) (d : SpiTable) where
 
   -- the frame is done with the unit
   passes_so : (x : SpiTable) (e : FrameRole) (u : ℕ) (p q : UnitPlace) → GoesSo (about x e u ToPass) (unit_over (at x e u p) q e u)
-  passes_so x Main zero p q = by (is_sync_unit x 1)
-    where
-      by : (z : Bool) → GoesSo (about x Main 0 ToPass) (main_over (at x Main 0 p) q z)
-      by true = inr (refl, refl, tt)
-      by false = inr (refl, refl, (refl, refl, refl, (let last = unit_second (rest_after q) in omega (arith, last)), omega arith))
+  passes_so x Main zero p q = whether_as (is_sync_unit x 1) (λ z. GoesSo (about x Main 0 ToPass) (main_over (at x Main 0 p) q z))
+      (λ _. inr (refl, refl, tt))
+      (λ _. inr (refl, refl, (refl, refl, refl, (let last = unit_second (rest_after q) in omega (arith, last)), omega arith)))
   passes_so x _ _ p q = inr (refl, refl, tt)
 
   goes_so : (x : SpiTable) (e : FrameRole) (u : ℕ) (p : UnitPlace) (v : ℕ) → unit_owes p ≡ true → GoesSo (about x e u (ahead_of x p)) (unit_takes (at x e u p) v)

@@ -1,5 +1,6 @@
 -- Frames that poll no line leave no unit waiting, and the hardware lets none wait.
--- Used by bookkeeping.Lawful, bookkeeping.NoneWaits.
+-- From spi_sequences: hardware.StableUnderHardware, spi_sequences: services.InitWords and 6 more.
+-- Used by bookkeeping.Lawful, bookkeeping.NoneWaits, services.SendPart.
 use Rattle.std.proofs.Common.{◌≡◌, ◌&&◌, [], ◌∙◌, if◌then◌else◌}
 use Rattle.spi_driver.specs.Terms
 use Terms.{Abort, Act, ap, AssertedAt, Bool, brought_by, Call, call_by, Called, cancel_bodies, CancelBody}

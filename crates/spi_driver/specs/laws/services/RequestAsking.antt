@@ -1,18 +1,18 @@
 -- A request up to its act: it looks at every sequence, and acts where one is in the way, or where none is.
--- From services.UnitFrames, services.UnitParts.
+-- From spi_sequences: words.ListTests, services.UnitFrames, services.UnitParts and 8 more.
 -- Used by services.UnitRight.
 use Rattle.std.proofs.Common.{◌≡◌, ◌+◌, ◌<◌, ◌==◌, ◌&&◌, ◌||◌, ◌∷◌, ◌∙◌, if◌then◌else◌}
 use Rattle.spi_driver.specs.Terms
-use Terms.{accepted, accepted_owes, acts, acts_by, after_request, all_of, all_pending, and_parts, answers}
-use Terms.{any_in, any_some, ap, arith, AsyncTransmit, BodyTaken, Bool, Call, Called, Chip, chip_after, CommitsTo}
-use Terms.{Contains, Contains-get_or, ENotOk, EOk, error_by, error_told, false, FitsSpi, fresh_history, get_or_default}
-use Terms.{has_job, held_by, is_below, is_held, is_number, is_off, is_past, is_pending, is_some, is_sync_sequence}
+use Terms.{accepted, accepted_owes, acts, acts_by, after_request, all_of, all_pending, and_parts, answers, any_in}
+use Terms.{any_some, ap, arith, AsyncTransmit, BodyTaken, Bool, Call, Called, Chip, chip_after, CommitsTo, Contains}
+use Terms.{Contains-get_or, ENotOk, EOk, error_by, error_told, false, FitsSpi, fresh_history, get_or_default, has_job}
+use Terms.{held_by, is_below, is_held, is_number, is_off, is_past, is_pending, is_some, is_sync_sequence}
 use Terms.{is_sync_unit, is_wrong_sequence, JobList, jobs_list, jobs_of, length, List, listed, Load, Move, named}
 use Terms.{nat_lt, nat_tests, None, none_any, not, not_true, Option, owing, PENDING, Pending, pending_alone}
 use Terms.{place_found, place_in, place_missing, refl, request_looked, Reservations, same_number, Sequence}
-use Terms.{sequence_of, sequence_word, shares, shares_before, shares_job, shares_unit, slice_index_or, Some, spi_basis}
-use Terms.{spi_machine, spi_owing, SpiParamSeq, SpiRepresents, SpiSeqPending, SpiState, SpiTable, Store, subst, suc}
-use Terms.{sym, tells_error, Transmit, true, UnitBody, Units, view, Works, World, zero, ℕ}
+use Terms.{sequence_of, sequence_word, shares, shares_before, shares_job, shares_unit, slice_index_or, Some}
+use Terms.{spi_basis, spi_machine, spi_owing, SpiParamSeq, SpiRepresents, SpiSeqPending, SpiState, SpiTable, Store}
+use Terms.{subst, suc, sym, tells_error, Transmit, true, UnitBody, Units, view, whether, Works, World, zero, ℕ}
 use Rattle.spi_machine.specs.Pending.{is_of}
 use Rattle.spi_driver.specs.laws.services.UnitFrames.{Frame, IsRequest, NoneHeld, at, unit_bodies}
 use Rattle.spi_driver.specs.laws.services.UnitParts.{Serving, Starting, debt_of}
@@ -51,11 +51,9 @@ shares_none l xs (suc n) i e lt = by (is_some (place_in l (slice_index_or xs n 0
 
     by : (q : Bool) → is_some (place_in l (slice_index_or xs n 0)) ≡ q → q || shares_before l xs n ≡ false → (shares_before l xs n ≡ false → i < n → is_some (place_in l (slice_index_or xs i 0)) ≡ false) → is_some (place_in l (slice_index_or xs i 0)) ≡ false
     by true f g rest = absurd (cc)
-    by false f g rest = by_place (nat_lt i n) refl
-      where
-        by_place : (b : Bool) → nat_lt i n ≡ b → is_some (place_in l (slice_index_or xs i 0)) ≡ false
-        by_place true h = rest g (lt_is i n h)
-        by_place false h = subst (λ k. is_some (place_in l (slice_index_or xs k 0)) ≡ false) (at_last i n lt h) f
+    by false f g rest = whether (nat_lt i n)
+        (λ h. rest g (lt_is i n h))
+        (λ h. subst (λ k. is_some (place_in l (slice_index_or xs k 0)) ≡ false) (at_last i n lt h) f)
 
 pub shares_of : (d : SpiTable) → FitsSpi d → (q other : ℕ) → shares d q other ≡ shares_job d q other
 shares_of d fits q other = by (shares d q other) refl
@@ -164,14 +162,12 @@ module _ (a : Starting) (b : Serving) (d : SpiTable) (fits : FitsSpi d) (below :
       now = ap (λ z. is_pending k s.pending && (k == q || z)) (sym (shares_of d fits q k)) ∙ e
 
       upto : NoneHeld d q s.pending (k + 1)
-      upto n less = by_order (nat_lt n k) refl
+      upto n less = whether (nat_lt n k)
+          (λ f. none n (is_below n k f))
+          (λ f. ap (λ z. is_pending z s.pending && (z == q || shares_job d q z)) (split n k less f) ∙ now)
         where
           split : (a b : ℕ) → a < b + 1 → nat_lt a b ≡ false → a ≡ b
           split a b l f = grind (arith, nat_tests)
-
-          by_order : (b : Bool) → nat_lt n k ≡ b → is_pending n s.pending && (n == q || shares_job d q n) ≡ false
-          by_order true f = none n (is_below n k f)
-          by_order false f = ap (λ z. is_pending z s.pending && (z == q || shares_job d q z)) (split n k less f) ∙ now
 
       by : (b : Bool) → nat_lt k 7 ≡ b → RequestMakes (Load (sequence_word k)) chip true value (after_request (at d (Transmit q) u (place.Request (request.Look k))) (request_looked k false))
       by true f = subst (λ z. RequestMakes (Load (sequence_word k)) chip true value (after_request (at d (Transmit q) u (place.Request (request.Look k))) (if z then request.Look (k + 1) else request.Accept, requested.Goes None))) (sym f) (h, (frame, (i, refl, (let less = is_below k 7 f in omega (arith, less)), upto)))

@@ -1,5 +1,5 @@
 -- The frames that send a sequence and wait are a part of the driver.
--- From bookkeeping.Lawful, bookkeeping.UnpolledFrames, spi_sending: services.SendBegins, spi_sending: services.SendRight.
+-- From spi_sending: services.SendRight, bookkeeping.UnpolledFrames, spi_sending: services.SendBegins and 2 more.
 -- Used by bookkeeping.Joined.
 use Rattle.std.proofs.Common.{◌≡◌}
 use Rattle.spi_driver.specs.Terms

@@ -1,5 +1,5 @@
 -- The serving window is a part of the frames.
--- From services.UnitParts, spi_serving: services.ServeBounds, spi_serving: services.ServeRight.
+-- From services.UnitParts, spi_serving: services.ServeAround, spi_serving: services.ServeBounds and 4 more.
 -- Used by bookkeeping.Joined.
 use Rattle.std.proofs.Common.{◌≡◌, ◌∙◌}
 use Rattle.spi_driver.specs.Terms

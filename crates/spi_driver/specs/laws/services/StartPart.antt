@@ -1,5 +1,5 @@
 -- The start window is a part of the frames.
--- From spi_starting: services.StartAround, services.UnitParts, spi_starting: services.StartRight.
+-- From services.UnitParts, spi_starting: services.StartAround, spi_sequences: services.StartSteps and 1 more.
 -- Used by bookkeeping.Joined.
 use Rattle.std.proofs.Common.{◌≡◌, ◌<◌}
 use Rattle.spi_driver.specs.Terms

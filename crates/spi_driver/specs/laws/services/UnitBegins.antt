@@ -1,5 +1,5 @@
 -- Where the frames of units begin, and that the driver is lawful, from what its start and serving windows owe.
--- From services.UnitFrames, bookkeeping.Lawful, services.UnitParts, bookkeeping.NoneWaits, services.UnitBounds.
+-- From bookkeeping.Lawful, services.UnitFrames, services.UnitParts, spi_sequences: services.Bodies and 7 more.
 -- Used by bookkeeping.Joined.
 use Rattle.std.proofs.Common.{◌≡◌, ◌+◌, ◌-◌, ◌<◌, ◌≤◌, ◌==◌, ◌&&◌, ◌∙◌, if◌then◌else◌}
 use Rattle.spi_driver.specs.Terms
@@ -8,7 +8,7 @@ use Terms.{error_by, false, first_served, FitsSpi, Handler, is_number, is_off, i
 use Terms.{is_sync_unit, is_used, IsLawful, List, LongBodies, Main, None, not, Open, Proceeds, refl, Reservations}
 use Terms.{Services, services_driver, Short, short_left, short_move, Some, some_is, spi_basis, spi_ends, spi_looked}
 use Terms.{SpiBody, SpiRepresents, SpiState, SpiTable, STATE, subst, sym, SyncBody, Transmit, true, unit_body}
-use Terms.{unit_few, unit_of, unit_of_sequence, uses_by, uses_unit, World, ℕ}
+use Terms.{unit_few, unit_of, unit_of_sequence, uses_by, uses_unit, whether_as, World, ℕ}
 use Rattle.spi_sequences.specs.laws.services.AtOnce.{unit_once}
 use Rattle.spi_driver.specs.laws.{services.UnitFrames.{Handles, Mains, Transmits, at, unit_after, unit_bodies}}
 use Rattle.spi_driver.specs.laws.{bookkeeping.NoneWaits.{units_left}, bookkeeping.Lawful.{AreRight, AreSending, handled_by, lawful}}
@@ -38,13 +38,11 @@ module _ (a : Starting) (b : Serving) (d : SpiTable) (c : LongBodies (spi_basis 
     main_begins below chip w s polling h = record {
       at = (h, (refl, Mains, refl, refl, refl, polling));
       closed = refl;
-      fuel = main_fuel (is_sync_unit d 0);
+      fuel = whether_as (is_sync_unit d 0) (λ z. 69 + unit_after Main (if z then 1 else 0) ≤ 288 - 7)
+          (λ _. omega arith)
+          (λ _. omega arith);
       room = omega arith;
     }
-      where
-        main_fuel : (z : Bool) → 69 + unit_after Main (if z then 1 else 0) ≤ 288 - 7
-        main_fuel true = omega arith
-        main_fuel false = omega arith
 
     -- a handler begins in its serving window
     handler_begins : (u : ℕ) → u < 2 → is_sync_unit d u ≡ false → CanBegin spi_with (unit_body (at d Handler u (place.Serve serve.State))) (Entered (26 + u))

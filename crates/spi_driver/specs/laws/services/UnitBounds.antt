@@ -1,5 +1,5 @@
 -- Frames of units have so many steps left, are clean where they have read nothing, and are right.
--- From services.UnitFrames, services.UnitParts, services.UnitRight, bookkeeping.PendingWritesRight and 1 more.
+-- From services.UnitFrames, services.UnitParts, spi_sequences: services.UnitSteps, services.UnitRight and 9 more.
 -- Used by services.UnitBegins.
 use Rattle.std.proofs.Common.{◌≡◌, ◌+◌, ◌-◌, ◌<◌, ◌≤◌, ◌==◌, ◌&&◌, ◌||◌, ◌∙◌, if◌then◌else◌}
 use Rattle.spi_driver.specs.Terms

@@ -1,5 +1,5 @@
 -- The frames that start or serve units: what they hold at their places, and what stands there.
--- From services.UnitParts.
+-- From services.UnitParts, spi_sequences: services.UnitSteps, spi_sequences: services.LookSteps.
 -- Used by bookkeeping.PendingWritesRight, services.UnitSteps, bookkeeping.NoneWaits, services.UnitBounds and 4 more.
 use Rattle.std.proofs.Common.{◌≡◌, ◌+◌, ◌-◌, ◌<◌, ◌==◌, ◌&&◌, ◌||◌, [], ◌∷◌}
 use Rattle.spi_driver.specs.Terms

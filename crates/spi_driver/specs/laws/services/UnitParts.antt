@@ -1,5 +1,6 @@
 -- The windows of a start and of a serving, as parts of a frame: what stands at their places, and what their steps leave.
--- Used by services.UnitBounds, services.UnitSteps, services.ServePart, bookkeeping.MaskDiscipline and 7 more.
+-- From spi_sequences: services.StartSteps, spi_sequences: services.ServeSteps, spi_sequences: bookkeeping.ClearedUnit.
+-- Used by services.UnitBounds, services.UnitSteps, bookkeeping.MaskDiscipline, services.ServePart and 7 more.
 use Rattle.std.proofs.Common.{◌≡◌, ◌+◌, ◌<◌, ◌≤◌, ◌||◌, if◌then◌else◌, [], ◌∷◌, ◌++◌}
 use Rattle.spi_driver.specs.Terms
 use Terms.{Answer, begins_word, Begun, Bool, Call, Chip, chip_after, cleared_of, CommitsTo, Debt, Event, false}

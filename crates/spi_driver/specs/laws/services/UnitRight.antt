@@ -1,5 +1,5 @@
 -- Frames of units are right: every place of them.
--- From services.UnitFrames, services.UnitSteps, services.UnitParts, services.RequestAsking.
+-- From services.UnitFrames, services.UnitSteps, services.UnitParts, services.RequestAsking and 6 more.
 -- Used by services.UnitBounds, bookkeeping.MaskDiscipline, bookkeeping.NoneWaits.
 use Rattle.std.proofs.Common.{◌≡◌, ◌<◌, ◌==◌, ◌&&◌, ◌||◌, ◌∙◌, if◌then◌else◌}
 use Rattle.spi_driver.specs.Terms

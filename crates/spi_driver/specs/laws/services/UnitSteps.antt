@@ -1,23 +1,22 @@
 -- Frames of units: their steps where they owe nothing.
--- From services.UnitFrames, services.UnitParts, bookkeeping.MainFunctionHold, bookkeeping.PendingWritesRight.
+-- From services.UnitFrames, services.UnitParts, spi_sequences: services.UnitSteps and 11 more.
 -- Used by services.UnitRight.
 use Rattle.std.proofs.Common.{◌≡◌, ◌+◌, ◌<◌, ◌&&◌, ◌||◌, [], ◌∷◌, ◌++◌, ◌∙◌, ◌⊎◌, if◌then◌else◌}
 use Rattle.spi_driver.specs.Terms
-use Terms.{ActsRight, After, Answer, after_serve, after_start, agrees_after, ap, arith, asks_reset, AssertedAt}
+use Terms.{ActsRight, After, after_serve, after_start, agrees_after, Answer, ap, arith, asks_reset, AssertedAt}
 use Terms.{basis_right, BodyTaken, Bool, Brought, brought_by, Call, Called, caller_of, Chip, chip_after, clear_over}
 use Terms.{CommitsTo, Continues, Done, Entered, Event, false, first_served, FitsSpi, FrameHistory, FrameRole}
-use Terms.{fresh_history, gap_at, Handler, happening_of, has_line, holds_at, inl, inr, is_polling, is_shared}
-use Terms.{is_some, is_sync_unit, IsNext, IsSome, List, list_all, list_any, Load, Main, main_over, MakesTo, Mask, MayDo}
+use Terms.{fresh_history, gap_at, Handler, happening_of, has_line, holds_at, inl, inr, is_polling, is_shared, is_some}
+use Terms.{is_sync_unit, IsNext, IsSome, List, list_all, list_any, Load, Main, main_over, MakesTo, Mask, MayDo}
 use Terms.{missed_after, Move, no_answer, None, none_served, not, Note, Notes, notes, Notice, number_of, opened}
-use Terms.{Option, Origin}
-use Terms.{Outcome, outcome_of, outcome_with, Owing, owing, passes, past_after, past_wrote, PendingWrites, place_at}
-use Terms.{plain_makes, plain_move, polls, ready, ReceivedRight, refl, Report, Reservations, resets_chip, Rest}
-use Terms.{rest_after, same_number, serve_move, serve_owes, serve_takes, ServePlace, Serves, ServeStep, Some, spi_bare}
-use Terms.{spi_basis, spi_machine, spi_owing, spi_setting, SpiRepresents, SpiState, SpiTable, spot_or, StandsAt}
-use Terms.{start-received, start_move, start_owes, start_takes, Started, StartPlace, Starts, StartsUncalled, STATE}
-use Terms.{subst, suc, sym, tells_nothing}
-use Terms.{Told, told_first, told_next, Transmit, true, unit_acts, unit_named, unit_over, UnitBody, UnitPlace, Units}
-use Terms.{Unmask, value_of, where_owed, with_holds, word_of, Works, World, zero, ℕ}
+use Terms.{Option, Origin, Outcome, outcome_of, outcome_with, Owing, owing, passes, past_after, past_wrote}
+use Terms.{PendingWrites, place_at, plain_makes, plain_move, polls, ready, ReceivedRight, refl, Report, Reservations}
+use Terms.{resets_chip, Rest, rest_after, same_number, serve_move, serve_owes, serve_takes, ServePlace, Serves}
+use Terms.{ServeStep, Some, spi_bare, spi_basis, spi_machine, spi_owing, spi_setting, SpiRepresents, SpiState}
+use Terms.{SpiTable, spot_or, StandsAt, start-received, start_move, start_owes, start_takes, Started, StartPlace}
+use Terms.{Starts, StartsUncalled, STATE, subst, suc, sym, tells_nothing, Told, told_first, told_next, Transmit, true}
+use Terms.{unit_acts, unit_named, unit_over, UnitBody, UnitPlace, Units, Unmask, value_of, where_owed, whether_as}
+use Terms.{with_holds, word_of, Works, World, zero, ℕ}
 use Rattle.spi_driver.specs.laws.services.UnitFrames.{Frame, Handles, HasDone, IsFor, Mains, OpensAt, OwedAt, Progress}
 use Rattle.spi_driver.specs.laws.services.UnitFrames.{Rests, Transmits, ahead_holds, and_other, at, holds_by, is_met}
 use Rattle.spi_driver.specs.laws.services.UnitFrames.{opens_holds, served_ahead, told_list, unit_bodies, unit_spot_at}
@@ -394,14 +393,12 @@ module _ (a : Starting) (b : Serving) (d : SpiTable) (fits : FitsSpi d) where
         at_first true sync async = inr (27, none_served d fits below chip w s h 1 sync, goes_so (27 ∷ []) 0 (omega arith) async (refl, λ e. refl))
         at_first false other async = inl (goes_so [] 0 (omega arith) async (refl, λ e. absurd (let f = sym other ∙ e in cc)))
 
-        at_second : (z : Bool) → is_sync_unit d 1 ≡ z → is_sync_unit d 0 ≡ true → Either_acts 1 z
-        at_second true sync first = inl (ends_so 1 first sync)
-        at_second false async first = inr (26, none_served d fits below chip w s h 0 first, goes_so (26 ∷ []) 1 (omega arith) async (refl, refl))
-
         by : (e : FrameRole) (u : ℕ) (o : Origin Call) → IsFor u e o → e ≡ Main → u ≡ first_served d
             → let r = unit_acts (at d e u place.Act) (is_sync_unit d u) in Work o fresh_history (Load STATE) (word_of chip STATE) r ⊎ ((l : ℕ) × (ready w s l ≡ false) × Work o (record fresh_history { missed = l ∷ [] }) (Load STATE) (word_of chip STATE) r)
         by Main zero _ Mains is first = let async = first_async (is_sync_unit d 0) refl first in subst (λ z. Either_acts 0 z) (sym async) (at_first (is_sync_unit d 1) refl async)
-        by Main (suc zero) _ Mains is first = at_second (is_sync_unit d 1) refl (first_sync (is_sync_unit d 0) refl first)
+        by Main (suc zero) _ Mains is first = whether_as (is_sync_unit d 1) (λ z. Either_acts 1 z)
+            (λ sync. inl (ends_so 1 (first_sync (is_sync_unit d 0) refl first) sync))
+            (λ async. inr (26, none_served d fits below chip w s h 0 (first_sync (is_sync_unit d 0) refl first), goes_so (26 ∷ []) 1 (omega arith) async (refl, refl)))
         by Main (suc (suc u)) _ Mains is first = absurd (none_past (is_sync_unit d 0) u first)
         by _ u o for is first = absurd (cc)
 

@@ -1,5 +1,6 @@
 -- What a driver that is made of a sound configuration is: the places of its channels' words, its jobs and its sequences.
--- Used by board_promises: proofs/Kept, mcal_system: proofs/Resting, mcal_drivers: proofs/SoundSerial and 1 more.
+-- From spi_sequences: words.ConfigurationFits, spi_sequences: words.WordsOfModule.
+-- Used by board_promises: proofs/Kept, mcal_drivers: proofs/Joining, mcal_drivers: proofs/SoundSerial and 1 more.
 use Rattle.std.proofs.Common.{◌≡◌, ◌+◌, ◌*◌, ◌<◌, ◌≤◌, ◌==◌, [], ◌∷◌, ◌∙◌, if◌then◌else◌}
 use Rattle.spi_driver.specs.Terms
 use Terms.{after, All, ap, AreDifferent, arith, banked, before, block_of, blocks_of, Bool, byte_at, Channel}

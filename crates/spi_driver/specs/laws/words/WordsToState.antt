@@ -1,17 +1,17 @@
 -- What the words hold of channels, and which are in use, is the machine's.
--- From spi_sequences: words.WordsToState.
--- Used by bookkeeping.Joined, told/rt, proofs/driver/SpiDriver/internal/Answers.
+-- From spi_sequences: words.AllSequences, spi_sequences: words.WordsOfModule and 7 more.
+-- Used by bookkeeping.Joined, src/told.rt, proofs/driver/SpiDriver/internal/Answers.
 use Rattle.std.proofs.Common.{◌≡◌, ◌+◌, ◌<◌, ◌≤◌, ◌%◌, ◌==◌, ◌&&◌, ◌||◌, [], ◌∷◌, ◌∙◌, ◌⊎◌, if◌then◌else◌}
 use Rattle.spi_driver.specs.Terms
 use Terms.{all_carried, all_cases, all_of, all_pending, and_parts, any_in, ap, arith, bank_of, bank_word, Banks}
 use Terms.{BanksAgree, Bool, carried_at, carries_channel, Carrying, Channel, channel_at, channel_number, channel_of}
 use Terms.{ChannelList, channels_by, channels_of, Chip, Contains, control_word, entry_carried, false, first-at}
-use Terms.{FitsSpi, get_contained, get_or_default, has_channel, inl, inr, internal_word, is_in_use, is_off}
-use Terms.{Job, job_number, job_of, JobList, jobs_by, jobs_list, jobs_of, length, length-take-le, List, list_any}
-use Terms.{list_by, list_of, Memory, Mode, mode_word, nat_lt, nat_tests, None, none_under_way, not, number_there}
-use Terms.{of_sixteen, Off, Option, PENDING, Pending, Placed, placed_of, Received, refl, Reservations, Sent}
-use Terms.{Sequence, sequence_of, sequence_word, Side, slice_get, slice_index_or, Some, some_is, SpiRepresents}
-use Terms.{SpiState, SpiTable, STATE, subst, suc, sym, trio_fits, trio_of, true, uses_channel, view, word_of, WORDS}
+use Terms.{FitsSpi, get_contained, get_or_default, has_channel, inl, inr, internal_word, is_in_use, is_off, Job}
+use Terms.{job_number, job_of, JobList, jobs_by, jobs_list, jobs_of, length, length-take-le, List, list_any, list_by}
+use Terms.{list_of, Memory, Mode, mode_word, nat_lt, nat_tests, None, none_under_way, not, number_there, of_sixteen}
+use Terms.{Off, Option, PENDING, Pending, Placed, placed_of, Received, refl, Reservations, Sent, Sequence}
+use Terms.{sequence_of, sequence_word, Side, slice_get, slice_index_or, Some, some_is, SpiRepresents, SpiState}
+use Terms.{SpiTable, STATE, subst, suc, sym, trio_fits, trio_of, true, uses_channel, view, whether, word_of, WORDS}
 use Terms.{World, zero, ℕ}
 use Rattle.word_shapes.specs.TripleBuffer as trio
 use Rattle.spi_machine.specs.State as machine
@@ -71,7 +71,9 @@ any_upto p (suc n) = p n || any_upto p n
 
 upto_in : (p : ℕ → Bool) (n i : ℕ) → i < n → p i ≡ true → any_upto p n ≡ true
 upto_in p zero i lt e = absurd (omega (arith, lt))
-upto_in p (suc n) i lt e = by (nat_lt i n) refl (λ less. upto_in p n i less e)
+upto_in p (suc n) i lt e = whether (nat_lt i n)
+    (λ f. or_true (p n) (upto_in p n i (said.is_below i n f) e))
+    (λ f. ap (λ q. q || any_upto p n) (ap p (last i n lt (said.is_past i n f)) ∙ e))
   where
     or_true : (x : Bool) {y : Bool} → y ≡ true → x || y ≡ true
     or_true true f = refl
@@ -79,10 +81,6 @@ upto_in p (suc n) i lt e = by (nat_lt i n) refl (λ less. upto_in p n i less e)
 
     last : (i n : ℕ) → i < suc n → n ≤ i → n ≡ i
     last i n l f = omega (arith, l, f)
-
-    by : (b : Bool) → nat_lt i n ≡ b → (i < n → any_upto p n ≡ true) → p n || any_upto p n ≡ true
-    by true f rest = or_true (p n) (rest (said.is_below i n f))
-    by false f rest = ap (λ q. q || any_upto p n) (ap p (last i n lt (said.is_past i n f)) ∙ e)
 
 upto_some : (p : ℕ → Bool) (n : ℕ) → any_upto p n ≡ true → (i : ℕ) × (i < n) × (p i ≡ true)
 upto_some p zero e = absurd (cc)

@@ -1,6 +1,6 @@
 -- The law is proved over the definitions.
 use Rattle.spi_machine.proofs.Idle.{renewed}
-use Rattle.spi_machine.proofs.Turns.{happens-turn}
+use Rattle.spi_machine.proofs.SequenceChanges.{happens-turn}
 use Rattle.spi_machine.proofs.laws.one_end_for_each_request.Goals as goal
 
 pub returns : goal.returns

@@ -1,6 +1,6 @@
 -- A job's last word is kept while the next one's first word is in transfer: the words stand as if the unit had been freed
 -- before, but for its own.
--- From spi_serving: services.FreedUnit, spi_serving: words.LastKept, spi_serving: words.AllKept.
+-- From service_outline: Words, spi_serving: words.AllKept, spi_serving: words.LastKept and 5 more.
 -- Used by services.SendGoesOn.
 use Rattle.std.proofs.Common.{◌≡◌, ◌≢◌, ◌+◌, ◌≤◌, ◌∙◌, ◌⊎◌, if◌then◌else◌}
 use Rattle.spi_sending.specs.Terms

@@ -1,6 +1,6 @@
 -- The unit of a call that waits carries out its sequence, so far as the frame says.
 -- From bookkeeping.HeldWord, services.SendWindows, spi_serving: bookkeeping.UnderWay.
--- Used by services.SendFirst, services.SendFurther, services.SendLast.
+-- Used by services.SendFirst, services.SendFurther, services.SendGoesOn, services.SendKeeps, services.SendLast.
 use Rattle.std.proofs.Common.{◌≡◌, ◌||◌, ◌∷◌, ◌∙◌, if◌then◌else◌}
 use Rattle.spi_sending.specs.Terms
 use Terms.{ap, Bool, Called, carried_at, carried_for, Carrying, Chip, entry_carried, false, FitsSpi, fresh_history}

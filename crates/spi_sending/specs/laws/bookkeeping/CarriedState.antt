@@ -1,16 +1,18 @@
 -- A unit carries out a sequence, from a job on: the state is sound, and the words stand for it.
--- From bookkeeping.HeldWord.
--- Used by services.SendStarts, services.SendGoesOn.
+-- From spi_sequences: words.ListTests, spi_sequences: words.AllSequences, spi_sequences: words.JobPlaces and 3 more.
+-- Used by services.SendGoesOn, services.SendStarts.
 use Rattle.std.proofs.Common.{◌≡◌, ◌≢◌, ◌<◌, ◌≤◌, ◌==◌, ◌||◌, ◌∷◌, ◌∙◌, ◌⊎◌, if◌then◌else◌}
 use Rattle.spi_sending.specs.Terms
-use Terms.{all_carried, AreCarried, all_cases, all_of, all_pending, AnswerName, any_in, any_none, any_some, ap, at_left, Bool, cancelled_bit}
-use Terms.{Contains, Contains-get_or, entries_of, false, FitsSpi, for_unit, get_or_default, Going, has_mark, inl, inr, is_below, is_left, is_number, is_of}
-use Terms.{is_off, is_on_unit, is_past, is_pending, is_sent, is_sync_sequence, is_sync_unit, IsEntry, IsOfSequence, IsSoundState, job_code}
-use Terms.{job_of, job_on, job_result, job_small, job_word, jobs_of, left_at, LeftAt, length, List, list_any, MARKS, Memory}
-use Terms.{nat_lt, next_in, NEXTS, None, none_any, not_true, one_unit, Option, order_word, other_number, Pending}
-use Terms.{PendingAgrees, Position, refl, Reservations, RunsBy, RunsNext, same_number, same_or_other, same_Some, sequence_code, sequence_result, sequence_word}
-use Terms.{SequencesAgree, slice_index_or, Some, SpiJobOk, SpiJobPending, SpiJobQueued, SpiSeqPending, SpiTable}
-use Terms.{started_bit, subst, sym, true, unit_of_sequence, View, ℕ}
+use Terms.{all_carried, all_cases, all_of, all_pending, AnswerName, any_in, any_none, any_some, ap, AreCarried}
+use Terms.{at_left, Bool, cancelled_bit, cases, Contains, Contains-get_or, entries_of, false, FitsSpi, for_unit}
+use Terms.{get_or_default, Going, has_mark, inl, inr, is_below, is_left, is_number, is_of, is_off, is_on_unit}
+use Terms.{is_past, is_pending, is_sent, is_sync_sequence, is_sync_unit, IsEntry, IsOfSequence, IsSoundState}
+use Terms.{job_code, job_of, job_on, job_result, job_small, job_word, jobs_of, left_at, LeftAt, length, List}
+use Terms.{list_any, MARKS, Memory, nat_lt, next_in, NEXTS, None, none_any, not_true, one_unit, Option, order_word}
+use Terms.{other_number, Pending, PendingAgrees, Position, refl, Reservations, RunsBy, RunsNext, same_number}
+use Terms.{same_or_other, same_Some, sequence_code, sequence_result, sequence_word, SequencesAgree, slice_index_or}
+use Terms.{Some, SpiJobOk, SpiJobPending, SpiJobQueued, SpiSeqPending, SpiTable, started_bit, subst, sym, true}
+use Terms.{unit_of_sequence, View, whether, ℕ}
 use Rattle.spi_sending.specs.laws.{bookkeeping.HeldWord.{sending_of}}
 use Rattle.spi_sequences.specs.Refinement.{IsLast as IsLastResult}
 use Rattle.word_shapes.specs.PriorityQueue as ranked
@@ -162,11 +164,9 @@ module _ (d : SpiTable) (fits : FitsSpi d) (v : View) (h : IsSoundState d v) (u 
 
   -- of its own those have run that stand before its next one
   run_before : (j : ℕ) (o : OwnAt j) → list_any (is_left d j) (all_of taken_view) ≡ false → o.place < p.next
-  run_before j o none = by (nat_lt o.place p.next) refl
-    where
-      by : (b : Bool) → nat_lt o.place p.next ≡ b → o.place < p.next
-      by true e = is_below o.place p.next e
-      by false e = absurd (let f = sym (any_none (is_left d j) (all_of taken_view) none p all_own) ∙ left_at own p.next o.place j o.within (is_past o.place p.next e) o.is in cc)
+  run_before j o none = whether (nat_lt o.place p.next)
+      (λ e. is_below o.place p.next e)
+      (λ e. absurd (let f = sym (any_none (is_left d j) (all_of taken_view) none p all_own) ∙ left_at own p.next o.place j o.within (is_past o.place p.next e) o.is in cc))
 
   -- ---- the state
 
@@ -181,8 +181,12 @@ module _ (d : SpiTable) (fits : FitsSpi d) (v : View) (h : IsSoundState d v) (u 
     requests = h.requests;
     results = record {
       queued = λ x i there le lt. t.beside (slice_index_or (jobs_of d x.sequence) i 0) (none_own d fits v h u p.sequence t.may x i (all_pending v x there) (pending_other d fits v h u p.sequence t.may x there) lt) ∙ h.results.queued x i there le lt;
-      last = λ j none. last_by j none (is_own j) refl;
-      named = λ q lt. names q lt (same_or_other q p.sequence);
+      last = λ j none. whether (is_own j)
+          (λ e. let o = own_at j e in subst (λ k. IsLastResult (job_result jobs k)) o.is (t.behind o.place (run_before j o none) o.within))
+          (λ e. subst (λ x. IsLastResult x) (sym (t.beside j e)) (h.results.last j (none_left j e none)));
+      named = λ q lt. cases (same_or_other q p.sequence)
+          (λ e. subst (λ n. IsOfSequence (sequence_result sequences n)) (sym e) (subst (λ x. IsOfSequence x) (sym t.told) tt))
+          (λ ne. subst (λ x. IsOfSequence x) (sym (t.untold q ne)) (h.results.named q lt));
       sequences = λ q lt. represents q lt (same_or_other q p.sequence);
     };
     carries = record {
@@ -196,24 +200,14 @@ module _ (d : SpiTable) (fits : FitsSpi d) (v : View) (h : IsSoundState d v) (u 
     off = λ e. absurd (let f = sym t.on ∙ e in cc);
   }
     where
-      last_by : (j : ℕ) → list_any (is_left d j) (all_of taken_view) ≡ false → (b : Bool) → is_own j ≡ b → IsLastResult (job_result jobs j)
-      last_by j none true e = let o = own_at j e in subst (λ k. IsLastResult (job_result jobs k)) o.is (t.behind o.place (run_before j o none) o.within)
-      last_by j none false e = subst (λ x. IsLastResult x) (sym (t.beside j e)) (h.results.last j (none_left j e none))
-
-      names : (q : ℕ) → q < 8 → (q ≡ p.sequence) ⊎ (q ≢ p.sequence) → IsOfSequence (sequence_result sequences q)
-      names q lt (inl e) = subst (λ n. IsOfSequence (sequence_result sequences n)) (sym e) (subst (λ x. IsOfSequence x) (sym t.told) tt)
-      names q lt (inr ne) = subst (λ x. IsOfSequence x) (sym (t.untold q ne)) (h.results.named q lt)
-
       still : (q : ℕ) → q ≢ p.sequence → is_pending q (all_of taken_view) ≡ is_pending q (all_of v)
-      still q ne = by (is_pending q (all_of v)) refl
+      still q ne = whether (is_pending q (all_of v))
+          (λ e. let r = any_some (is_of q) (all_of v) e in any_in (is_of q) (all_of taken_view) r.0 (all_there r.0 r.1 (λ f. ne (sym (is_number r.0.sequence q r.2) ∙ f))) r.2 ∙ sym e)
+          (λ e. none_any (is_of q) (all_of taken_view) (λ x there. no_other e x (all_back x there)) ∙ sym e)
         where
           no_other : is_pending q (all_of v) ≡ false → (x : Pending) → (Contains (all_of v) x × (x.sequence ≢ p.sequence)) ⊎ (p ≡ x) → is_of q x ≡ false
           no_other e x (inl (there, other)) = any_none (is_of q) (all_of v) e x there
           no_other e x (inr f) = subst (λ z. is_of q z ≡ false) f (other_number p.sequence q (λ g. ne (sym g)))
-
-          by : (b : Bool) → is_pending q (all_of v) ≡ b → is_pending q (all_of taken_view) ≡ is_pending q (all_of v)
-          by true e = let r = any_some (is_of q) (all_of v) e in any_in (is_of q) (all_of taken_view) r.0 (all_there r.0 r.1 (λ f. ne (sym (is_number r.0.sequence q r.2) ∙ f))) r.2 ∙ sym e
-          by false e = none_any (is_of q) (all_of taken_view) (λ x there. no_other e x (all_back x there)) ∙ sym e
 
       represents : (q : ℕ) → q < 8 → (q ≡ p.sequence) ⊎ (q ≢ p.sequence) → (sequence_result sequences q ≡ SpiSeqPending → is_pending q (all_of taken_view) ≡ true) × (is_pending q (all_of taken_view) ≡ true → sequence_result sequences q ≡ SpiSeqPending)
       represents q lt (inl e) = (
@@ -245,11 +239,9 @@ module _ (d : SpiTable) (fits : FitsSpi d) (v : View) (h : IsSoundState d v) (u 
       runs false e = e
 
   pub taken_carriers : (held : Reservations) (at : Position) (bs : List ℕ) (failed : Option Bool) (device : ℕ) → ((n : ℕ) (x : Pending) → n ≢ u → v.begun n ≡ Some x → list_any (λ z. is_sent x.sequence z.what) held ≡ true) → AreCarried taken_view (sending_of u p.sequence p.next at bs failed device ∷ held)
-  taken_carriers held at bs failed device below n x e = by (same_or_other n u)
-    where
-      by : (n ≡ u) ⊎ (n ≢ u) → list_any (λ z. is_sent x.sequence z.what) (sending_of u p.sequence p.next at bs failed device ∷ held) ≡ true
-      by (inl f) = ap (λ b. b || list_any (λ z. is_sent x.sequence z.what) held) (ap (λ (z : Pending). p.sequence == z.sequence) (sym (same_Some p x (sym t.here ∙ ap begun (sym f) ∙ e))) ∙ same_number p.sequence)
-      by (inr ne) = or_right (p.sequence == x.sequence) (list_any (λ z. is_sent x.sequence z.what) held) (below n x ne (sym (t.others n ne) ∙ e))
+  taken_carriers held at bs failed device below n x e = cases (same_or_other n u)
+      (λ f. ap (λ b. b || list_any (λ z. is_sent x.sequence z.what) held) (ap (λ (z : Pending). p.sequence == z.sequence) (sym (same_Some p x (sym t.here ∙ ap begun (sym f) ∙ e))) ∙ same_number p.sequence))
+      (λ ne. or_right (p.sequence == x.sequence) (list_any (λ z. is_sent x.sequence z.what) held) (below n x ne (sym (t.others n ne) ∙ e)))
 
   -- ---- the words
 
@@ -277,13 +269,13 @@ module _ (d : SpiTable) (fits : FitsSpi d) (v : View) (h : IsSoundState d v) (u 
     job_by j lt none true e = let o = own_at j e in subst (λ k. m1 (job_word k) ≡ job_code (job_result jobs k)) o.is (w.behind o.place (run_before j o none) o.within)
     job_by j lt none false e = w.beside j lt e ∙ a.jobs j lt (none_left j e none) ∙ ap job_code (sym (t.beside j e))
 
-    told_by : (q : ℕ) → q < 8 → (q ≡ p.sequence) ⊎ (q ≢ p.sequence) → m1 (sequence_word q) ≡ sequence_code (sequence_result sequences q)
-    told_by q lt (inl e) = ap (λ n. m1 (sequence_word n)) e ∙ w.told ∙ ap sequence_code (sym t.told) ∙ ap (λ n. sequence_code (sequence_result sequences n)) (sym e)
-    told_by q lt (inr ne) = w.untold q lt ne ∙ a.sequences q lt ∙ ap sequence_code (sym (t.untold q ne))
+    sequence_told : (q : ℕ) → q < 8 → (q ≡ p.sequence) ⊎ (q ≢ p.sequence) → m1 (sequence_word q) ≡ sequence_code (sequence_result sequences q)
+    sequence_told q lt (inl e) = ap (λ n. m1 (sequence_word n)) e ∙ w.told ∙ ap sequence_code (sym t.told) ∙ ap (λ n. sequence_code (sequence_result sequences n)) (sym e)
+    sequence_told q lt (inr ne) = w.untold q lt ne ∙ a.sequences q lt ∙ ap sequence_code (sym (t.untold q ne))
 
     pub taken_words : SequencesAgree d m1 taken_view
     taken_words = record {
-      sequences = λ q lt. told_by q lt (same_or_other q p.sequence);
+      sequences = λ q lt. sequence_told q lt (same_or_other q p.sequence);
       pending = pending_words;
       begun = λ n x e. begun_words n x e (same_or_other n u);
       had = λ x i there le lt. had_words x i (all_back x there) le lt;

@@ -1,6 +1,6 @@
 -- What a frame holds that waits for a word: how it changes, and what it says of the unit's words.
--- From hardware.WaitedWord.
--- Used by services.SendSteps, services.SendAround, services.SendFurther.
+-- From spi_serving: bookkeeping.UnderWay, spi_serving: words.Positions, spi_sequences: words.PendingWords and 4 more.
+-- Used by services.SendSteps, services.SendAround, services.SendFurther, services.SendGoesOn and 9 more.
 use Rattle.std.proofs.Common.{◌≡◌, ◌/◌, ◌%◌, ◌<◌, ◌≤◌, ◌==◌, ◌∷◌, ◌∙◌, if◌then◌else◌}
 use Rattle.spi_sending.specs.Terms
 use Terms.{agrees_at, ap, arith, Bool, Call, Called, carried_at, CarriesAgrees, Chip, done_alike, false, FitsSpi}

@@ -1,6 +1,7 @@
 -- The frames below one that waits wait for words of other units; their reservations stay where those units' words and
 -- registers do.
--- Used by bookkeeping.SelectsNext, services.SendFurther.
+-- From spi_sequences: services.StartSteps, spi_sequences: words.ListTests.
+-- Used by bookkeeping.SelectsNext, services.SendFurther, services.SendGoesOn, services.SendLast.
 use Rattle.std.proofs.Common.{◌≡◌, ◌≢◌, ◌<◌, ◌==◌, [], ◌∷◌, ◌∙◌}
 use Rattle.spi_sending.specs.Terms
 use Terms.{AllSend, ap, carried_at, Channel, channel_of, Chip, false, Going, held_word}

@@ -1,4 +1,5 @@
 -- What a job sends stays as it is where the words that came in are stored.
+-- From spi_sequences: words.FirstParts, spi_sequences: hardware.StableUnderHardware and 2 more.
 -- Used by services.SendGoesOn.
 use Rattle.std.proofs.Common.{◌≡◌, ◌∙◌, if◌then◌else◌}
 use Rattle.spi_sending.specs.Terms

@@ -1,7 +1,7 @@
 -- Around the steps of a call that sends a sequence and waits: its frame may make them, they turn the mask as they should,
 -- what makes no event is calm, and the hardware leaves its places.
--- From bookkeeping.HeldWord.
--- Used by services.SendSteps, services.SendRight, services.SendFree, services.SendWindows and 9 more.
+-- From spi_starting: services.StartAround, bookkeeping.HeldWord, spi_sequences: services.SyncSteps and 7 more.
+-- Used by services.SendRight, services.SendSteps, services.SendFree, services.SendWindows and 9 more.
 use Rattle.std.proofs.Common.{◌≡◌, ◌≢◌, ◌<◌, ◌==◌, ◌&&◌, ◌||◌, ◌∷◌, [], ◌∙◌, ◌⊎◌, if◌then◌else◌}
 use Rattle.spi_sending.specs.Terms
 use Terms.{ap, arith, Arrived, asking, AssertedAt, begins_word, below_two, Bool, Call, Called, carried_at, channel_of}

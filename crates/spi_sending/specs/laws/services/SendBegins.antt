@@ -1,19 +1,19 @@
 -- Where a call that sends a sequence and waits begins, and that it makes no more steps than it may.
--- From services.SendAround, spi_sequences: words.WordsOfModule.
+-- From spi_sequences: words.ListTests, spi_sequences: services.SyncSteps, services.SendAround and 5 more.
 -- Used by spi_driver: services.SendPart.
 use Rattle.std.proofs.Common.{◌≡◌, ◌+◌, ◌-◌, ◌*◌, ◌<◌, ◌≤◌, ◌==◌, ◌||◌, ◌∷◌, [], ◌∙◌, if◌then◌else◌}
 use Rattle.std.proofs.Common.{sum_by, take_all}
 use Rattle.std.proofs.lemmas.List.Sums.{sum_by_more}
 use Rattle.spi_sending.specs.Terms
-use Terms.{AllLet, AllRight, ap, arith, blocks, Bool, Call, Called, Channel, channel_number, channel_of}
-use Terms.{channels_by, channels_of, ChannelState, Chip, class_of, false, first_place, FitsSpi}
-use Terms.{fresh_history, get_contained, get_there, has_channel, HeldRight, is_below, is_number, is_off, is_past}
-use Terms.{is_sent, is_some, is_sync_sequence, Is_this_frame, Job, job_at_place, job_number, job_of, job_steps}
-use Terms.{jobs_by, jobs_in, jobs_list, jobs_of, length, length-take-le, length_by, List, list_any}
-use Terms.{list_by, list_of, mark_of, Mode, nat_lt, None, Option, or_else, placed_by, placed_of, refl}
-use Terms.{Reservation, Reservations, ReservedBy, same_number, Sending, sent_steps, Sequence, sequence_of, slice_get, slice_index_or}
-use Terms.{Some, some_of, spi_setting, SpiRepresents, SpiState, SpiTable, subst, suc, sym, sync_begins, SyncTransmit}
-use Terms.{take, true, unit_of_sequence, World, zero, ℕ}
+use Terms.{AllLet, AllRight, ap, arith, blocks, Bool, Call, Called, Channel, channel_number, channel_of, channels_by}
+use Terms.{channels_of, ChannelState, Chip, class_of, false, first_place, FitsSpi, fresh_history, get_contained}
+use Terms.{get_there, has_channel, HeldRight, is_below, is_number, is_off, is_past, is_sent, is_some}
+use Terms.{is_sync_sequence, Is_this_frame, Job, job_at_place, job_number, job_of, job_steps, jobs_by, jobs_in}
+use Terms.{jobs_list, jobs_of, length, length-take-le, length_by, List, list_any, list_by, list_of, mark_of, Mode}
+use Terms.{nat_lt, None, Option, or_else, placed_by, placed_of, refl, Reservation, Reservations, ReservedBy}
+use Terms.{same_number, Sending, sent_steps, Sequence, sequence_of, slice_get, slice_index_or, Some, some_of}
+use Terms.{spi_setting, SpiRepresents, SpiState, SpiTable, subst, suc, sym, sync_begins, SyncTransmit, take, true}
+use Terms.{unit_of_sequence, whether, World, zero, ℕ}
 use Rattle.spi_sending.specs.Sending.{at_least_one, from_word, jobs_left, size_at, sync_bodies, words_left}
 use Rattle.spi_sending.specs.laws.services.SendAround.{StandAt}
 use Rattle.spi_machine.specs.declared.call.Call.TheVariants as calls
@@ -23,17 +23,15 @@ use Rattle.spi_machine.specs.declared.call.Call.TheVariants as calls
 module _ (d : SpiTable) (mode : Mode) (cs : List ChannelState) (q : ℕ) where
   -- no frame below that would block it sends it
   not_sent : (h : ReservedBy Call Reservation) (x : Reservation) → HeldRight d mode cs h x → blocks (class_of (calls.Sequence q SyncTransmit)) (mark_of (spi_setting d) h.by) ≡ false → is_sent q x ≡ false
-  not_sent h (Sending u p n at banks failed device) right l = by (p == q) refl
+  not_sent h (Sending u p n at banks failed device) right l = whether (p == q)
+      (λ e. absurd (let f = same e in let g = other in cc))
+      (λ e. e)
     where
       same : (p == q) ≡ true → (q == p) ≡ true
       same e = ap (λ k. q == k) (is_number p q e) ∙ same_number q
 
       other : (q == p) ≡ false
       other = subst (λ o. blocks (class_of (calls.Sequence q SyncTransmit)) (mark_of (spi_setting d) o) ≡ false) right.0 l
-
-      by : (a : Bool) → (p == q) ≡ a → (p == q) ≡ false
-      by true e = absurd (let f = same e in let g = other in cc)
-      by false e = e
   not_sent h _ right l = refl
 
   pub none_sends : (below : Reservations) → AllRight d mode cs below → AllLet (spi_setting d) (class_of (calls.Sequence q SyncTransmit)) below → list_any (λ h. is_sent q h.what) below ≡ false

@@ -1,7 +1,7 @@
 -- A job of a call that waits has begun on a unit that was between jobs: the moves that its window owes from there, and the
 -- agreement after them.
--- From services.SendReady, spi_starting: ToBegin, spi_starting: words.PinnedBanks, spi_starting: words.BegunWords.
--- Used by services.SendStarts, services.SendGoesOn.
+-- From spi_starting: words.PinnedBanks, spi_sequences: words.WordsOfModule, service_outline: Words and 15 more.
+-- Used by services.SendGoesOn, services.SendStarts.
 use Rattle.std.proofs.Common.{◌≡◌, ◌≢◌, ◌+◌, ◌<◌, ◌≤◌, ◌∷◌, ◌∙◌, ◌⊎◌}
 use Rattle.spi_sending.specs.Terms
 use Terms.{all_carried, AllSend, ap, AreCarried, arith, as_read, asked_unit, banks_held, Bool, carried_at, CarriesAgrees}

@@ -1,6 +1,6 @@
 -- The first word of a job begins for a call that waits: the event of its first job, and the word on the wire.
--- From bookkeeping.CarriedOut, services.SendFree, services.SendFurther, services.SendWindows, spi_serving: services.JobLeft.
--- Used by services.SendStarts, services.SendGoesOn.
+-- From spi_sequences: words.JobPlaces, bookkeeping.CarriedOut, bookkeeping.HeldWord, services.SendFree and 7 more.
+-- Used by services.SendGoesOn, services.SendStarts.
 use Rattle.std.proofs.Common.{◌≡◌, ◌+◌, ◌-◌, ◌%◌, ◌^◌, ◌<◌, ◌==◌, ◌&&◌, ◌||◌, ◌∷◌, ◌∙◌, if◌then◌else◌}
 use Rattle.spi_sending.specs.Terms
 use Terms.{ap, arith, Arrived, as_begun, as_requested, Bool, Called, carried_at, carried_for, carries_job, Carrying}

@@ -1,6 +1,6 @@
 -- A call that sends a sequence looks whether its unit is free: it finds an error, or the first word of its first job.
--- From services.SendAround.
--- Used by services.SendSteps, services.SendFirst.
+-- From spi_sequences: words.JobPlaces, spi_sequences: words.ListTests, services.SendAround and 8 more.
+-- Used by services.SendSteps, services.SendFirst, services.SendGoesOn, services.SendStarts.
 use Rattle.std.proofs.Common.{◌≡◌, ◌%◌, ◌^◌, ◌<◌, ◌≤◌, ◌==◌, ◌||◌, [], ◌∙◌, if◌then◌else◌}
 use Rattle.spi_sending.specs.Terms
 use Terms.{act_of, answer_refused, ap, arith, BodyTaken, Bool, Call, Called, carried_at, carried_for, CarriesAgrees}
@@ -8,12 +8,13 @@ use Terms.{Carrying, Channel, channel_at_place, channel_of, channels_of, Chip, E
 use Terms.{error_of_sending, error_told, false, finding_first, first_is, first_placed, first_there, first_word}
 use Terms.{FitsSpi, found, fresh_history, Going, GoingAgrees, has_channel, is_number, is_of, is_off, is_sent, is_some}
 use Terms.{is_sync_sequence, is_sync_unit, job_at_place, job_place, job_unit, job_words, jobs_in, jobs_list, jobs_of}
-use Terms.{length, List, list_any, Load, LooksAt, may_end, mod-mod, named, part_at, next_job, no_word, None, not, not_sent}
-use Terms.{not_true, Option, other_number, outcome, owed_error, owing, Pending, placed_of, Position, refl, reporting}
-use Terms.{requested, Reservations, run_carried, RunAgrees, running_word, sending_ends, sent, Sequence, sequence_of}
-use Terms.{slice_get, slice_index_or, Some, spi_basis, spi_machine, SpiRepresents, SpiState, SpiSyncTransmit, SpiTable}
-use Terms.{subst, sym, sync_finds, sync_frees, SyncBody, SyncPlace, SyncTransmit, tells_error, TellsAs, true, unit_at}
-use Terms.{unit_few, unit_of_sequence, will_give, word_of, Works, World, ℕ}
+use Terms.{length, List, list_any, Load, LooksAt, may_end, mod-mod, named, next_job, no_word, None, not, not_sent}
+use Terms.{not_true, Option, other_number, outcome, owed_error, owing, part_at, Pending, placed_of, Position, refl}
+use Terms.{reporting, requested, Reservations, run_carried, RunAgrees, running_word, sending_ends, sent, Sequence}
+use Terms.{sequence_of, slice_get, slice_index_or, Some, some_or_none, spi_basis, spi_machine, SpiRepresents}
+use Terms.{SpiState, SpiSyncTransmit, SpiTable, subst, sym, sync_finds, sync_frees, SyncBody, SyncPlace, SyncTransmit}
+use Terms.{tells_error, TellsAs, true, unit_at, unit_few, unit_of_sequence, whether_as, will_give, word_of, Works}
+use Terms.{World, ℕ}
 use Rattle.spi_sending.specs.Sending.{IsSeeking, IsSender}
 use Rattle.spi_sending.specs.laws.services.SendAround.{body, V}
 use Rattle.spi_serving.specs.laws.bookkeeping.JobEnd.{jobs_count}
@@ -48,11 +49,9 @@ module _ (d : SpiTable) (fits : FitsSpi d) (held : Reservations) (chip : Chip) (
   first_channel = ap (λ j. channel_at_place d j 0) (job_place d fits q n lt) ∙ first_placed d (unit_of_sequence d q) entry (job_unit d fits q n lt) first.0 at_entry
 
   looks_first : (b : ℕ) (k : Channel) → channel_of d b ≡ Some k → LooksAt d b k (finding_first (placed_of d b))
-  looks_first b k known = split (placed_of d b).channel.internal refl
-    where
-      split : (i : Bool) → (placed_of d b).channel.internal ≡ i → LooksAt d b k (if i then finds.Newest (placed_of d b) else finds.SetUp (placed_of d b))
-      split true e = (refl, sym (ap (λ z. z.internal) (has_channel d fits b k known)) ∙ e)
-      split false e = refl
+  looks_first b k known = whether_as (placed_of d b).channel.internal (λ i. LooksAt d b k (if i then finds.Newest (placed_of d b) else finds.SetUp (placed_of d b)))
+      (λ e. (refl, sym (ap (λ z. z.internal) (has_channel d fits b k known)) ∙ e))
+      (λ e. refl)
 
   -- its first word is that which a look at the channel gives, of the channel's width
   pub first_word_is : slice_index_or (job_words d s (job_at_place d q n)) 0 no_word ≡ first_word d s entry
@@ -164,8 +163,4 @@ module _ (d : SpiTable) (fits : FitsSpi d) (below : Reservations) (chip : Chip) 
       }
 
   pub looks_free : FreeMakes (word_of chip (running_word u)) (sync_frees (k place.Free) (word_of chip (running_word u) == 0))
-  looks_free = by (h.going u) refl
-    where
-      by : (o : Option Going) → h.going u ≡ o → FreeMakes (word_of chip (running_word u)) (sync_frees (k place.Free) (word_of chip (running_word u) == 0))
-      by None e = free e
-      by (Some g) e = taken g e
+  looks_free = some_or_none (h.going u) (λ g e. taken g e) (λ e. free e)

@@ -1,5 +1,6 @@
 -- A call that sends a sequence and waits: each step leaves fewer, whatever is loaded, and they are as many as the call
 -- may make.
+-- From spi_sequences: services.SyncSteps, spi_sequences: services.ServeSteps and 5 more.
 -- Used by services.SendRight.
 use Rattle.std.proofs.Common.{◌≡◌, ◌+◌, ◌-◌, ◌*◌, ◌<◌, ◌≤◌, ◌==◌, ◌&&◌, ◌∙◌, if◌then◌else◌}
 use Rattle.spi_sending.specs.Terms
@@ -8,10 +9,10 @@ use Terms.{channel_sent, channel_served, Event, false, Fewer, Find, find_gave, f
 use Terms.{fuel_at, further_of, goes, has_further_job, is_below, is_last_place, job_at_place, jobs_list, keep_few}
 use Terms.{keep_of, length_taken, less_fuel, list_of, LongBodies, nat_lt, nat_tests, next_job_of, None, Option}
 use Terms.{or_none, Placed, Position, refl, releasing, run_sent, Running, Sent, sent_owes, SequenceNext, serve_finds}
-use Terms.{serve_fuel, Served, ServePlace, ShortensTo, Some, spi_basis, SpiTable, Start, subst, suc, sym, sync_arrives}
-use Terms.{sync_at, sync_begun, sync_comes, sync_found, sync_frees, sync_goes_to, sync_job_over, sync_owes}
-use Terms.{sync_serves, sync_starts, sync_took, SyncBody, SyncPlace, Taker, taker_sent, true, unit_named, unpacked}
-use Terms.{with_taken, zero, ℕ}
+use Terms.{serve_fuel, Served, ServePlace, ShortensTo, Some, spi_basis, SpiTable, Start, subst, suc, sym}
+use Terms.{sync_arrives, sync_at, sync_begun, sync_comes, sync_found, sync_frees, sync_goes_to, sync_job_over}
+use Terms.{sync_owes, sync_serves, sync_starts, sync_took, SyncBody, SyncPlace, Taker, taker_sent, true, unit_named}
+use Terms.{unpacked, whether_as, with_taken, zero, ℕ}
 use Rattle.spi_sending.specs.Sending.{after_job, arrives_fuel, at_least_one, job_fuel, jobs_left, size_at}
 use Rattle.spi_sending.specs.Sending.{sync_bodies, sync_fuel, window_fuel, words_left}
 use Rattle.spi_jobs.specs.declared.finding.Find.TheVariants as finds
@@ -70,11 +71,9 @@ further_fewer d a =
 
 pub jobs_least : (d : SpiTable) (q n m : ℕ) → 24 ≤ jobs_left d q n m
 jobs_least d q n zero = omega arith
-jobs_least d q n (suc m) = by (nat_lt (n + 1) (jobs_list d q).count)
-  where
-    by : (b : Bool) → 24 ≤ (if b then 33 + 15 * words_left d (job_at_place d q (n + 1)) first_place + jobs_left d q (n + 1) m else 24)
-    by true = omega arith
-    by false = omega arith
+jobs_least d q n (suc m) = whether_as (nat_lt (n + 1) (jobs_list d q).count) (λ b. 24 ≤ (if b then 33 + 15 * words_left d (job_at_place d q (n + 1)) first_place + jobs_left d q (n + 1) m else 24))
+    (λ _. omega arith)
+    (λ _. omega arith)
 
 -- after a job that isn't the last one
 pub job_further : (d : SpiTable) (q n : ℕ) → n < 15 → nat_lt (n + 1) (jobs_list d q).count ≡ true → after_job d q n ≡ 33 + 15 * words_left d (job_at_place d q (n + 1)) first_place + after_job d q (n + 1)

@@ -1,25 +1,26 @@
 -- A further word of a job begins for a call that waits: the event, and the moves that the window owes after it.
--- From bookkeeping.HeldWord, bookkeeping.SentBeside, services.SendWindows, spi_serving: services.FurtherRight,
 -- spi_serving: services.FurtherBegun.
--- Used by services.SendSteps, services.SendFirst.
+-- From spi_serving: bookkeeping.MovedOn, spi_sequences: services.ServeSteps and 23 more.
+-- Used by services.SendFirst, services.SendSteps.
 use Rattle.std.proofs.Common.{◌≡◌, ◌≢◌, ◌+◌, ◌<◌, ◌==◌, ◌&&◌, ◌||◌, [], ◌∷◌, ◌++◌, ◌∙◌, ◌⊎◌, if◌then◌else◌}
 use Rattle.spi_sending.specs.Terms
 use Terms.{After, agrees_at, AllSend, ap, arith, Arrived, asked_word, At, at_is, bank_of, banks_held, Begun}
-use Terms.{begun_agrees, Bool, by_two, Called, carried_at, carried_for, carries_on, CarriesAgrees, Carrying, Channel}
-use Terms.{channel_next, channel_of, ChannelState, Chip, control_word, Destination, entry_carried, false, FitsSpi}
-use Terms.{for_at, free_bank, fresh_history, goes_further, goes_on, Going, going_here, going_other, going_with}
-use Terms.{GoingAgrees, happens, has_channel, has_ended, has_further, held_word, inl, inr, is_done, is_for, is_of}
-use Terms.{is_off, is_sync_unit, IsFurther, IsLike, IsSending, IsServed, item-other, item-same, job_of, JobWord, Keep}
-use Terms.{keep_ends, length, length-set, lets_of, List, may_go_on, Memory, moved_on, nat_tests, next_at, next_job}
-use Terms.{None, not, number_of, of_held, on_wire, one_job, one_part, Option, outcome_with, OwesWords}
-use Terms.{packed_position, Part, past_the_first, place_of, Placed, placed_of, pointwise, Position, position_word}
-use Terms.{Received, received_with, refl, Reservations, right_like, Run, run_at, run_carried, same_number}
-use Terms.{same_or_other, select_by, select_of, Sends, sends_on, sent_at, sent_from, sent_on, SerialData, serve_keeps}
-use Terms.{serve_lets, served_is, ServePlace, slice_get, slice_index_or, Some, SpiRepresents, SpiState, SpiTable}
-use Terms.{stands-move, start_by, start_of, Starts, Store, stored, stored_is, stored_like, stored_other, subst, sym}
-use Terms.{sync_owed, Take, take_gave, taken_before, taken_of, taken_same, taker_of, tells_nothing, ToServe, true}
-use Terms.{UnderWay, unit_at, unit_named, unit_of_sequence, unit_other, unit_run, UnitAgrees, unpacked, view, wire_at}
-use Terms.{some_is, with_carried, with_item, word_after, word_of, words_after, WordsAfter, World, Write, ℕ}
+use Terms.{begun_agrees, Bool, by_two, Called, carried_at, carried_for, carries_on, CarriesAgrees, Carrying, cases}
+use Terms.{Channel, channel_next, channel_of, ChannelState, Chip, control_word, Destination, entry_carried, false}
+use Terms.{FitsSpi, for_at, free_bank, fresh_history, goes_further, goes_on, Going, going_here, going_other}
+use Terms.{going_with, GoingAgrees, happens, has_channel, has_ended, has_further, held_word, inl, inr, is_done}
+use Terms.{is_for, is_of, is_off, is_sync_unit, IsFurther, IsLike, IsSending, IsServed, item-other, item-same, job_of}
+use Terms.{JobWord, Keep, keep_ends, length, length-set, lets_of, List, may_go_on, Memory, moved_on, nat_tests}
+use Terms.{next_at, next_job, None, not, number_of, of_held, on_wire, one_job, one_part, Option, outcome_with}
+use Terms.{OwesWords, packed_position, Part, past_the_first, place_of, Placed, placed_of, pointwise, Position}
+use Terms.{position_word, Received, received_with, refl, Reservations, right_like, Run, run_at, run_carried}
+use Terms.{same_number, same_or_other, select_by, select_of, Sends, sends_on, sent_at, sent_from, sent_on, SerialData}
+use Terms.{serve_keeps, serve_lets, served_is, ServePlace, slice_get, slice_index_or, Some, some_is, SpiRepresents}
+use Terms.{SpiState, SpiTable, stands-move, start_by, start_of, Starts, Store, stored, stored_is, stored_like}
+use Terms.{stored_other, subst, sym, sync_owed, Take, take_gave, taken_before, taken_of, taken_same, taker_of}
+use Terms.{tells_nothing, ToServe, true, UnderWay, unit_at, unit_named, unit_of_sequence, unit_other, unit_run}
+use Terms.{UnitAgrees, unpacked, view, wire_at, with_carried, with_item, word_after, word_of, words_after, WordsAfter}
+use Terms.{World, Write, ℕ}
 use Rattle.spi_sending.specs.Sending.{device_at, HasBank, IsAt, IsSender}
 use Rattle.spi_sending.specs.laws.bookkeeping.CarriedOut as carried_out
 use Rattle.spi_sending.specs.laws.bookkeeping.HeldWord as held_word_laws
@@ -63,11 +64,9 @@ module _ (s : SpiState) (u : ℕ) (x y : Carrying) (carried : carried_at s u ≡
   after = record (with_carried s u (Some y)) { channels = cs; wires = ws }
 
   begun_as : (view after).begun ≡ (view s).begun
-  begun_as = pointwise (view after).begun (view s).begun (λ n. by n (same_or_other n u))
-    where
-      by : (n : ℕ) → (n ≡ u) ⊎ (n ≢ u) → entry_carried (carried_at after n) ≡ entry_carried (carried_at s n)
-      by n (inl e) = subst (λ k. entry_carried (carried_at after k) ≡ entry_carried (carried_at s k)) (sym e) (ap entry_carried (item-same None s.carried u (Some y)) ∙ ap (λ z. Some z) same ∙ sym (ap entry_carried carried))
-      by n (inr ne) = ap entry_carried (item-other None s.carried u n (Some y) ne)
+  begun_as = pointwise (view after).begun (view s).begun (λ n. cases (same_or_other n u)
+      (λ e. subst (λ k. entry_carried (carried_at after k) ≡ entry_carried (carried_at s k)) (sym e) (ap entry_carried (item-same None s.carried u (Some y)) ∙ ap (λ z. Some z) same ∙ sym (ap entry_carried carried)))
+      (λ ne. ap entry_carried (item-other None s.carried u n (Some y) ne)))
 
   pub carried_view : IsLike cs s → view after ≡ view s
   carried_view like =

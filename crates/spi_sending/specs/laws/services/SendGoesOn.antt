@@ -1,32 +1,32 @@
 -- A further job of a sequence begins for a call that waits, and the job before has ended: what its window owes, and the
 -- agreement after it.
--- From services.SendBegun, services.SendFirst, services.SendKeeps, bookkeeping.AsFreed, bookkeeping.CarriedState and 3 more.
+-- From spi_serving: services.FreedUnit, spi_sequences: words.FirstParts and 42 more.
 -- Used by services.WindowsRight.
 use Rattle.std.proofs.Common.{◌≡◌, ◌≢◌, ◌+◌, ◌-◌, ◌%◌, ◌^◌, ◌<◌, ◌≤◌, ◌==◌, ◌||◌, [], ◌∷◌, ◌++◌, ◌∙◌, ◌⊎◌, if◌then◌else◌}
 use Rattle.spi_sending.specs.Terms
-use Terms.{after_last, all_carried, all_of, AllSend, AnswerName, any_in, ap, AreCarried, arith, Arrived, as_begun, At}
-use Terms.{as_read, aside_high, at_left, banks_held, banks_view, banks_words, begun, Bool, Call, Called, carried_at}
-use Terms.{carries_job, CarriesAgrees, Carrying, Channel, channel_of, channel_words, channels_of, ChannelState}
-use Terms.{Chip, chip_after, CommitsAfter, Contains, Contains-get_or, Destination, ends_here, entries_of}
-use Terms.{entry_carried, external_part, ExternalAgrees, false, first_place, FitsSpi, flat_map, fresh_history}
-use Terms.{from_order, goes_to_next, Going, going_here, going_left, going_next, going_other, going_words, happens}
-use Terms.{has_bit, held_word, holds-agree, holds_debt, HoldsLike, inl, inr, internal_part, InternalAgrees}
-use Terms.{InTransfer, is_for, is_left, is_number, is_of, is_off, is_on_unit, is_sent, is_sync_unit, IsAside}
-use Terms.{IsFilled, IsFree, IsLast, IsSending, IsServed, IsSoundState, IsStored, IsTold, item-other, item-same, job_at_place}
-use Terms.{job_code, job_of, job_place, job_result, job_small, job_unit, job_word, jobs_of, JobWord, keep_of}
-use Terms.{last_is, last_like, last_stored, LeftAt, length, length-set, length_by, List, list_any, MARKS, Memory}
-use Terms.{min, next_in, next_job, next_other, next_same, next_small, next_view, NEXTS, no_word, None, not_true}
-use Terms.{of_banks, of_held, of_set_up, of_sixteen, on_wire, one_job, one_place, Option, order_left, order_word}
-use Terms.{Origin, other_number, outcome_with, packed, part_at, past_the_first, Pending, place_of, placed_of}
-use Terms.{Position, position_word, refl, Reservations, right_like, Run, run_at, run_carried, run_of, RunAgrees}
-use Terms.{running_word, RunsNext, same_number, same_or_other, same_Some, Sends, SendsRight, sequence_code}
+use Terms.{after_last, all_carried, all_of, AllSend, AnswerName, any_in, ap, AreCarried, arith, Arrived, as_begun}
+use Terms.{as_read, aside_high, At, at_left, banks_held, banks_view, banks_words, begun, Bool, Call, Called}
+use Terms.{carried_at, carries_job, CarriesAgrees, Carrying, cases, Channel, channel_of, channel_words, channels_of}
+use Terms.{ChannelState, Chip, chip_after, CommitsAfter, Contains, Contains-get_or, Destination, ends_here}
+use Terms.{entries_of, entry_carried, external_part, ExternalAgrees, false, few_places, first_place, FitsSpi}
+use Terms.{flat_map, fresh_history, from_order, goes_to_next, Going, going_here, going_left, going_next, going_other}
+use Terms.{going_words, happens, has_bit, held_word, holds-agree, holds_debt, HoldsLike, inl, inr, internal_part}
+use Terms.{InternalAgrees, InTransfer, is_for, is_left, is_number, is_of, is_off, is_on_unit, is_sent, is_sync_unit}
+use Terms.{IsAside, IsFilled, IsFree, IsLast, IsSending, IsServed, IsSoundState, IsStored, IsTold, item-other}
+use Terms.{item-same, job_at_place, job_code, job_of, job_place, job_result, job_small, job_unit, job_word, jobs_of}
+use Terms.{JobWord, keep_of, last_is, last_like, last_stored, LeftAt, length, length-set, List, list_any, MARKS}
+use Terms.{Memory, min, next_in, next_job, next_other, next_same, next_small, next_view, NEXTS, no_word, None}
+use Terms.{not_true, of_banks, of_held, of_set_up, of_sixteen, on_wire, one_job, one_place, Option, order_left}
+use Terms.{order_word, Origin, other_number, outcome_with, packed, part_at, past_the_first, Pending, place_of}
+use Terms.{placed_of, Position, position_word, refl, Reservations, right_like, Run, run_at, run_carried, run_of}
+use Terms.{RunAgrees, running_word, RunsNext, same_number, same_or_other, same_Some, Sends, SendsRight, sequence_code}
 use Terms.{sequence_word, sequences_as, SequencesAgree, SerialData, set_up_code, set_up_or, set_up_word, SetUpFits}
 use Terms.{slice_index, slice_index_or, Some, some_words, sound_as, Source, source_word, spi_owing, SpiJobOk}
-use Terms.{SpiJobPending, SpiJobQueued, SpiRepresents, SpiState, SpiTable, stands-move, StandsIn, start_owed}
-use Terms.{Starts, STATE, Store, stored_other, stored_same, subst, sym, sync_prepares, tells_nothing}
-use Terms.{to_order, ToServe, Transfer, true, UnderWay, unit_at, unit_named, unit_other, unit_run, unit_same}
-use Terms.{UnitAgrees, untouched, upto, view, View, wire_at, with_channels, with_item, word_at, with_next_in, word_of}
-use Terms.{words_are, words_of, World, Write, ℕ}
+use Terms.{SpiJobPending, SpiJobQueued, SpiRepresents, SpiState, SpiTable, stands-move, StandsIn, start_owed, Starts}
+use Terms.{STATE, Store, stored_other, stored_same, subst, sym, sync_prepares, tells_nothing, to_order, ToServe}
+use Terms.{Transfer, true, UnderWay, unit_at, unit_named, unit_other, unit_run, unit_same, UnitAgrees, untouched}
+use Terms.{upto, View, view, wire_at, with_channels, with_item, with_next_in, word_at, word_of, words_are, words_of}
+use Terms.{World, Write, ℕ}
 use Rattle.spi_sending.specs.Sending.{device_at, first_of, HasBank, IsSender}
 use Rattle.spi_sending.specs.laws.bookkeeping.AsFreed as freed_laws
 use Rattle.spi_sending.specs.laws.bookkeeping.CarriedOut as carried_out
@@ -330,11 +330,9 @@ module _ (d : SpiTable) (fits : FitsSpi d) (below : Reservations) (chip : Chip) 
     base_freed j ne other = base_other j other ∙ sym (freed_same c j ne)
 
     base_told : (j : ℕ) → j ≢ running_word u → word_of base j ≡ word_of told j
-    base_told j ne = by (same_or_other j result)
-      where
-        by : (j ≡ result) ⊎ (j ≢ result) → word_of base j ≡ word_of told j
-        by (inl e) = subst (λ k. word_of base k ≡ word_of told k) (sym e) (stored_same c result 0 0 (omega (arith, job_few)) kept.outside.all.words ∙ sym (stored_same (as_freed c) result 0 0 (omega (arith, job_few)) l.outside.all.words))
-        by (inr other) = base_freed j ne other ∙ sym (stored_other (as_freed c) result 0 0 j other)
+    base_told j ne = cases (same_or_other j result)
+        (λ e. subst (λ k. word_of base k ≡ word_of told k) (sym e) (stored_same c result 0 0 (omega (arith, job_few)) kept.outside.all.words ∙ sym (stored_same (as_freed c) result 0 0 (omega (arith, job_few)) l.outside.all.words)))
+        (λ other. base_freed j ne other ∙ sym (stored_other (as_freed c) result 0 0 j other))
 
     base_past : (j : ℕ) → STATE + 64 ≤ j → word_of base j ≡ word_of (as_freed c) j
     base_past j le = base_freed j (λ e. omega (arith, e, le, few)) (λ e. omega (arith, e, le, job_few))
@@ -368,13 +366,6 @@ module _ (d : SpiTable) (fits : FitsSpi d) (below : Reservations) (chip : Chip) 
         by (Some k) e a = going_words d fits m (word_of told) (word_of base) k (going_next d fits held chip w s h m k less e).2 (base_told (running_word m) (λ f. ne (omega (arith, f)))) (base_told (position_word m) (λ f. omega (arith, f, few, less)))
             (λ i z known. base_told (held_word (placed_of d i)) (λ f. let le = past_the_first d i z (held_word (placed_of d i)) (fits.channels i z known) (of_held d fits i z known) in omega (arith, le, f, few)))
             (λ i z j m1 there known less1. base_told (source_word (placed_of d z.channel) m1) (λ f. omega (arith, f, few))) (freed_unit.run_other st owner None cs like (as_freed c) told l told_so m less ne (Some k) e a)
-
-    fewer : (m i : ℕ) → i < length_by (channel_of d m) → (m < 16) × (i < 64)
-    fewer m i less = by (channel_of d m) refl less
-      where
-        by : (o : Option Channel) → channel_of d m ≡ o → i < length_by o → (m < 16) × (i < 64)
-        by None e less1 = absurd (omega (arith, less1))
-        by (Some k) e less1 = (of_sixteen d m k fits e, let most = (fits.channels m k e).few in omega (arith, less1, most))
 
     source_past : (m i : ℕ) → m < 16 → i < 64 → word_of base (place_of (Source m) i) ≡ word_of chip (place_of (Source m) i)
     source_past m i small less = base_past (place_of (Source m) i) (omega arith) ∙ l.sources m i small less
@@ -523,7 +514,7 @@ module _ (d : SpiTable) (fits : FitsSpi d) (below : Reservations) (chip : Chip) 
       set_ups = λ m k known external. base_past (set_up_word (placed_of d m)) (past_the_first d m k (set_up_word (placed_of d m)) (fits.channels m k known) (of_set_up d fits m k known)) ∙ l.set_ups m k known ∙ h.set_ups on m k known external ∙ ap set_up_code (sym (like.set_up m));
       sizes = λ m k known. record { written = λ i. ap length (like.written m) ∙ (h.sizes on m k known).written i; set_up = λ i. subst (λ o. SetUpFits k o) (sym (like.set_up m)) ((h.sizes on m k known).set_up i) };
       arrays = λ m. record {
-        source = λ i less. source_past m i (fewer m i less).0 (fewer m i less).1 ∙ (h.arrays m).source i less ∙ ap (λ xs. word_at xs i) (sym (like.source m));
+        source = λ i less. source_past m i (few_places d fits m i less).0 (few_places d fits m i less).1 ∙ (h.arrays m).source i less ∙ ap (λ xs. word_at xs i) (sym (like.source m));
         destination = λ i less. base_past (place_of (Destination m) i) (omega arith) ∙ l.destinations m i less;
       };
       lines = λ m less. ap (λ z. has_bit z.control.enabled (26 + m)) chip_rest ∙ h.lines m less;

@@ -1,5 +1,5 @@
 -- The job before has ended as the next one begins: its last word is kept, what came in becomes readable, and it has its result.
--- From bookkeeping.CarriedOut, services.SendReady, spi_serving: services.JobLeft, spi_serving: words.CommitWords.
+-- From spi_sequences: services.SyncSteps, spi_sequences: words.WordsOfModule and 19 more.
 -- Used by services.SendGoesOn.
 use Rattle.std.proofs.Common.{◌≡◌, ◌≢◌, ◌+◌, ◌-◌, ◌<◌, ◌≤◌, ◌==◌, ◌∷◌, ◌∙◌, if◌then◌else◌}
 use Rattle.spi_sending.specs.Terms

@@ -1,30 +1,29 @@
 -- The sequence ends, with its last word or with one that failed: the event, and the moves that the last window owes after it.
--- From bookkeeping.HeldWord, bookkeeping.SentBeside, services.SendFurther, services.SendWindows, spi_serving: services.JobLeft and 3
 -- more.
+-- From spi_sequences: services.ServeSteps, spi_serving: services.ToldRight and 27 more.
 -- Used by services.SendSteps.
 use Rattle.std.proofs.Common.{◌≡◌, ◌≢◌, ◌+◌, ◌-◌, ◌<◌, ◌≤◌, ◌==◌, ◌&&◌, ◌||◌, ◌∷◌, ◌∙◌, ◌⊎◌, if◌then◌else◌}
 use Rattle.spi_sending.specs.Terms
 use Terms.{act_of, after_last, all_carried, all_of, AllSend, AnswerName, answers, ap, AreCarried, AreOwed, arith}
 use Terms.{Arrived, aside_high, asked_unit, at_left, banks_held, begun, Bool, both_outside, both_told, Call, Called}
-use Terms.{carried_at, carried_for, CarriesAgrees, Carrying, ChannelState, Chip, commit_by, commit_ends, CommitsTo}
-use Terms.{Contains, DiffersIn, drop, ended_sound, ended_view, ended_words, ends_here, ENotOk, entries_of}
+use Terms.{carried_at, carried_for, CarriesAgrees, Carrying, cases, ChannelState, Chip, commit_by, commit_ends}
+use Terms.{CommitsTo, Contains, DiffersIn, drop, ended_sound, ended_view, ended_words, ends_here, ENotOk, entries_of}
 use Terms.{entry_carried, EOk, error_of_sending, FAILED, failed_word, false, first_internal, first_pinned, first_told}
 use Terms.{FitsSpi, freed_as, fresh_history, given_back, Going, going_here, going_left, going_other, has_ended}
-use Terms.{has_further, held_word, holds_debt, HoldsLike, inl, inr, is_below, is_left, is_off, is_owed, is_sent}
-use Terms.{is_sync_unit, is_told, IsAside, IsEnding, IsFilled, IsLast, IsOfSequence, IsSending, IsServed}
-use Terms.{IsSoundState, IsTold, item-other, item-same, job_code, job_result, job_word, jobs_in, jobs_list, jobs_of}
-use Terms.{keep_ends, keep_of, last_is, last_like, last_stored, Leaves, leaves_begun, Leaving, left_at, LeftAt}
-use Terms.{length, List, list_any, MARKS, may_end, may_store, named, nat_lt, next_job, next_small, NEXTS}
-use Terms.{None, not, not_order, not_sent, not_true, of_held, one_job, one_owed, one_place, Option, order_before}
-use Terms.{order_left, order_word, Origin, other_free, other_number, others_differ, outcome, owed_left, OwesEnds}
-use Terms.{own_first, past_the_first, Pending, placed_of, Position, refl, release_by, release_last, Reservations}
-use Terms.{result_by, right_like, Run, run_at, run_carried, RunsBy, RunsNext, same_number, same_or_other}
-use Terms.{sending_ends, Sends, sends_on, sent, Sequence, sequence_code, sequence_of, sequence_result_by}
-use Terms.{sequence_word, sequences_as, SequencesAgree, serve_commits, serve_keeps_last, serve_owes, serve_releases}
-use Terms.{serve_takes, ServePlace, slice_index_or, Some, sound_as, spi_owing, SpiJobOk, SpiRepresents, SpiSeqOk}
-use Terms.{SpiSeqPending, SpiState, SpiTable, start_owed, STATE, subst, sym, sync_owed, take_gave, told_first}
-use Terms.{told_other, told_second, ToServe, true, UnderWay, unit_at, unit_of_sequence, UnitAgrees, View, view}
-use Terms.{with_item, word_of, World, ℕ}
+use Terms.{has_further, held_word, holds_debt, HoldsLike, inl, inr, is_below, is_left, is_off, is_sent, is_sync_unit}
+use Terms.{is_told, IsAside, IsEnding, IsFilled, IsLast, IsOfSequence, IsSending, IsServed, IsSoundState, IsTold}
+use Terms.{item-other, item-same, job_code, job_result, job_word, jobs_in, jobs_list, jobs_of, keep_ends, keep_of}
+use Terms.{last_is, last_like, last_stored, Leaves, leaves_begun, Leaving, left_at, LeftAt, length, List, list_any}
+use Terms.{MARKS, may_end, may_store, named, nat_lt, next_job, next_small, NEXTS, None, not, not_order, not_sent}
+use Terms.{not_true, of_held, one_job, one_owed, one_place, Option, order_before, order_left, order_word, Origin}
+use Terms.{other_free, other_number, others_differ, outcome, owed_left, OwesEnds, own_first, past_the_first, Pending}
+use Terms.{placed_of, Position, refl, release_by, release_last, Reservations, result_by, right_like, Run, run_at}
+use Terms.{run_carried, RunsBy, RunsNext, same_number, same_or_other, sending_ends, Sends, sends_on, sent, Sequence}
+use Terms.{sequence_code, sequence_of, sequence_result_by, sequence_word, sequences_as, SequencesAgree, serve_commits}
+use Terms.{serve_keeps_last, serve_owes, serve_releases, serve_takes, ServePlace, slice_index_or, Some, sound_as}
+use Terms.{spi_owing, SpiJobOk, SpiRepresents, SpiSeqOk, SpiSeqPending, SpiState, SpiTable, start_owed, STATE, subst}
+use Terms.{sym, sync_owed, take_gave, told_first, told_other, told_second, ToServe, true, UnderWay, unit_at}
+use Terms.{unit_of_sequence, UnitAgrees, View, view, whether, with_item, word_of, World, ℕ}
 use Rattle.spi_sending.specs.Sending.{device_at, EndsWith, IsSender, sent_answer}
 use Rattle.spi_sending.specs.laws.bookkeeping.CarriedOut as carried_out
 use Rattle.spi_sending.specs.laws.{bookkeeping.HeldWord.{like_through, sending_of, sends_alike}, bookkeeping.SentBeside.{sends_beside}}
@@ -174,11 +173,9 @@ module _ (d : SpiTable) (fits : FitsSpi d) (below : Reservations) (chip : Chip) 
       by_count false e = ap (λ z. nat_lt (z + 1) (length (jobs_of d its.sequence))) next_is ∙ ap (λ z. nat_lt (n + 1) (length (jobs_of d z))) sequence_is ∙ ap (nat_lt (n + 1)) (sym (jobs_count d fits q)) ∙ e
 
   may_so : may_end d w carrying ≡ true
-  may_so = ap (λ b. b && not (sends_on d carrying)) by.done.done ∙ ap (λ b. not (b || (not failed && has_further d its))) (ends_here d fits held chip w s h u few a i) ∙ ap not (none_more failed refl)
-    where
-      none_more : (b : Bool) → failed ≡ b → (not failed && has_further d its) ≡ false
-      none_more true e = ap (λ b. not b && has_further d its) e
-      none_more false e = ap (λ b. not b && has_further d its) e ∙ none_further e
+  may_so = ap (λ b. b && not (sends_on d carrying)) by.done.done ∙ ap (λ b. not (b || (not failed && has_further d its))) (ends_here d fits held chip w s h u few a i) ∙ ap not (whether failed
+      (λ e. ap (λ b. not b && has_further d its) e)
+      (λ e. ap (λ b. not b && has_further d its) e ∙ none_further e))
 
   abbrev cs : List ChannelState
   cs = (after_last s run failed).channels
@@ -260,11 +257,9 @@ module _ (d : SpiTable) (fits : FitsSpi d) (below : Reservations) (chip : Chip) 
       greater m k le other = grind arith
 
       by_left : LeftAt (jobs_of d its.sequence) its.next j → j ≡ next_job d its
-      by_left z = split (same_or_other z.place its.next)
-        where
-          split : (z.place ≡ its.next) ⊎ (z.place ≢ its.next) → j ≡ next_job d its
-          split (inl e) = sym z.is ∙ ap (λ m. slice_index_or (jobs_of d its.sequence) m 0) e
-          split (inr ne) = absurd (let from = z.from in let past : its.next + 1 ≤ z.place = greater its.next z.place from ne in let f = sym none ∙ left_at (jobs_of d its.sequence) (its.next + 1) z.place j z.within past z.is in cc)
+      by_left z = cases (same_or_other z.place its.next)
+          (λ e. sym z.is ∙ ap (λ m. slice_index_or (jobs_of d its.sequence) m 0) e)
+          (λ ne. absurd (let from = z.from in let past : its.next + 1 ≤ z.place = greater its.next z.place from ne in let f = sym none ∙ left_at (jobs_of d its.sequence) (its.next + 1) z.place j z.within past z.is in cc))
 
   ran : (j : ℕ) → is_left d j its ≡ true → later j ≡ false → IsLastResult (job_result results j)
   ran j there none = subst (λ k. IsLastResult (job_result results k)) (sym (is_own j there none)) (subst (λ z. IsLastResult z) (sym (item-same SpiJobOk s.job_results (next_job d its) (result_by failed))) (last_result failed))
@@ -287,7 +282,9 @@ module _ (d : SpiTable) (fits : FitsSpi d) (below : Reservations) (chip : Chip) 
       (ended_sound d fits (view s) h.sound its all (its.next + 1) next_le results ran unrun (view s).pending begun1 leaves (view s).running (view s).idle ended_with (ends_named failed) (ends_over failed) (λ m ne. refl) h.sound.few h.sound.carries.idle idle_off)
 
   nexts : (m : ℕ) → m < 2 → RunsNext d (view state1) m (going_left st m)
-  nexts m lt = by_unit (same_or_other m u)
+  nexts m lt = cases (same_or_other m u)
+      (λ e. subst (λ k. RunsNext d (view state1) k (going_left st k)) (sym e) (subst (λ o. RunsNext d (view state1) u o) (sym (going_here h.going u None)) tt))
+      (λ ne. subst (λ o. RunsNext d (view state1) m o) (sym (going_other h.going u None m ne)) (other ne (h.going m) refl (h.nexts m lt)))
     where
       other : m ≢ u → (o : Option Going) → h.going m ≡ o → RunsNext d (view s) m o → RunsNext d (view state1) m o
       other ne None e r = tt
@@ -297,16 +294,10 @@ module _ (d : SpiTable) (fits : FitsSpi d) (below : Reservations) (chip : Chip) 
           split true begun = begun_other m ne ∙ begun
           split false asked = asked
 
-      by_unit : (m ≡ u) ⊎ (m ≢ u) → RunsNext d (view state1) m (going_left st m)
-      by_unit (inl e) = subst (λ k. RunsNext d (view state1) k (going_left st k)) (sym e) (subst (λ o. RunsNext d (view state1) u o) (sym (going_here h.going u None)) tt)
-      by_unit (inr ne) = subst (λ o. RunsNext d (view state1) m o) (sym (going_other h.going u None m ne)) (other ne (h.going m) refl (h.nexts m lt))
-
   owed : AreOwed d below (going_left st) state1
-  owed m z lt free there mine = by_unit (same_or_other m u)
-    where
-      by_unit : (m ≡ u) ⊎ (m ≢ u) → is_owed m below ≡ true
-      by_unit (inl e) = absurd (let f = sym (asked_unit d fits (view s) h.sound m z there mine) ∙ ap (is_sync_unit d) e ∙ says.sync in cc)
-      by_unit (inr ne) = h.owed m z lt (other_free st m ne free) there mine
+  owed m z lt free there mine = cases (same_or_other m u)
+      (λ e. absurd (let f = sym (asked_unit d fits (view s) h.sound m z there mine) ∙ ap (is_sync_unit d) e ∙ says.sync in cc))
+      (λ ne. h.owed m z lt (other_free st m ne free) there mine)
 
   -- each of the other sequences is that of a frame below
   carriers : AreCarried (view state1) below

@@ -1,5 +1,6 @@
 -- The moves that a call owes that sends a sequence and waits: after each one it owes the others, or it opens the mask and
 -- waits, or ends.
+-- From spi_sequences: services.ServeSteps, spi_sequences: services.SyncSteps and 2 more.
 -- Used by services.SendRight.
 use Rattle.std.proofs.Common.{◌≡◌, ◌+◌, ◌-◌, ◌==◌, ◌∙◌, ◌⊎◌, if◌then◌else◌}
 use Rattle.spi_sending.specs.Terms
@@ -10,9 +11,10 @@ use Terms.{Is_this_frame, IsThisFrame, keep_ends, keep_of, Leaving, list_of, may
 use Terms.{Nothing, Option, Origin, owed_left, owed_move, PendingWrites, prepare_ends, put_gave, refl, release_by}
 use Terms.{release_last, Reservations, run_sent, Sends, sent_owes, SequenceNext, serve_commits, serve_keeps}
 use Terms.{serve_keeps_last, serve_lets, serve_releases, Served, ServePlace, Some, some_is, spi_bare, spi_basis}
-use Terms.{spi_owing, SpiRepresents, SpiState, SpiTable, subst, sym, sync_at, sync_commits, sync_committed, sync_keeps}
-use Terms.{sync_owed, sync_owes, sync_prepared, sync_prepares_at, sync_prepares_by, sync_serves, sync_takes, sync_took}
-use Terms.{SyncBody, SyncPlace, SyncTransmit, take_gave, true, unless_done, where_owed, Windows, with_holds, World, ℕ}
+use Terms.{spi_owing, SpiRepresents, SpiState, SpiTable, subst, sym, sync_at, sync_commits, sync_committed}
+use Terms.{sync_keeps, sync_owed, sync_owes, sync_prepared, sync_prepares_at, sync_prepares_by, sync_serves}
+use Terms.{sync_takes, sync_took, SyncBody, SyncPlace, SyncTransmit, take_gave, true, unless_done, where_owed}
+use Terms.{whether_as, Windows, with_holds, World, ℕ}
 use Rattle.spi_sequences.specs.laws.bookkeeping.RefinementRight.{frame_names}
 use Rattle.spi_sending.specs.Sending.{about_body, about_holds, about_sent, has_answered, SendAbout, StandsAbout}
 use Rattle.spi_sending.specs.Sending.{sync_ahead, sync_bodies, sync_windows}
@@ -101,11 +103,9 @@ serve_more_on k (serve.Release l i t) v e m = by (has_ended (take_gave t v))
     by : (q : Bool) → Owing (about_at k (place.Serve (serve.Release l i t))) (sync_at k (place.Serve (serve_releases k.table l i t v q).0), goes)
     by true = release_on k l (3 - i)
     by false = (refl, refl, refl)
-serve_more_on k (serve.KeepLast l y) v e m = by (keep_ends y)
-  where
-    by : (q : Bool) → Owing (about_at k (place.Serve (serve.KeepLast l y))) (sync_at k (place.Serve (serve_keeps_last k.table l y q).0), goes)
-    by true = commit_on k l 4
-    by false = (refl, refl, refl)
+serve_more_on k (serve.KeepLast l y) v e m = whether_as (keep_ends y) (λ q. Owing (about_at k (place.Serve (serve.KeepLast l y))) (sync_at k (place.Serve (serve_keeps_last k.table l y q).0), goes))
+    (λ _. commit_on k l 4)
+    (λ _. (refl, refl, refl))
 serve_more_on k (serve.Commit l i c) v e m = by (commit_ends c v)
   where
     by : (q : Bool) → Owing (about_at k (place.Serve (serve.Commit l i c))) (sync_at k (place.Serve (serve_commits k.table l i c v q).0), goes)

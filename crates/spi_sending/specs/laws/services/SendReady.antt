@@ -1,7 +1,7 @@
 -- A job has begun for a call that waits: its channels are made ready, and the words tell what the unit runs and where the
 -- sequence is.
--- From services.SendAround, spi_starting: services.ReadyOwed, spi_starting: words.ReadyWords.
--- Used by services.SendBegun, services.SendStarts, services.SendKeeps.
+-- From spi_sequences: services.SyncSteps, spi_starting: services.ReadyOwed, spi_starting: words.ReadyWords and 7 more.
+-- Used by services.SendBegun, services.SendKeeps, services.SendStarts.
 use Rattle.std.proofs.Common.{◌≡◌, ◌+◌, ◌<◌, ◌≤◌, ◌&&◌, ◌∙◌, if◌then◌else◌}
 use Rattle.spi_sending.specs.Terms
 use Terms.{ap, arith, as_read, begins_whole, Bool, Channel, channel_at, channel_at_place, channel_number, channel_of}

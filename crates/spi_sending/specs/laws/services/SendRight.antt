@@ -1,11 +1,11 @@
 -- Spi_SyncTransmit is right at each of its places, from what its windows owe.
--- From services.SendSteps, services.SendAround, services.SendOwed, services.SendFuel, services.SendWindows.
+-- From spi_sequences: services.SyncSteps, spi_sequences: services.ServeSteps, services.SendAround and 11 more.
 -- Used by spi_driver: services.SendPart.
 use Rattle.std.proofs.Common.{◌≡◌, ◌+◌, ◌≤◌, ◌==◌, ◌&&◌, ◌||◌, ◌∙◌, if◌then◌else◌}
 use Rattle.spi_sending.specs.Terms
-use Terms.{Act, ap, AreFree, AreLong, arith, Arrived, asking, begins_by, begins_of, begins_word, BodyTaken, Bool, Call}
-use Terms.{Called, channel_next, channel_sent, channel_served, Chip, Event, FAILED, false, Fewer, Find, find_gave}
-use Terms.{find_more, find_move, finding_first, FitsSpi, FrameHistory, fresh_history, further_of, happened}
+use Terms.{Act, ap, AreFree, AreLong, arith, Arrived, asking, begins_by, begins_of, begins_word, BodyTaken, Bool}
+use Terms.{Call, Called, channel_next, channel_sent, channel_served, Chip, Event, FAILED, false, Fewer, Find}
+use Terms.{find_gave, find_more, find_move, finding_first, FitsSpi, FrameHistory, fresh_history, further_of, happened}
 use Terms.{has_further_job, holds_at, is_closed, is_fill, is_last_place, is_masked, is_shared, Is_this_frame}
 use Terms.{IsThisFrame, keep_few, keep_of, KeepsClean, KeepsMask, less_fuel, less_room, List, may, MayCome, Move}
 use Terms.{next_job_of, None, not_filled, Option, or_none, or_owed, Order, Origin, owed_right, place_at, Placed}
@@ -14,8 +14,8 @@ use Terms.{sent_owes, serve_finds, serve_room, serve_takes, Served, ServePlace, 
 use Terms.{spi_owing, spi_setting, SpiState, SpiTable, spot_or, stall_of, Start, subst, sym, sync_arrives, sync_at}
 use Terms.{sync_begun, sync_comes, sync_ends, sync_finds, sync_found, sync_frees, sync_goes_to, sync_job_over}
 use Terms.{sync_move, sync_owed, sync_owes, sync_serves, sync_takes, sync_took, sync_work, SyncBody, SyncPlace, Taker}
-use Terms.{taker_sent, true, TurnsTo, unit_named, unpacked, value_of, where_owed, windows_right, with_holds}
-use Terms.{with_taken, World, world_after, ℕ}
+use Terms.{taker_sent, true, TurnsTo, unit_named, unpacked, value_of, where_owed, whether, whether_as, windows_right}
+use Terms.{with_holds, with_taken, World, world_after, ℕ}
 use Rattle.run_model.specs.Frame.{is_wait}
 use Rattle.word_shapes.specs.TripleBuffer.{put_move}
 use Rattle.spi_jobs.specs.Parts.{keep_move, prepare_move}
@@ -41,11 +41,9 @@ use Rattle.spi_sequences.specs.declared.service.sync.SyncPlace.TheVariants as pl
 
 -- but the first one none is
 clean_not : (d : SpiTable) (k : SyncBody) (p : SyncPlace) → sync_clean p ≡ false → (V d).clean (sync_at k p) ≡ false
-clean_not d k p e = by (sync_owes p) (sync_clean p) e
-  where
-    by : (q c : Bool) → c ≡ false → or_owed (λ z. false) (where_owed q (Sends (sync_at k p))) c ≡ false
-    by true c e = refl
-    by false c e = e
+clean_not d k p e = whether_as (sync_owes p) (λ q. or_owed (λ z. false) (where_owed q (Sends (sync_at k p))) (sync_clean p) ≡ false)
+    (λ _. refl)
+    (λ _. e)
 
 module _ (d : SpiTable) where
   abbrev CleanTo : (was : Bool) → Move → SyncBody × BodyTaken → Type 0
@@ -291,14 +289,12 @@ module _ (d : SpiTable) (fits : FitsSpi d) (windows : AreWindowsRight d) where
       later below chip w s order k o t i come shut h =
           subst (λ z. place_at z below ((spi_basis d).foot (happened chip order)) (world_after w chip.clock.rate order) (moved d w s order) o t) (sym free_spot)
           (as_now below chip w s k o t i h (λ z. (is_closed (sync_spot d z z.place) ≡ true → is_fill order ≡ false) → place_at (sync_spot d z z.place) below ((spi_basis d).foot (happened chip order)) (world_after w chip.clock.rate order) (moved d w s order) o t)
-          (λ none. later_at d k.sequence k.unit k.job k.at k.banks below chip w s o t fits order k.place (free_at k i) none (stands_now below chip w s k o t i h)) (λ closed. unfilled (is_masked chip) refl (ap (λ z. is_closed z) free_spot ∙ closed)))
+          (λ none. later_at d k.sequence k.unit k.job k.at k.banks below chip w s o t fits order k.place (free_at k i) none (stands_now below chip w s k o t i h)) (λ closed. whether (is_masked chip)
+          (λ e. not_filled (spi_setting d) w s come.frames order (subst (λ q. IsFree (spi_setting d) q w s come.frames order) e come.free))
+          (λ e. absurd (let f = sym (shut e) ∙ (ap (λ z. is_closed z) free_spot ∙ closed) in cc))))
         where
           free_spot : (V d).assertion k ≡ sync_spot d k k.place
           free_spot = ap (λ q. spot_or (sync_windows d) q (sync_spot d k k.place)) i
-
-          unfilled : (q : Bool) → is_masked chip ≡ q → is_closed ((V d).assertion k) ≡ true → is_fill order ≡ false
-          unfilled true e closed = not_filled (spi_setting d) w s come.frames order (subst (λ q. IsFree (spi_setting d) q w s come.frames order) e come.free)
-          unfilled false e closed = absurd (let f = sym (shut e) ∙ closed in cc)
 
   pub sync_right : AreLong (spi_basis d) (sync_bodies d)
   sync_right = windows_right (spi_bare d) (spi_owing d) same_chip (owed_right d) (sync_windows d) (λ k. None) (sync_wins d) sync_free

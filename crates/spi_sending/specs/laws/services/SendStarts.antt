@@ -1,5 +1,5 @@
 -- The first job of a sequence begins for a call that waits: what its window owes, and the agreement after it.
--- From services.SendBegun, services.SendFirst, services.SendReady, bookkeeping.CarriedState and 4 more.
+-- From spi_sequences: words.WordsOfModule, bookkeeping.CarriedState, spi_sequences: words.FirstParts and 22 more.
 -- Used by services.WindowsRight.
 use Rattle.std.proofs.Common.{◌≡◌, ◌≢◌, ◌+◌, ◌%◌, ◌^◌, ◌<◌, ◌≤◌, ◌==◌, [], ◌∷◌, ◌++◌, ◌∙◌, ◌⊎◌, if◌then◌else◌}
 use Rattle.spi_sending.specs.Terms

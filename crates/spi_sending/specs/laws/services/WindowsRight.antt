@@ -1,5 +1,5 @@
 -- The windows of a call that sends a sequence and waits are right.
--- From services.SendStarts, services.SendGoesOn, services.SendWindows, services.SendAround.
+-- From services.SendWindows, services.SendAround, services.SendGoesOn, services.SendStarts.
 -- Used by spi_driver: bookkeeping.Joined.
 use Rattle.std.proofs.Common.{◌≡◌}
 use Rattle.spi_sending.specs.Terms

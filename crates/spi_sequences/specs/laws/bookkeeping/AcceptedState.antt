@@ -1,9 +1,9 @@
 -- A request is accepted: the state is sound, and the words stand for it.
--- From words.WordsToState, words.SequenceDigits, words.JobPlaces, bookkeeping.SequenceEnded and 2 more.
--- Used by services.RequestRight.
+-- From words.ListTests, words.AllSequences, words.SequenceDigits, words.JobPlaces and 3 more.
+-- Used by services.RequestRight, spi_sending: services.SendStarts, spi_starting: words.PinnedBanks.
 use Rattle.std.proofs.Common.{◌≡◌, ◌≢◌, ◌+◌, ◌%◌, ◌<◌, ◌≤◌, ◌==◌, ◌&&◌, ◌||◌, [], ◌∷◌, ◌++◌, ◌∙◌, ◌⊎◌, if◌then◌else◌}
 use Rattle.spi_sequences.specs.Terms
-use Terms.{all_get, all_of, AnswerName, ap, append-nil, arith, Bool, cancelled_bit, Contains, Contains-append_left}
+use Terms.{all_get, all_of, AnswerName, ap, append-nil, arith, cancelled_bit, cases, Contains, Contains-append_left}
 use Terms.{Contains-get_or, Contains-push, Contains-push_cases, entries_of, Entry, false, filter, filter-append}
 use Terms.{FitsSpi, get_or_default, has_job, has_mark, inl, inr, is_for, is_held, is_left, is_of, is_off, is_pending}
 use Terms.{is_sync_sequence, is_sync_unit, IsEntry, IsLast, IsOfSequence, IsSoundState, item-other, item-same}
@@ -12,7 +12,7 @@ use Terms.{map-append, MARKS, Memory, next_in, NEXTS, not, option_map, or_parts,
 use Terms.{refl, requested, results-other, results-own, same_or_other, Sequence, sequence_code, sequence_of}
 use Terms.{sequence_result, sequence_word, SequencesAgree, shares_job, slice_get, slice_get-map, slice_index_or, Some}
 use Terms.{SpiJobOk, SpiJobPending, SpiJobQueued, SpiSeqOk, SpiSeqPending, SpiTable, started_bit, subst, suc, sym}
-use Terms.{true, unit_of_sequence, unmarked_in, View, with_item, with_next_in, zero, ℕ}
+use Terms.{true, unit_of_sequence, unmarked_in, View, whether, with_item, with_next_in, zero, ℕ}
 use Rattle.spi_sequences.specs.laws.{words.SameWords.{job_small}, words.SequenceDigits.{first_other, first_same}}
 use Rattle.spi_sequences.specs.laws.{words.SequenceDigits.{unmarked_other, unmarked_same}}
 use Rattle.spi_sequences.specs.laws.{bookkeeping.SequenceEnded.{get_contained, jobs_once}}
@@ -152,7 +152,9 @@ module _ (d : SpiTable) (fits : FitsSpi d) (v : View) (h : IsSoundState d v) (q 
     results = record {
       queued = λ p i there le lt. queued p i (Contains-push_cases v.pending new p there) le lt;
       last = λ j none. last j (none_left j none);
-      named = λ n lt. names n lt (same_or_other n q);
+      named = λ n lt. cases (same_or_other n q)
+          (λ e. subst (λ k. IsOfSequence (sequence_result (with_item SpiSeqOk v.sequence_results q SpiSeqPending) k)) (sym e) (subst (λ a. IsOfSequence a) (sym (item-same SpiSeqOk v.sequence_results q SpiSeqPending)) tt))
+          (λ ne. subst (λ a. IsOfSequence a) (sym (item-other SpiSeqOk v.sequence_results q n SpiSeqPending ne)) (h.results.named n lt));
       sequences = λ n lt. represents n lt (same_or_other n q);
     };
     carries = record {
@@ -198,10 +200,6 @@ module _ (d : SpiTable) (fits : FitsSpi d) (v : View) (h : IsSoundState d v) (q 
       last : (j : ℕ) → (list_any (is_left d j) (all_of v) ≡ false) × (is_left d j new ≡ false) → IsLast (job_result (all_get SpiJobQueued jobs v.job_results) j)
       last j (none, own) = subst (λ a. IsLast a) (sym (others_now j own)) (h.results.last j none)
 
-      names : (n : ℕ) → n < 8 → (n ≡ q) ⊎ (n ≢ q) → IsOfSequence (sequence_result (with_item SpiSeqOk v.sequence_results q SpiSeqPending) n)
-      names n lt (inl e) = subst (λ k. IsOfSequence (sequence_result (with_item SpiSeqOk v.sequence_results q SpiSeqPending) k)) (sym e) (subst (λ a. IsOfSequence a) (sym (item-same SpiSeqOk v.sequence_results q SpiSeqPending)) tt)
-      names n lt (inr ne) = subst (λ a. IsOfSequence a) (sym (item-other SpiSeqOk v.sequence_results q n SpiSeqPending ne)) (h.results.named n lt)
-
       represents : (n : ℕ) → n < 8 → (n ≡ q) ⊎ (n ≢ q) → (sequence_result (with_item SpiSeqOk v.sequence_results q SpiSeqPending) n ≡ SpiSeqPending → is_pending n (all_of accepted_view) ≡ true) × (is_pending n (all_of accepted_view) ≡ true → sequence_result (with_item SpiSeqOk v.sequence_results q SpiSeqPending) n ≡ SpiSeqPending)
       represents n lt (inl e) = (
         λ f. subst (λ k. is_pending k (all_of accepted_view) ≡ true) (sym e) (any_in (is_of q) (all_of accepted_view) new all_own (same_number q)),
@@ -216,12 +214,10 @@ module _ (d : SpiTable) (fits : FitsSpi d) (v : View) (h : IsSoundState d v) (q 
           no_other e p (inl is) = any_none (is_of n) (all_of v) e p is
           no_other e p (inr f) = subst (λ z. is_of n z ≡ false) f (other_number q n (λ i. ne (sym i)))
 
-          by : (b : Bool) → is_pending n (all_of v) ≡ b → is_pending n (all_of accepted_view) ≡ is_pending n (all_of v)
-          by true e = let r = any_some (is_of n) (all_of v) e in any_in (is_of n) (all_of accepted_view) r.0 (all_kept r.0 r.1) r.2 ∙ sym e
-          by false e = none_any (is_of n) (all_of accepted_view) (λ p is. no_other e p (all_push p is)) ∙ sym e
-
           still : is_pending n (all_of accepted_view) ≡ is_pending n (all_of v)
-          still = by (is_pending n (all_of v)) refl
+          still = whether (is_pending n (all_of v))
+              (λ e. let r = any_some (is_of n) (all_of v) e in any_in (is_of n) (all_of accepted_view) r.0 (all_kept r.0 r.1) r.2 ∙ sym e)
+              (λ e. none_any (is_of n) (all_of accepted_view) (λ p is. no_other e p (all_push p is)) ∙ sym e)
 
   -- ---- the order
 
@@ -267,16 +263,16 @@ module _ (d : SpiTable) (fits : FitsSpi d) (v : View) (h : IsSoundState d v) (q 
     had_words p i (inr e) le lt = subst (λ z. i < length (jobs_of d z.sequence) → m1 (job_word (slice_index_or (jobs_of d z.sequence) i 0)) ≡ job_code (slice_index_or z.had i SpiJobOk)) e
         (λ less. job_words (slice_index_or jobs i 0) (job_small d fits q i less) ∙ a.jobs (slice_index_or jobs i 0) (job_small d fits q i less) (not_left (slice_index_or jobs i 0) (Contains-get_or jobs i 0 less)) ∙ ap job_code (sym (had_at i less))) lt
 
-    told_by : (n : ℕ) → n < 8 → (n ≡ q) ⊎ (n ≢ q) → m1 (sequence_word n) ≡ sequence_code (sequence_result (with_item SpiSeqOk v.sequence_results q SpiSeqPending) n)
-    told_by n lt (inl e) = ap (λ k. m1 (sequence_word k)) e ∙ told ∙ ap sequence_code (sym (item-same SpiSeqOk v.sequence_results q SpiSeqPending)) ∙ ap (λ k. sequence_code (sequence_result (with_item SpiSeqOk v.sequence_results q SpiSeqPending) k)) (sym e)
-    told_by n lt (inr ne) = others n lt ne ∙ a.sequences n lt ∙ ap sequence_code (sym (item-other SpiSeqOk v.sequence_results q n SpiSeqPending ne))
+    sequence_told : (n : ℕ) → n < 8 → (n ≡ q) ⊎ (n ≢ q) → m1 (sequence_word n) ≡ sequence_code (sequence_result (with_item SpiSeqOk v.sequence_results q SpiSeqPending) n)
+    sequence_told n lt (inl e) = ap (λ k. m1 (sequence_word k)) e ∙ told ∙ ap sequence_code (sym (item-same SpiSeqOk v.sequence_results q SpiSeqPending)) ∙ ap (λ k. sequence_code (sequence_result (with_item SpiSeqOk v.sequence_results q SpiSeqPending) k)) (sym e)
+    sequence_told n lt (inr ne) = others n lt ne ∙ a.sequences n lt ∙ ap sequence_code (sym (item-other SpiSeqOk v.sequence_results q n SpiSeqPending ne))
 
     job_by : (j : ℕ) → j < 16 → (list_any (is_left d j) (all_of v) ≡ false) × (is_left d j new ≡ false) → m1 (job_word j) ≡ job_code (job_result (all_get SpiJobQueued jobs v.job_results) j)
     job_by j lt (none, own) = job_words j lt ∙ a.jobs j lt none ∙ ap job_code (sym (others_now j own))
 
     pub accepted_words : SequencesAgree d m1 accepted_view
     accepted_words = record {
-      sequences = λ n lt. told_by n lt (same_or_other n q);
+      sequences = λ n lt. sequence_told n lt (same_or_other n q);
       pending = λ p there. pending_words p (Contains-push_cases v.pending new p there);
       begun = λ u p e. ap (λ n. next_in n p.sequence) nexts ∙ first_other (m NEXTS) q p.sequence (differ p (all_carried v u p (h.carries.unit u p e).0 e)) ∙ a.begun u p e;
       had = λ p i there le lt. had_words p i (all_push p there) le lt;

@@ -1,10 +1,11 @@
 -- A frame has cleared a unit that it leaves busy, or without a sequence that waits.
--- From words.PendingWords, words.WordsToState.
-use Rattle.std.proofs.Common.{◌≡◌, ◌≢◌, ◌==◌, ◌&&◌, ◌∷◌, ◌∙◌, ◌⊎◌}
+-- From words.PendingWords, words.Cases, words.ListTests, words.WordsToState.
+-- Used by spi_driver: bookkeeping.PendingWritesRight, spi_serving: services.FurtherServed and 7 more.
+use Rattle.std.proofs.Common.{◌≡◌, ◌==◌, ◌&&◌, ◌∷◌, ◌∙◌}
 use Rattle.spi_sequences.specs.Terms
-use Terms.{Answer, ap, AreOwed, Call, Chip, Cleared, Contains, FitsSpi, flat_map-cons, inl, inr, is_for}
-use Terms.{is_owed, None, not, Option, Origin, Pending, readied_by, refl, Reservation, Reservations, ReservedBy}
-use Terms.{run_at, same_or_other, SpiRepresents, SpiState, SpiTable, stored_by, subst, sym, true, World, ℕ}
+use Terms.{Answer, ap, AreOwed, Call, cases, Chip, Cleared, Contains, FitsSpi, flat_map-cons, is_for, is_owed, None}
+use Terms.{not, Option, Origin, Pending, readied_by, refl, Reservation, Reservations, ReservedBy, run_at}
+use Terms.{same_or_other, SpiRepresents, SpiState, SpiTable, stored_by, subst, sym, true, World, ℕ}
 use Rattle.spi_sequences.specs.laws.words.PendingWords.{HoldsLike, holds_back, holds_changed}
 use Rattle.spi_sequences.specs.laws.words.WordsToState.{going_free, other_number}
 use Rattle.mcal_base.specs.facts.Truths.{and_second}
@@ -29,11 +30,9 @@ module _ (d : SpiTable) (held : Reservations) (chip : Chip) (w : World) (s : Spi
   clears fits h none = holds_changed d held (cleared_of u by acted ∷ held) chip w s h (like d u by acted held) (tt, h.right) (tt, h.sending) h.carriers owed
     where
       owed : AreOwed d (cleared_of u by acted ∷ held) h.going s
-      owed n p lt free there for = split (same_or_other n u)
-        where
-          split : (n ≡ u) ⊎ (n ≢ u) → not (u == n) && is_owed n held ≡ true
-          split (inl e) = absurd (none p (ap (run_at s) (sym e) ∙ going_free d fits held chip w s h n lt free) there (subst (λ k. is_for d k p ≡ true) e for))
-          split (inr ne) = ap (λ q. not q && is_owed n held) (other_number u n (λ e. ne (sym e))) ∙ h.owed n p lt free there for
+      owed n p lt free there for = cases (same_or_other n u)
+          (λ e. absurd (none p (ap (run_at s) (sym e) ∙ going_free d fits held chip w s h n lt free) there (subst (λ k. is_for d k p ≡ true) e for)))
+          (λ ne. ap (λ q. not q && is_owed n held) (other_number u n (λ e. ne (sym e))) ∙ h.owed n p lt free there for)
 
   -- a frame that ends, or goes on, holds it no more
   pub clear_over : SpiRepresents d (cleared_of u by acted ∷ held) chip w s → SpiRepresents d held chip w s

@@ -1,6 +1,6 @@
 -- One pending sequence is changed in its marks: what stays of the agreement.
--- From words.SameWords, words.WordsOfModule, words.WordsToState.
--- Used by bookkeeping.MarkedState.
+-- From words.AllSequences, words.ListTests, words.SameWords, words.WordsOfModule.
+-- Used by bookkeeping.MarkedState, spi_starting: words.UnitWords, spi_serving: bookkeeping.NextJob and 4 more.
 use Rattle.std.proofs.Common.{◌≡◌, ◌≢◌, ◌+◌, ◌<◌, ◌≤◌, ◌==◌, ◌&&◌, ◌||◌, [], ◌∷◌, ◌++◌, ◌∙◌, ◌⊎◌, if◌then◌else◌}
 use Rattle.spi_sequences.specs.Terms
 use Terms.{all_of, ap, arith, Bool, cancelled_bit, CarriesAgrees, changed, channels_of, Contains, drop, entries_begun}

@@ -1,15 +1,16 @@
 -- A pending sequence gets a mark: the agreement stands for the state in which it has it.
--- From bookkeeping.FrameRule, words.WordsOfModule, words.WordsToState, words.SameWords, hardware.AfterReset and 2 more.
--- Used by services.CancelRight.
+-- From bookkeeping.FrameRule, words.WordsOfModule, words.ListTests, words.SameWords, service_outline: Words and 7 more.
+-- Used by spi_starting: words.UnitWords, services.CancelRight.
 use Rattle.std.proofs.Common.{◌≡◌, ◌≢◌, ◌+◌, ◌*◌, ◌%◌, ◌^◌, ◌<◌, ◌≤◌, ◌==◌, ◌∙◌, if◌then◌else◌}
 use Rattle.spi_sequences.specs.Terms
-use Terms.{and_or_apart, and_or_self, ap, arith, BanksAgree, bit_or, Bool, cancelled_bit, cancels, carried_at, changed}
-use Terms.{Channel, channel_of, Chip, chip_after, Contains, Destination, false, FitsSpi, Going, has_mark, held_word}
-use Terms.{is_for, is_of, is_off, is_owed, is_sync_unit, KeepsNone, KeepsWords, List, MARKS, Memory, None, not, Option}
-use Terms.{Pending, Pins, PinsNone, place_of, Placed, placed_of, position_word, pow_apart, PutRight, Putting, refl}
-use Terms.{Reservations, run_at, run_carried, RunAgrees, running_word, RunsBy, set_up_word, Some, Source, source_word}
-use Terms.{SpiRepresents, SpiState, SpiTable, stands-move, started_bit, STATE, Store, stored_other, stored_same, subst}
-use Terms.{suc, sym, TakeRight, Taking, true, unit_at, View, view, word_of, World, zero, ℕ}
+use Terms.{and_or_apart, and_or_self, ap, arith, BanksAgree, bit_or, Bool, cancelled_bit, cancels, carried_at}
+use Terms.{changed, Channel, channel_of, Chip, chip_after, Contains, Destination, false, FitsSpi, Going, has_mark}
+use Terms.{held_word, is_for, is_of, is_off, is_owed, is_sync_unit, KeepsNone, KeepsWords, List, MARKS, Memory, None}
+use Terms.{not, Option, Pending, Pins, PinsNone, place_of, Placed, placed_of, position_word, pow_apart, PutRight}
+use Terms.{Putting, refl, Reservations, run_at, run_carried, RunAgrees, running_word, RunsBy, set_up_word, Some}
+use Terms.{Source, source_word, SpiRepresents, SpiState, SpiTable, stands-move, started_bit, STATE, Store}
+use Terms.{stored_other, stored_same, subst, suc, sym, TakeRight, Taking, true, unit_at, View, view, whether_as}
+use Terms.{word_of, World, zero, ℕ}
 use Rattle.spi_sequences.specs.laws.{words.SameWords.{banks_words, going_words, job_small}}
 use Rattle.spi_sequences.specs.laws.{bookkeeping.FrameRule.{carried_with, Keeps, contains_back, going_with, item, item_for}}
 use Rattle.spi_sequences.specs.laws.{bookkeeping.FrameRule.{nexts_after, run_with, sequences_after, sound_changed}}
@@ -170,11 +171,9 @@ module _ (d : SpiTable) (fits : FitsSpi d) (below : Reservations) (chip : Chip) 
           by false e c = (h.sound.entries p (all_pending (view s) p there)).cancelled c
 
       marks : (p : Pending) → Contains s.pending p → (has_mark mark (started_bit p.sequence) ≡ (item q cancels p).started) × (has_mark mark (cancelled_bit p.sequence) ≡ (item q cancels p).cancelled)
-      marks p there = by (is_of q p) refl
+      marks p there = whether_as (is_of q p) (λ b. (has_mark mark (started_bit p.sequence) ≡ (if b then cancels p else p).started) × (has_mark mark (cancelled_bit p.sequence) ≡ (if b then cancels p else p).cancelled))
+          (λ e. (started, subst (λ n. has_mark mark (cancelled_bit n) ≡ true) (sym (is_number p.sequence q e)) (marked_same (word_of chip MARKS) (8 + q % 8))))
+          (λ e. (started, marked_other (word_of chip MARKS) (8 + q % 8) (8 + p.sequence % 8) (bits_apart p (h.sound.entries p (all_pending (view s) p there)).number (λ f. let g = sym e ∙ ap (λ n. n == q) f ∙ same_number q in cc)) ∙ ((h.words.on on).sequences.pending p there).cancelled))
         where
           started : has_mark mark (started_bit p.sequence) ≡ p.started
           started = marked_other (word_of chip MARKS) (8 + q % 8) (p.sequence % 8) (λ e. omega (arith, e)) ∙ ((h.words.on on).sequences.pending p there).started
-
-          by : (b : Bool) → is_of q p ≡ b → (has_mark mark (started_bit p.sequence) ≡ (if b then cancels p else p).started) × (has_mark mark (cancelled_bit p.sequence) ≡ (if b then cancels p else p).cancelled)
-          by true e = (started, subst (λ n. has_mark mark (cancelled_bit n) ≡ true) (sym (is_number p.sequence q e)) (marked_same (word_of chip MARKS) (8 + q % 8)))
-          by false e = (started, marked_other (word_of chip MARKS) (8 + q % 8) (8 + p.sequence % 8) (bits_apart p (h.sound.entries p (all_pending (view s) p there)).number (λ f. let g = sym e ∙ ap (λ n. n == q) f ∙ same_number q in cc)) ∙ ((h.words.on on).sequences.pending p there).cancelled)

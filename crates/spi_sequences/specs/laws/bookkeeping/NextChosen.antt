@@ -1,13 +1,13 @@
 -- What a start chooses of a unit's order is what the machine starts next.
--- From words.WordsToState, services.StartSteps, services.InitPrepared, bookkeeping.SequenceEnded, words.JobPlaces.
--- Used by spi_starting: Starting.
+-- From words.WordsToState, words.ListTests, services.InitPrepared, services.StartSteps, words.Cases and 3 more.
+-- Used by spi_starting: services.StartBegun, spi_starting: services.StartRight, spi_starting: Starting and 2 more.
 use Rattle.std.proofs.Common.{◌≡◌, ◌<◌, ◌==◌, ◌&&◌, ◌||◌, [], ◌∷◌, ◌∙◌, if◌then◌else◌}
 use Rattle.spi_sequences.specs.Terms
 use Terms.{ap, arith, best, better, Bool, Chip, choice, Contains, entries_of, Entry, false, filter, FitsSpi, is_for}
-use Terms.{is_interruptible, is_off, is_running, job_at_place, job_of, keeps_unit, List, map, MARKS, nat_lt, nat_tests}
-use Terms.{next_in, next_job, next_on, NEXTS, None, none, not, Option, over, Pending, PendingAgrees, precedes}
-use Terms.{priority_by, rank, rank_in, ranks_in, refl, Reservations, sequence_of, slice_get, Some, SpiRepresents}
-use Terms.{SpiState, SpiTable, subst, suc, sym, true, view, word_of, World, ℕ}
+use Terms.{is_interruptible, is_off, is_running, job_at_place, job_of, keeps_unit, List, map, MARKS, nat_lt}
+use Terms.{nat_tests, next_in, next_job, next_on, NEXTS, None, none, not, Option, over, Pending, PendingAgrees}
+use Terms.{precedes, priority_by, rank, rank_in, ranks_in, refl, Reservations, sequence_of, slice_get, Some}
+use Terms.{SpiRepresents, SpiState, SpiTable, subst, suc, sym, true, view, whether, whether_as, word_of, World, ℕ}
 use Rattle.spi_sequences.specs.laws.{services.InitPrepared.{in_first, in_later}}
 use Rattle.spi_sequences.specs.laws.{bookkeeping.SequenceEnded.{filter_back}, words.JobPlaces.{job_place}}
 use Rattle.spi_sequences.specs.laws.{words.WordsToState.{RunsOn, at_contained, going_asked, not_true, one_pending}}
@@ -33,11 +33,9 @@ best_in d (p ∷ ps) b e = by (best d ps) refl e (λ c f. best_in d ps c f)
   where
     by : (o : Option Pending) → best d ps ≡ o → Some (better d p o) ≡ Some b → ((c : Pending) → best d ps ≡ Some c → Contains ps c) → Contains (p ∷ ps) b
     by None f g rest = let same : p ≡ b = cc in subst (λ x. Contains (p ∷ ps) x) same (in_first p ps)
-    by (Some o) f g rest = choose (precedes d o p) refl
-      where
-        choose : (q : Bool) → precedes d o p ≡ q → Contains (p ∷ ps) b
-        choose true h = let same : o ≡ b = ap (λ q. if q then o else p) (sym h) ∙ cc in subst (λ x. Contains (p ∷ ps) x) same (in_later p ps o (rest o f))
-        choose false h = let same : p ≡ b = ap (λ q. if q then o else p) (sym h) ∙ cc in subst (λ x. Contains (p ∷ ps) x) same (in_first p ps)
+    by (Some o) f g rest = whether (precedes d o p)
+        (λ h. let same : o ≡ b = ap (λ q. if q then o else p) (sym h) ∙ cc in subst (λ x. Contains (p ∷ ps) x) same (in_later p ps o (rest o f)))
+        (λ h. let same : p ≡ b = ap (λ q. if q then o else p) (sym h) ∙ cc in subst (λ x. Contains (p ∷ ps) x) same (in_first p ps))
 
 -- the first of a sorted order stands unless another one ranks higher
 chosen_of : (d : SpiTable) (ranks : List ℕ) (p b : Pending) → b.sequence < 8 → p.request < b.request → order.rank ranks p.sequence ≡ rank d p → order.rank ranks b.sequence ≡ rank d b
@@ -73,11 +71,9 @@ sorted_by (p ∷ ps) h = ((λ q there. h 0 (suc there.0) p q (omega arith) refl 
 
 sorted_kept : (t : Pending → Bool) (ps : List Pending) → IsSorted ps → IsSorted (filter t ps)
 sorted_kept t [] h = tt
-sorted_kept t (p ∷ ps) h = by (t p) (λ q there. h.0 q (filter_back t ps q there).0) (sorted_kept t ps h.1)
-  where
-    by : (q : Bool) → ((x : Pending) → Contains (filter t ps) x → p.request < x.request) → IsSorted (filter t ps) → IsSorted (if q then p ∷ filter t ps else filter t ps)
-    by true before rest = (before, rest)
-    by false before rest = rest
+sorted_kept t (p ∷ ps) h = whether_as (t p) (λ q. IsSorted (if q then p ∷ filter t ps else filter t ps))
+    (λ _. ((λ q there. h.0 q (filter_back t ps q there).0), (sorted_kept t ps h.1)))
+    (λ _. (sorted_kept t ps h.1))
 
 rank_there : (d : SpiTable) (v m q : ℕ) → q < 8 → order.rank (ranks_in d v m) q ≡ rank_in d v m q
 rank_there d v m (suc (suc (suc (suc (suc (suc (suc (suc q)))))))) lt = absurd (omega (arith, lt))

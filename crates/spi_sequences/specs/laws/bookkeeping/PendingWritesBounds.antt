@@ -1,23 +1,24 @@
 -- Each move that is owed leaves fewer: what is owed are loads and stores of the module's words, and writes for its
 -- lines.
--- From services.ServeSteps, services.StartSteps, services.UnitSteps, services.CancelSteps, bookkeeping.RefinementRight.
--- Used by services.ReadRight, services.CancelRight, services.ModuleRight.
+-- From services.ServeSteps, services.SyncSteps, services.StartSteps, services.UnitSteps and 5 more.
+-- Used by spi_sending: services.SendRight, spi_driver: bookkeeping.KeepsToModule and 8 more.
 use Rattle.std.proofs.Common.{◌≡◌, ◌+◌, ◌-◌, ◌*◌, ◌<◌, ◌≤◌, ◌==◌, ◌&&◌, if◌then◌else◌, [], ◌∷◌}
 use Rattle.spi_sequences.specs.Terms
-use Terms.{after_serve, after_start, All, and_parts, ap, arith, BodyTaken, Bool, cancel_drops, cancel_owed_at, Cancels}
-use Terms.{channel_at_place, channel_number, choice_in, Commit, commit_at, commit_by, commit_ends, commit_last}
-use Terms.{commit_left, commit_more, commits_left, count_in, drop_after, drop_gave, drop_left, drop_more, Dropped}
-use Terms.{false, first_internal, first_pinned, FitsSpi, FrameRole, gives, goes_on, Handler, has_ended, is_pinned_at}
-use Terms.{is_simple, is_sync_unit, IsBasis, Keep, keep_ends, keep_left, keep_more, keep_of, keeping, Leaving, list_of}
-use Terms.{Main, may, meets_at, More, more_owed, nat_le, nat_lt, nat_tests, Next, next_after, next_gave, next_gives}
-use Terms.{next_left, next_more, None, none, Option, owed_left, owing_basis, PendingWrites, pinning, Placed, placed_of}
-use Terms.{Places, Prepare, prepare_at, prepare_by, prepare_ends, prepare_left, prepare_more, prepared, preparing}
-use Terms.{put_gave, put_more, refl, release_by, release_last, releasing, RequestPlace, Running, same_chip}
-use Terms.{Search, search_more, Sent, serve_commits, serve_drops, serve_keeps, serve_keeps_last}
-use Terms.{serve_lets, serve_releases, Served, ServePlace, ServeStep, simple_owed, Some, Sought, sought, spi_bare}
-use Terms.{spi_basis, spi_owing, SpiTable, start_chooses, start_prepares, start_releases, Started, StartPlace, subst}
-use Terms.{suc, Take, take_gave, take_left, take_more, Taker, tally_cleared, tally_less, true, unit_more}
-use Terms.{unit_over, unit_owed, unit_owes, unit_took, UnitBody, UnitPlace, Units, unless_done, Wholes, zero, ℕ}
+use Terms.{after_serve, after_start, All, and_parts, ap, arith, BodyTaken, Bool, cancel_drops, cancel_owed_at}
+use Terms.{Cancels, channel_at_place, channel_number, choice_in, Commit, commit_at, commit_by, commit_ends}
+use Terms.{commit_last, commit_left, commit_more, commits_left, count_in, drop_after, drop_gave, drop_left, drop_more}
+use Terms.{Dropped, false, first_internal, first_pinned, FitsSpi, FrameRole, gives, goes_on, Handler, has_ended}
+use Terms.{is_pinned_at, is_simple, is_sync_unit, IsBasis, Keep, keep_ends, keep_left, keep_more, keep_of, keeping}
+use Terms.{Leaving, list_of, Main, may, meets_at, More, more_owed, nat_le, nat_lt, nat_tests, Next, next_after}
+use Terms.{next_gave, next_gives, next_left, next_more, None, none, Option, owed_left, owing_basis, PendingWrites}
+use Terms.{pinning, Placed, placed_of, Places, Prepare, prepare_at, prepare_by, prepare_ends, prepare_left}
+use Terms.{prepare_more, prepared, preparing, put_gave, put_more, refl, release_by, release_last, releasing}
+use Terms.{RequestPlace, Running, same_chip, Search, search_more, Sent, serve_commits, serve_drops, serve_keeps}
+use Terms.{serve_keeps_last, serve_lets, serve_releases, Served, ServePlace, ServeStep, simple_owed, Some, Sought}
+use Terms.{sought, spi_bare, spi_basis, spi_owing, SpiTable, start_chooses, start_prepares, start_releases, Started}
+use Terms.{StartPlace, subst, suc, Take, take_gave, take_left, take_more, Taker, tally_cleared, tally_less, true}
+use Terms.{unit_more, unit_over, unit_owed, unit_owes, unit_took, UnitBody, UnitPlace, Units, unless_done, whether_as}
+use Terms.{Wholes, zero, ℕ}
 use Rattle.word_shapes.specs.Playing.{goes}
 use Rattle.service_outline.specs.DeferredWrites.{AreOwed}
 use Rattle.spi_sequences.specs.laws.bookkeeping.RefinementRight.{bare_right}
@@ -60,11 +61,9 @@ SoughtLess n (All at p) = Unit {0}
 
 search_less : (s : Search) (v : ℕ) → SoughtLess (search_more s) (sought s v)
 search_less (search.Tally at) v = omega arith
-search_less (search.Low at tally) v = by (nat_le (count_in tally) 8)
-  where
-    by : (q : Bool) → SoughtLess 1 (if q then All at (record { low = v; high = 0; tally = tally }) else More (search.High at tally v))
-    by true = tt
-    by false = omega arith
+search_less (search.Low at tally) v = whether_as (nat_le (count_in tally) 8) (λ q. SoughtLess 1 (if q then All at (record { low = v; high = 0; tally = tally }) else More (search.High at tally v)))
+    (λ _. tt)
+    (λ _. omega arith)
 search_less (search.High at tally low) v = tt
 
 pub take_less : (p : Take) (v : ℕ) → has_ended (take_gave p v) ≡ false → take_more (take_left p v) < take_more p
@@ -96,7 +95,7 @@ drop_less (drops.Low at p) v e =
 drop_less (drops.High at p) v e = omega arith
 drop_less (drops.Tell at tally) v e = absurd (cc)
 
-keep_few : (x : Placed) (i : ℕ) (t : Taker) (w : ℕ) → keep_more (keeping x i t w) ≤ 1
+pub keep_few : (x : Placed) (i : ℕ) (t : Taker) (w : ℕ) → keep_more (keeping x i t w) ≤ 1
 keep_few x i (takers.Bank b) w =
     elim (i == 0) as (λ q. keep_more (if q then keeps.Hold x b w else keeps.Fill x i b w) ≤ 1)
     [ true ↦ omega arith | false ↦ omega arith ]
@@ -144,14 +143,12 @@ over_less k p n _ _ = tt
 
 module _ (k : UnitBody) where
   prepared_less : (r : Running) (n : ℕ) → 3 < n → StartLess k n (prepared k.table r, started.Goes None)
-  prepared_less r n lt = by (x.channel.internal && nat_le x.channel.length 1)
+  prepared_less r n lt = whether_as (x.channel.internal && nat_le x.channel.length 1) (λ q. StartLess k n (if q then starts.Release r (releasing x Sent) else starts.Run r, started.Goes None))
+      (λ _. lt)
+      (λ _. omega (arith, lt))
     where
       x : Placed
       x = channel_at_place k.table r.job 0
-
-      by : (q : Bool) → StartLess k n (if q then starts.Release r (releasing x Sent) else starts.Run r, started.Goes None)
-      by true = lt
-      by false = omega (arith, lt)
 
   prepares_less : (r : Running) (i n : ℕ) → 3 < n → 5 + 2 * (3 - i) < n → StartLess k n (prepare_at k.table r i, started.Goes None)
   prepares_less r i n lt more =
@@ -159,26 +156,20 @@ module _ (k : UnitBody) where
       [ None ↦ prepared_less r n lt | Some c ↦ (let few = prepare_few (placed_of k.table c) in omega (arith, few, more)) ]
 
   start_less : (p : StartPlace) (v : ℕ) → Less (unit_more k.table (units.Start p)) (if unit_owes (units.Start p) then unless_done (unit_took k (units.Start p) v).1.done (unit_owed (unit_took k (units.Start p) v).0) else None)
-  start_less (starts.Choose c p) v = by (has_ended (next_gave p v)) refl
-    where
-      by : (q : Bool) → has_ended (next_gave p v) ≡ q → StartLess k (13 + next_more p) (start_chooses c p v q)
-      by true e = omega arith
-      by false e = let lt = next_less p v e in omega (arith, lt)
+  start_less (starts.Choose c p) v = whether_as (has_ended (next_gave p v)) (λ q. StartLess k (13 + next_more p) (start_chooses c p v q))
+      (λ e. omega arith)
+      (λ e. let lt = next_less p v e in omega (arith, lt))
   start_less (starts.Mark c) v = prepares_less c.run 0 12 (omega arith) (omega arith)
   start_less (starts.Prepare r i p) v = by (prepare_ends p v) refl
     where
-      onward : (q : Bool) → nat_lt i 3 ≡ q → StartLess k (4 + 2 * (3 - i) + prepare_more p) (if q then prepare_at k.table r (i + 1) else prepared k.table r, started.Goes None)
-      onward true e = let lt : i < 3 = grind (arith, nat_tests) in prepares_less r (i + 1) _ (omega arith) (omega (arith, lt))
-      onward false e = prepared_less r _ (omega arith)
-
       by : (q : Bool) → prepare_ends p v ≡ q → StartLess k (4 + 2 * (3 - i) + prepare_more p) (start_prepares k.table r i p v q)
-      by true e = onward (nat_lt i 3) refl
+      by true e = whether_as (nat_lt i 3) (λ q. StartLess k (4 + 2 * (3 - i) + prepare_more p) (if q then prepare_at k.table r (i + 1) else prepared k.table r, started.Goes None))
+          (λ e. let lt : i < 3 = grind (arith, nat_tests) in prepares_less r (i + 1) _ (omega arith) (omega (arith, lt)))
+          (λ e. prepared_less r _ (omega arith))
       by false e = let lt = prepare_less p v e in omega (arith, lt)
-  start_less (starts.Release r p) v = by (has_ended (take_gave p v)) refl
-    where
-      by : (q : Bool) → has_ended (take_gave p v) ≡ q → StartLess k (2 + take_more p) (start_releases r p v q)
-      by true e = omega arith
-      by false e = let lt = take_less p v e in omega (arith, lt)
+  start_less (starts.Release r p) v = whether_as (has_ended (take_gave p v)) (λ q. StartLess k (2 + take_more p) (start_releases r p v q))
+      (λ e. omega arith)
+      (λ e. let lt = take_less p v e in omega (arith, lt))
   start_less (starts.Run r) v = omega arith
   start_less starts.Stand v = over_less k (units.Start starts.Stand) 0 k.errand k.unit
   start_less _ v = tt
@@ -229,16 +220,12 @@ module _ (k : UnitBody) where
       by (Some i) e = let is = internal_after l n i e in omega (arith, lt, is)
 
   serve_less : (p : ServePlace) (v : ℕ) → Less (unit_more k.table (units.Serve p)) (if unit_owes (units.Serve p) then unless_done (unit_took k (units.Serve p) v).1.done (unit_owed (unit_took k (units.Serve p) v).0) else None)
-  serve_less (serves.Let r p t) v = by (has_ended (take_gave t v)) refl
-    where
-      by : (q : Bool) → has_ended (take_gave t v) ≡ q → ServeLess k (3 + take_more t) (serve_lets k.table r p t v q)
-      by true e = let few = keep_few (channel_at_place k.table r.served.run.job r.served.at.channel) r.served.at.word r.taker r.word in omega (arith, few)
-      by false e = let lt = take_less t v e in omega (arith, lt)
-  serve_less (serves.Keep x p) v = by (keep_ends x) refl
-    where
-      by : (q : Bool) → keep_ends x ≡ q → ServeLess k (1 + keep_more x) (serve_keeps x p q)
-      by true e = omega arith
-      by false e = let lt = keep_less x e in omega (arith, lt)
+  serve_less (serves.Let r p t) v = whether_as (has_ended (take_gave t v)) (λ q. ServeLess k (3 + take_more t) (serve_lets k.table r p t v q))
+      (λ e. let few = keep_few (channel_at_place k.table r.served.run.job r.served.at.channel) r.served.at.word r.taker r.word in omega (arith, few))
+      (λ e. let lt = take_less t v e in omega (arith, lt))
+  serve_less (serves.Keep x p) v = whether_as (keep_ends x) (λ q. ServeLess k (1 + keep_more x) (serve_keeps x p q))
+      (λ e. omega arith)
+      (λ e. let lt = keep_less x e in omega (arith, lt))
   serve_less (serves.Stand p) v = over_less k (units.Serve (serves.Stand p)) 0 k.errand k.unit
   serve_less (serves.Free r c) v = by r.served.failed
     where
@@ -248,32 +235,24 @@ module _ (k : UnitBody) where
       by : (q : Bool) → ServeLess k (if q then 16 else 10 + commits_left k.table l 4) (if q then release_last k.table l (4 - r.served.at.channel) else serves.KeepLast l (keep_of k.table r), steps.Goes None)
       by true = release_less l (4 - r.served.at.channel) 16 (omega arith) (λ i low high. omega arith)
       by false = let few = keep_few (channel_at_place k.table r.served.run.job r.served.at.channel) r.served.at.word r.taker r.word in omega (arith, few)
-  serve_less (serves.Release l i t) v = by (has_ended (take_gave t v)) refl
-    where
-      by : (q : Bool) → has_ended (take_gave t v) ≡ q → ServeLess k (8 + 2 * (3 - i) + take_more t) (serve_releases k.table l i t v q)
-      by true e = release_less l (3 - i) _ (omega arith) (λ j low high. omega (arith, low, high))
-      by false e = let lt = take_less t v e in omega (arith, lt)
-  serve_less (serves.KeepLast l x) v = by (keep_ends x) refl
-    where
-      by : (q : Bool) → keep_ends x ≡ q → ServeLess k (8 + commits_left k.table l 4 + keep_more x) (serve_keeps_last k.table l x q)
-      by true e = commits_less l 4 _ (omega arith)
-      by false e = let lt = keep_less x e in omega (arith, lt)
-  serve_less (serves.Commit l i c) v = by (commit_ends c v) refl
-    where
-      by : (q : Bool) → commit_ends c v ≡ q → ServeLess k (8 + commits_left k.table l (3 - i) + commit_more c) (serve_commits k.table l i c v q)
-      by true e = commits_less l (3 - i) _ (omega arith)
-      by false e = let lt = commit_less c v e in omega (arith, lt)
+  serve_less (serves.Release l i t) v = whether_as (has_ended (take_gave t v)) (λ q. ServeLess k (8 + 2 * (3 - i) + take_more t) (serve_releases k.table l i t v q))
+      (λ e. release_less l (3 - i) _ (omega arith) (λ j low high. omega (arith, low, high)))
+      (λ e. let lt = take_less t v e in omega (arith, lt))
+  serve_less (serves.KeepLast l x) v = whether_as (keep_ends x) (λ q. ServeLess k (8 + commits_left k.table l 4 + keep_more x) (serve_keeps_last k.table l x q))
+      (λ e. commits_less l 4 _ (omega arith))
+      (λ e. let lt = keep_less x e in omega (arith, lt))
+  serve_less (serves.Commit l i c) v = whether_as (commit_ends c v) (λ q. ServeLess k (8 + commits_left k.table l (3 - i) + commit_more c) (serve_commits k.table l i c v q))
+      (λ e. commits_less l (3 - i) _ (omega arith))
+      (λ e. let lt = commit_less c v e in omega (arith, lt))
   serve_less (serves.Result l) v =
       elim l.course as (λ c. ServeLess k 7 (goes_on l.served c, steps.Goes None))
       [ courses.Further x ↦ omega arith | courses.Ends x ↦ omega arith ]
   serve_less (serves.Further r x) v = omega arith
   serve_less (serves.Again r (again.Look at n)) v = omega arith
   serve_less (serves.End r x) v = omega arith
-  serve_less (serves.Drop r p) v = by (has_ended (drop_gave p v)) refl
-    where
-      by : (q : Bool) → has_ended (drop_gave p v) ≡ q → ServeLess k (drop_more p) (serve_drops k.table r p v q)
-      by true e = tt
-      by false e = drop_less p v e
+  serve_less (serves.Drop r p) v = whether_as (has_ended (drop_gave p v)) (λ q. ServeLess k (drop_more p) (serve_drops k.table r p v q))
+      (λ e. tt)
+      (λ e. drop_less p v e)
   serve_less _ v = tt
 
   unit_less : (p : UnitPlace) (v : ℕ) → Less (unit_more k.table p) (if unit_owes p then unless_done (unit_took k p v).1.done (unit_owed (unit_took k p v).0) else None)
@@ -345,25 +324,19 @@ module _ (k : SyncBody) where
 
   sync_less : (p : SyncPlace) (v : ℕ) → Less (sync_more k.table p) (if sync_owes p then unless_done (sync_took k p v).1.done (sync_owed (sync_took k p v).0) else None)
   sync_less sends.Pend v = first_ready
-  sync_less (sends.Keep r p) v = by (keep_ends p) refl
-    where
-      by : (q : Bool) → keep_ends p ≡ q → SyncLess (21 + keep_more p) (sync_at k (sync_keeps k r p q), outline.goes)
-      by true e = made_readable r 4 _ (omega arith) (λ i low high. omega arith)
-      by false e = let lt = keep_less p e in omega (arith, lt)
-  sync_less (sends.Commit r i p) v = by (has_ended (put_gave p v)) refl
-    where
-      by : (q : Bool) → has_ended (put_gave p v) ≡ q → SyncLess (13 + 2 * (3 - i) + put_more p) (sync_at k (sync_committed k r i p v q), outline.goes)
-      by true e = made_readable r (3 - i) _ (omega arith) (λ j low high. omega (arith, low, high))
-      by false e = let lt = commit_less (commits.Put p) v e in omega (arith, lt)
+  sync_less (sends.Keep r p) v = whether_as (keep_ends p) (λ q. SyncLess (21 + keep_more p) (sync_at k (sync_keeps k r p q), outline.goes))
+      (λ e. made_readable r 4 _ (omega arith) (λ i low high. omega arith))
+      (λ e. let lt = keep_less p e in omega (arith, lt))
+  sync_less (sends.Commit r i p) v = whether_as (has_ended (put_gave p v)) (λ q. SyncLess (13 + 2 * (3 - i) + put_more p) (sync_at k (sync_committed k r i p v q), outline.goes))
+      (λ e. made_readable r (3 - i) _ (omega arith) (λ j low high. omega (arith, low, high)))
+      (λ e. let lt = commit_less (commits.Put p) v e in omega (arith, lt))
   sync_less (sends.Result r) v = first_ready
   sync_less (sends.Prepare i p) v = by (prepare_ends p v) refl
     where
-      onward : (q : Bool) → nat_lt i 3 ≡ q → SyncLess (4 + 2 * (3 - i) + prepare_more p) (sync_at k (if q then sync_prepares_at k (i + 1) else sends.Run), outline.goes)
-      onward true e = let lt : i < 3 = grind (arith, nat_tests) in made_ready (i + 1) _ (omega arith) (omega (arith, lt))
-      onward false e = omega arith
-
       by : (q : Bool) → prepare_ends p v ≡ q → SyncLess (4 + 2 * (3 - i) + prepare_more p) (sync_at k (sync_prepared k i p v q), outline.goes)
-      by true e = onward (nat_lt i 3) refl
+      by true e = whether_as (nat_lt i 3) (λ q. SyncLess (4 + 2 * (3 - i) + prepare_more p) (sync_at k (if q then sync_prepares_at k (i + 1) else sends.Run), outline.goes))
+          (λ e. let lt : i < 3 = grind (arith, nat_tests) in made_ready (i + 1) _ (omega arith) (omega (arith, lt)))
+          (λ e. omega arith)
       by false e = let lt = prepare_less p v e in omega (arith, lt)
   sync_less sends.Run v = omega arith
   sync_less sends.Stand v = omega arith
@@ -405,11 +378,9 @@ module _ (k : SyncBody) where
 
 owed_less : (x : PendingWrites) (v : ℕ) → Less (more_owed x) (owed_left x v)
 owed_less (Units k) v = unit_less k k.place v
-owed_less (Cancels (cancels.Drop r p)) v = by (has_ended (drop_gave p v)) refl
-  where
-    by : (q : Bool) → has_ended (drop_gave p v) ≡ q → Less (drop_more p) (unless_done (cancel_drops r p v q).1.done (cancel_owed_at (cancel_drops r p v q).0))
-    by true e = tt
-    by false e = drop_less p v e
+owed_less (Cancels (cancels.Drop r p)) v = whether_as (has_ended (drop_gave p v)) (λ q. Less (drop_more p) (unless_done (cancel_drops r p v q).1.done (cancel_owed_at (cancel_drops r p v q).0)))
+    (λ e. tt)
+    (λ e. drop_less p v e)
 owed_less (Wholes (wholes.Look x q)) v = tt
 owed_less (Sends k) v = sync_less k k.place v
 owed_less _ v = tt

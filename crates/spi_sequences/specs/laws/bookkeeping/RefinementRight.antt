@@ -1,24 +1,23 @@
 -- The basis keeps what it owes: at the start, in time, under moves elsewhere, over a reset and at rest.
--- From hardware.SourceFilled, hardware.AfterReset, hardware.StableUnderHardware, words.WordsToState and 1 more.
--- Used by services.WriteRight, services.ReadRight, services.InitWords, bookkeeping.PendingWritesBounds.
+-- From hardware.SourceFilled, words.ListTests, service_outline: Words, hardware.AfterReset and 5 more.
+-- Used by spi_driver: bookkeeping.KeepsToModule, spi_driver: bookkeeping.Lawful and 17 more.
 use Rattle.std.proofs.Common.{◌≡◌, ◌≢◌, ◌+◌, ◌-◌, ◌*◌, ◌/◌, ◌%◌, ◌^◌, ◌<◌, ◌≤◌, ◌==◌, ◌&&◌, ◌||◌, [], ◌∷◌, ◌∙◌, ◌⊎◌}
 use Rattle.std.proofs.Common.{if◌then◌else◌}
 use Rattle.spi_sequences.specs.Terms
-use Terms.{act-leaves, after_read, and_false, and_parts, ap, arith, best, Bool, Called}
-use Terms.{carries_channel, Carrying, channel_of, channels_by, channels_of, Chip, chip_after}
-use Terms.{clear_apart, ClockPll, ClockRate, Contains, due, EnableClear, EnableSet, false, Fill}
-use Terms.{fills_there, filter, first_state, FitsSpi, Going, happened, Hardware, has_bit, has_bit-or}
-use Terms.{has_bit-pow_other, has_bit-without, has_done, has_handler, has_lines, Init, inl, inr, InTransfer, is_done}
-use Terms.{is_for, is_for_lines, is_in_use, is_interrupt, is_masked, is_off, is_on_unit, is_owed, is_shared, is_some}
-use Terms.{is_sync_unit, is_used, is_word_of, IsBasis, Job, job_of, jobs_of, Level, level_leaves, line-serial, List}
-use Terms.{list_any, Load, Made, may, may_name, may_write, MayCome, Move, move_there, moved, names_there, nat_lt}
-use Terms.{nat_tests, next_at, next_by, next_job, next_on, None, not, number_of, Option, Order, outcome, owns_written}
-use Terms.{Pending, PowerOn, rate-left, Read, reads_from, ready, refl, Reg, Reservations, ResetRequest}
-use Terms.{resets_chip, Run, run_at, RunsNext, Serial, SerialAck, SerialData, SerialSelect, SerialWidth, set_apart}
-use Terms.{sets_rate, Some, Spi0, Spi1, spi_bare, spi_owns, spi_setting, SpiFault, SpiRepresents, SpiState, SpiTable}
-use Terms.{stands-event, stands-move, StandsIn, Steady, Store, stores_in, subst, suc, sym, tells_nothing, TimerLow}
-use Terms.{true, unit_at, unit_of, UnitAgrees, uses, uses_by, uses_channel, uses_unit, view, wiring-left, word-left}
-use Terms.{word_apart, word_of, World, world_after, Write, zero, ℕ}
+use Terms.{act-leaves, after_read, and_false, and_parts, ap, arith, best, Bool, Called, carries_channel, Carrying}
+use Terms.{channel_of, channels_by, channels_of, Chip, chip_after, clear_apart, ClockPll, ClockRate, Contains, due}
+use Terms.{EnableClear, EnableSet, false, Fill, fills_there, filter, first_state, FitsSpi, Going, happened, Hardware}
+use Terms.{has_bit, has_bit-or, has_bit-pow_other, has_bit-without, has_done, has_handler, has_lines, Init, inl, inr}
+use Terms.{InTransfer, is_done, is_for, is_for_lines, is_in_use, is_interrupt, is_masked, is_off, is_on_unit, is_owed}
+use Terms.{is_shared, is_some, is_sync_unit, is_used, is_word_of, IsBasis, Job, job_of, jobs_of, Level, level_leaves}
+use Terms.{line-serial, List, list_any, Load, Made, may, may_name, may_write, MayCome, Move, move_there, moved}
+use Terms.{names_there, nat_lt, nat_tests, next_at, next_by, next_job, next_on, None, not, number_of, Option, Order}
+use Terms.{outcome, owns_written, Pending, PowerOn, rate-left, Read, reads_from, ready, refl, Reg, Reservations}
+use Terms.{ResetRequest, resets_chip, Run, run_at, RunsNext, Serial, SerialAck, SerialData, SerialSelect, SerialWidth}
+use Terms.{set_apart, sets_rate, Some, Spi0, Spi1, spi_bare, spi_owns, spi_setting, SpiFault, SpiRepresents, SpiState}
+use Terms.{SpiTable, stands-event, stands-move, StandsIn, Steady, Store, stores_in, subst, suc, sym, tells_nothing}
+use Terms.{TimerLow, true, unit_at, unit_of, UnitAgrees, uses, uses_by, uses_channel, uses_unit, view, whether}
+use Terms.{whether_as, wiring-left, word-left, word_apart, word_of, World, world_after, Write, zero, ℕ}
 use Rattle.chip_model.specs.Chip.{is_pending}
 use Rattle.mcal_base.specs.declared.register.Reg.TheVariants.{SerialWait}
 use Rattle.run_model.specs.Frame.{Origin}
@@ -317,11 +316,9 @@ module _ (d : SpiTable) (fits : FitsSpi d) (held : Reservations) (chip : Chip) (
       time = h.outside.together.serials ∙ h.outside.now
 
       on : has_done w.now (run_at s u) ≡ (not (is_off s.mode) && has_done w.now (run_at s u))
-      on = by (is_off s.mode) refl
-        where
-          by : (q : Bool) → is_off s.mode ≡ q → has_done w.now (run_at s u) ≡ (not q && has_done w.now (run_at s u))
-          by true e = ap (λ r. has_done w.now r) (off_none u e)
-          by false e = refl
+      on = whether_as (is_off s.mode) (λ q. has_done w.now (run_at s u) ≡ (not q && has_done w.now (run_at s u)))
+          (λ e. ap (λ r. has_done w.now r) (off_none u e))
+          (λ e. refl)
 
       never : (a b : Bool) → a && (b && false) ≡ false
       never true true = refl
@@ -353,12 +350,8 @@ module _ (d : SpiTable) (fits : FitsSpi d) (held : Reservations) (chip : Chip) (
   runs_used : (u : ℕ) → u < 2 → is_some (run_at s u) ≡ true → has_handler d u ≡ true
   runs_used u lt e = ap (λ q. uses_unit d u && not q) async ∙ ap (λ q. q && true) (by (h.going u) refl (h.units u lt async) (h.nexts u lt))
     where
-      started : (q : Bool) → is_sync_unit d u ≡ q → is_sync_unit d u ≡ false
-      started true i = absurd (let f = sym e ∙ ap is_some (idle_sync u i) in cc)
-      started false i = i
-
       async : is_sync_unit d u ≡ false
-      async = started (is_sync_unit d u) refl
+      async = whether (is_sync_unit d u) (λ i. absurd (let f = sym e ∙ ap is_some (idle_sync u i) in cc)) (λ i. i)
 
       by : (g : Option Going) → h.going u ≡ g → UnitAgrees d (unit_at chip.serials u) (run_at s u) g → RunsNext d (view s) u g → uses_unit d u ≡ true
       by None i a n = absurd (let f = sym e ∙ ap is_some a.1 in cc)
@@ -395,11 +388,7 @@ module _ (d : SpiTable) (fits : FitsSpi d) (held : Reservations) (chip : Chip) (
       by (suc (suc v)) e = ap (λ o. not (is_off s.mode) && has_done w.now (run_of s o)) (beyond v) ∙ and_false (not (is_off s.mode))
 
   pub unused_line : (line : ℕ) → is_used d line ≡ false → due w s line ≡ false
-  unused_line line e = by (due w s line) refl
-    where
-      by : (q : Bool) → due w s line ≡ q → due w s line ≡ false
-      by true i = not_both (is_used d line) (due_used line i) e
-      by false i = i
+  unused_line line e = whether (due w s line) (λ i. not_both (is_used d line) (due_used line i) e) (λ i. i)
 
   -- ---- starts
 
@@ -408,11 +397,9 @@ module _ (d : SpiTable) (fits : FitsSpi d) (held : Reservations) (chip : Chip) (
     where
       by : (ps : List Pending) → ((p : Pending) → Contains ps p → is_for d u p ≡ true → ⊥) → filter (is_for d u) ps ≡ []
       by [] none = refl
-      by (p ∷ ps) none = split (is_for d u p) refl (by ps (λ x there. none x (suc there.0, let lt = there.1 in omega (arith, lt), there.2)))
-        where
-          split : (q : Bool) → is_for d u p ≡ q → filter (is_for d u) ps ≡ [] → filter (is_for d u) (p ∷ ps) ≡ []
-          split true e rest = absurd (none p (0, omega arith, refl) e)
-          split false e rest = ap (λ b. if b then p ∷ filter (is_for d u) ps else filter (is_for d u) ps) e ∙ rest
+      by (p ∷ ps) none = whether (is_for d u p)
+          (λ e. absurd (none p (0, omega arith, refl) e))
+          (λ e. ap (λ b. if b then p ∷ filter (is_for d u) ps else filter (is_for d u) ps) e ∙ (by ps (λ x there. none x (suc there.0, let lt = there.1 in omega (arith, lt), there.2))))
 
 used_line : (d : SpiTable) (line : ℕ) → is_used d line ≡ true → (line == 26 || line == 27) ≡ true
 used_line d line e = by (line == 26) (line == 27) refl refl

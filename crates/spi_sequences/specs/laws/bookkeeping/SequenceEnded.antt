@@ -1,18 +1,19 @@
 -- A pending sequence ends, and its jobs that never ran have the results that they had: the state is sound, and the
 -- words stand for it.
--- From words.WordsToState, words.JobPlaces, words.SameWords, words.AllSequences.
--- Used by services.CancelRight, services.RequestRight, bookkeeping.AcceptedState, bookkeeping.NextChosen.
+-- From words.ListTests, words.AllSequences, words.Cases, words.JobPlaces, words.SameWords.
+-- Used by services.CancelRight, spi_serving: services.SequenceOverRight, spi_sending: services.SendLast and 13 more.
 use Rattle.std.proofs.Common.{◌≡◌, ◌≢◌, ◌+◌, ◌-◌, ◌<◌, ◌≤◌, ◌==◌, ◌&&◌, ◌||◌, [], ◌∷◌, ◌++◌, ◌∙◌, ◌⊎◌, if◌then◌else◌}
 use Rattle.spi_sequences.specs.Terms
-use Terms.{all_of, AnswerName, ap, AreDifferent, arith, Bool, cancelled_bit, Contains, Contains-get_or, drop}
+use Terms.{all_of, AnswerName, ap, AreDifferent, arith, Bool, cancelled_bit, cases, Contains, Contains-get_or, drop}
 use Terms.{entries_begun, entries_of, Entry, false, filter, FitsSpi, get_or-drop, get_or_default, given_back, has_job}
 use Terms.{has_mark, inl, inr, is_for, is_left, is_of, is_off, is_pending, is_sync_sequence, is_sync_unit, is_there}
 use Terms.{IsLast, IsOfSequence, IsOnce, IsSoundState, item-other, item-same, job_code, job_result, job_word, jobs_by}
 use Terms.{jobs_of, length, length-drop, List, list_any, map, MARKS, Memory, next_in, NEXTS, None, not, Option}
-use Terms.{order_word, Pending, refl, repeats, repeats-drop, results-other, results-own, same_or_other, Sequence}
-use Terms.{sequence_code, sequence_of, sequence_result, sequence_word, SequencesAgree, shares_job, slice_get}
-use Terms.{slice_index_or, Some, some_is, SpiJobOk, SpiJobPending, SpiJobQueued, SpiSeqOk, SpiSeqPending, SpiTable}
-use Terms.{started_bit, subst, suc, sym, true, unit_of_sequence, View, with_item, without, zero, ℕ}
+use Terms.{order_word, Pending, refl, repeats, repeats-drop, results-other, results-own, same_or_other, sequence_code}
+use Terms.{sequence_of, sequence_result, sequence_word, SequencesAgree, shares_job, slice_get, slice_index_or, Some}
+use Terms.{some_is, some_or_none, SpiJobOk, SpiJobPending, SpiJobQueued, SpiSeqOk, SpiSeqPending, SpiTable}
+use Terms.{started_bit, subst, suc, sym, true, unit_of_sequence, View, whether, whether_as, with_item, without, zero}
+use Terms.{ℕ}
 use Rattle.spi_sequences.specs.laws.{words.SameWords.{job_small}, words.ListTests.{any_in}}
 use Rattle.spi_sequences.specs.laws.words.AllSequences.{all_carried, all_cases, all_pending, aside_pending, one_of_all}
 use Rattle.spi_sequences.specs.laws.{words.JobPlaces.{LeftAt, at_left, left_at}, words.WordsToState.{any_none}}
@@ -56,11 +57,9 @@ module _ {A : Type 0} (t : A → Bool) where
 
 pub filter_keeps : {A : Type 0} (t : A → Bool) (xs : List A) (y : A) → Contains xs y → t y ≡ true → Contains (filter t xs) y
 filter_keeps t [] y (k, lt, e) f = absurd (omega (arith, lt))
-filter_keeps t (z ∷ zs) y (zero, lt, e) f = ap_first (t z) refl
-  where
-    ap_first : (q : Bool) → t z ≡ q → Contains (if q then z ∷ filter t zs else filter t zs) y
-    ap_first true g = (0, omega arith, e)
-    ap_first false g = absurd (let i = sym g ∙ ap t e ∙ f in cc)
+filter_keeps t (z ∷ zs) y (zero, lt, e) f = whether_as (t z) (λ q. Contains (if q then z ∷ filter t zs else filter t zs) y)
+    (λ g. (0, omega arith, e))
+    (λ g. absurd (let i = sym g ∙ ap t e ∙ f in cc))
 filter_keeps t (z ∷ zs) y (suc k, lt, e) f = by (t z) (filter_keeps t zs y (k, omega (arith, lt), e) f)
   where
     by : (q : Bool) → Contains (filter t zs) y → Contains (if q then z ∷ filter t zs else filter t zs) y
@@ -80,11 +79,9 @@ different_once (x ∷ xs) h = or_from (list_any (λ m. m == x) xs) (repeats xs) 
     again (m, (k, lt, e), is) = let f = h 0 (suc k) x refl (at_contained xs k m lt e ∙ ap (λ n. Some n) (is_number m x is)) in omega (arith, f)
 
 pub jobs_once : (d : SpiTable) → FitsSpi d → (q : ℕ) → repeats (jobs_of d q) ≡ false
-jobs_once d fits q = by (sequence_of d q) refl
-  where
-    by : (k : Option Sequence) → sequence_of d q ≡ k → repeats (jobs_of d q) ≡ false
-    by None e = ap (λ o. repeats (jobs_by o)) e
-    by (Some k) e = different_once (jobs_of d q) (fits.sequences q k e).once
+jobs_once d fits q = some_or_none (sequence_of d q)
+    (λ k e. different_once (jobs_of d q) (fits.sequences q k e).once)
+    (λ e. ap (λ o. repeats (jobs_by o)) e)
 
 -- ---- the order
 
@@ -128,11 +125,9 @@ module _ (d : SpiTable) (u q : ℕ) (running running1 : ℕ → Bool) (others : 
 -- an entry that is there is that of a pending sequence for the unit, and the other way round
 pub there_back : (running : ℕ → Bool) (n : ℕ) (ps : List Pending) → is_there n (map (λ p. record { number = p.sequence; waits = not (running p.sequence) }) ps) ≡ true → (x : Pending) × Contains ps x × (x.sequence ≡ n)
 there_back running n [] e = absurd (cc)
-there_back running n (p ∷ ps) e = by (is_of n p) refl (there_back running n ps)
-  where
-    by : (b : Bool) → is_of n p ≡ b → (is_there n (map (λ p. record { number = p.sequence; waits = not (running p.sequence) }) ps) ≡ true → (x : Pending) × Contains ps x × (x.sequence ≡ n)) → (x : Pending) × Contains (p ∷ ps) x × (x.sequence ≡ n)
-    by true f rest = (p, (0, omega arith, refl), is_number p.sequence n f)
-    by false f rest = let r = rest (ap (λ b. b || is_there n (map (λ p. record { number = p.sequence; waits = not (running p.sequence) }) ps)) (sym f) ∙ e) in (r.0, (suc r.1.0, let lt = r.1.1 in omega (arith, lt), r.1.2), r.2)
+there_back running n (p ∷ ps) e = whether (is_of n p)
+    (λ f. (p, (0, omega arith, refl), is_number p.sequence n f))
+    (λ f. let r = there_back running n ps (ap (λ b. b || is_there n (map (λ p. record { number = p.sequence; waits = not (running p.sequence) }) ps)) (sym f) ∙ e) in (r.0, (suc r.1.0, let lt = r.1.1 in omega (arith, lt), r.1.2), r.2))
 
 pub there_by : (running : ℕ → Bool) (ps : List Pending) (x : Pending) → Contains ps x → is_there x.sequence (map (λ p. record { number = p.sequence; waits = not (running p.sequence) }) ps) ≡ true
 there_by running [] x (k, lt, e) = absurd (omega (arith, lt))
@@ -268,11 +263,9 @@ module _ (d : SpiTable) (fits : FitsSpi d) (v : View) (h : IsSoundState d v) (p 
         by (inr (u, e)) = let r = leaves.carried u x e in (all_carried v u x (h.carries.unit u x r.0).0 r.0, r.1)
 
     none_left : (j : ℕ) → list_any (is_left d j) (all_of ended_view) ≡ false → is_left d j p ≡ false → list_any (is_left d j) (all_of v) ≡ false
-    none_left j none own = none_any (is_left d j) (all_of v) (λ x also. by x also (same_or_other x.sequence p.sequence))
-      where
-        by : (x : Pending) → Contains (all_of v) x → (x.sequence ≡ p.sequence) ⊎ (x.sequence ≢ p.sequence) → is_left d j x ≡ false
-        by x also (inl e) = subst (λ z. is_left d j z ≡ false) (sym (one_entry x also e)) own
-        by x also (inr ne) = any_none (is_left d j) (all_of ended_view) none x (leaves.stays x also ne)
+    none_left j none own = none_any (is_left d j) (all_of v) (λ x also. cases (same_or_other x.sequence p.sequence)
+        (λ e. subst (λ z. is_left d j z ≡ false) (sym (one_entry x also e)) own)
+        (λ ne. any_none (is_left d j) (all_of ended_view) none x (leaves.stays x also ne)))
 
     -- a job that no other one has left
     last_by : (j : ℕ) → list_any (is_left d j) (all_of ended_view) ≡ false → (a : Bool) → rest j ≡ a → (b : Bool) → is_left d j p ≡ b → IsLast (job_result given j)
@@ -288,7 +281,9 @@ module _ (d : SpiTable) (fits : FitsSpi d) (v : View) (h : IsSoundState d v) (p 
       results = record {
         queued = λ x i is le lt. let k = leaves.kept x is in other_result x (slice_index_or (jobs_of d x.sequence) i 0) (all_pending v x k.0) k.1 (Contains-get_or (jobs_of d x.sequence) i 0 lt) ∙ h.results.queued x i k.0 le lt ∙ ap (λ b. if i == x.next && b then SpiJobPending else SpiJobQueued) (sym (others x.sequence k.1));
         last = λ j none. last_by j none (rest j) refl (is_left d j p) refl;
-        named = λ n lt. names n lt (same_or_other n p.sequence);
+        named = λ n lt. cases (same_or_other n p.sequence)
+            (λ e. subst (λ k. IsOfSequence (sequence_result (with_item SpiSeqOk v.sequence_results p.sequence result) k)) (sym e) (subst (λ x. IsOfSequence x) (sym (item-same SpiSeqOk v.sequence_results p.sequence result)) named))
+            (λ ne. subst (λ x. IsOfSequence x) (sym (item-other SpiSeqOk v.sequence_results p.sequence n result ne)) (h.results.named n lt));
         sequences = λ n lt. represents n lt (same_or_other n p.sequence);
       };
       carries = record {
@@ -313,19 +308,13 @@ module _ (d : SpiTable) (fits : FitsSpi d) (v : View) (h : IsSoundState d v) (p 
         none_pending [] never = refl
         none_pending (x ∷ xs) never = absurd (never x (0, omega arith, refl))
 
-        names : (n : ℕ) → n < 8 → (n ≡ p.sequence) ⊎ (n ≢ p.sequence) → IsOfSequence (sequence_result (with_item SpiSeqOk v.sequence_results p.sequence result) n)
-        names n lt (inl e) = subst (λ k. IsOfSequence (sequence_result (with_item SpiSeqOk v.sequence_results p.sequence result) k)) (sym e) (subst (λ x. IsOfSequence x) (sym (item-same SpiSeqOk v.sequence_results p.sequence result)) named)
-        names n lt (inr ne) = subst (λ x. IsOfSequence x) (sym (item-other SpiSeqOk v.sequence_results p.sequence n result ne)) (h.results.named n lt)
-
         gone : is_pending p.sequence (all_of ended_view) ≡ false
         gone = none_any (is_of p.sequence) (all_of ended_view) (λ x is. other_number x.sequence p.sequence (kept x is).1)
 
         stays : (n : ℕ) → n ≢ p.sequence → is_pending n (all_of ended_view) ≡ is_pending n (all_of v)
-        stays n ne = by (is_pending n (all_of v)) refl
-          where
-            by : (b : Bool) → is_pending n (all_of v) ≡ b → is_pending n (all_of ended_view) ≡ is_pending n (all_of v)
-            by true e = let r = any_some (is_of n) (all_of v) e in any_in (is_of n) (all_of ended_view) r.0 (leaves.stays r.0 r.1 (λ f. ne (sym (is_number r.0.sequence n r.2) ∙ f))) r.2 ∙ sym e
-            by false e = none_any (is_of n) (all_of ended_view) (λ x is. any_none (is_of n) (all_of v) e x (kept x is).0) ∙ sym e
+        stays n ne = whether (is_pending n (all_of v))
+            (λ e. let r = any_some (is_of n) (all_of v) e in any_in (is_of n) (all_of ended_view) r.0 (leaves.stays r.0 r.1 (λ f. ne (sym (is_number r.0.sequence n r.2) ∙ f))) r.2 ∙ sym e)
+            (λ e. none_any (is_of n) (all_of ended_view) (λ x is. any_none (is_of n) (all_of v) e x (kept x is).0) ∙ sym e)
 
         represents : (n : ℕ) → n < 8 → (n ≡ p.sequence) ⊎ (n ≢ p.sequence) → (sequence_result (with_item SpiSeqOk v.sequence_results p.sequence result) n ≡ SpiSeqPending → is_pending n (all_of ended_view) ≡ true) × (is_pending n (all_of ended_view) ≡ true → sequence_result (with_item SpiSeqOk v.sequence_results p.sequence result) n ≡ SpiSeqPending)
         represents n lt (inl e) = subst (λ k. (sequence_result (with_item SpiSeqOk v.sequence_results p.sequence result) k ≡ SpiSeqPending → is_pending k (all_of ended_view) ≡ true) × (is_pending k (all_of ended_view) ≡ true → sequence_result (with_item SpiSeqOk v.sequence_results p.sequence result) k ≡ SpiSeqPending)) (sym e)
@@ -358,14 +347,12 @@ module _ (d : SpiTable) (fits : FitsSpi d) (v : View) (h : IsSoundState d v) (p 
 
       pub ended_words : SequencesAgree d m1 ended_view
       ended_words = record {
-        sequences = λ n lt. told_by n lt (same_or_other n p.sequence);
+        sequences = λ n lt. cases (same_or_other n p.sequence)
+            (λ e. ap (λ k. m1 (sequence_word k)) e ∙ told ∙ ap sequence_code (sym (item-same SpiSeqOk v.sequence_results p.sequence result)) ∙ ap (λ k. sequence_code (sequence_result (with_item SpiSeqOk v.sequence_results p.sequence result) k)) (sym e))
+            (λ ne. sequence_words n lt ne ∙ a.sequences n lt ∙ ap sequence_code (sym (item-other SpiSeqOk v.sequence_results p.sequence n result ne)));
         pending = λ x is. let k = leaves.kept x is in let w = a.pending x k.0 in record { next = ap (λ n. next_in n x.sequence) nexts ∙ w.next; started = ap (λ n. has_mark n (started_bit x.sequence)) marks ∙ w.started; cancelled = ap (λ n. has_mark n (cancelled_bit x.sequence)) marks ∙ w.cancelled };
         begun = λ u x e. ap (λ n. next_in n x.sequence) nexts ∙ a.begun u x (leaves.carried u x e).0;
         had = λ x i is le lt. let k = kept x is in job_words (slice_index_or (jobs_of d x.sequence) i 0) (job_small d fits x.sequence i lt) (unless_left (slice_index_or (jobs_of d x.sequence) i 0) (not_left x (slice_index_or (jobs_of d x.sequence) i 0) k.0 k.1 (Contains-get_or (jobs_of d x.sequence) i 0 lt))) ∙ a.had x i k.0 le lt;
         jobs = λ j lt none. job_by j lt none (rest j) refl (is_left d j p) refl;
         orders = orders;
       }
-        where
-          told_by : (n : ℕ) → n < 8 → (n ≡ p.sequence) ⊎ (n ≢ p.sequence) → m1 (sequence_word n) ≡ sequence_code (sequence_result (with_item SpiSeqOk v.sequence_results p.sequence result) n)
-          told_by n lt (inl e) = ap (λ k. m1 (sequence_word k)) e ∙ told ∙ ap sequence_code (sym (item-same SpiSeqOk v.sequence_results p.sequence result)) ∙ ap (λ k. sequence_code (sequence_result (with_item SpiSeqOk v.sequence_results p.sequence result) k)) (sym e)
-          told_by n lt (inr ne) = sequence_words n lt ne ∙ a.sequences n lt ∙ ap sequence_code (sym (item-other SpiSeqOk v.sequence_results p.sequence n result ne))

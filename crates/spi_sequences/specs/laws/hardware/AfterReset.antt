@@ -1,6 +1,6 @@
 -- After a reset words and registers stand for the first state.
 -- From words.WordsOfModule.
--- Used by bookkeeping.RefinementRight, services.ModuleRight, services.WriteRight, services.ReadRight and 6 more.
+-- Used by bookkeeping.RefinementRight, services.ModuleRight, spi_driver: bookkeeping.NoneWaits and 19 more.
 use Rattle.std.proofs.Common.{◌≡◌, ◌+◌, ◌*◌, ◌<◌, [], ◌∷◌, ◌∙◌}
 use Rattle.spi_sequences.specs.Terms
 use Terms.{ap, arith, Banks, BanksAgree, Channel, channel_of, Chip, Contains, first_items, first_state, FitsSpi, fresh}

@@ -1,6 +1,6 @@
 -- A source array is filled on the chip and in the machine alike, and nothing else is.
--- From words.KeptWords, words.SameWords, words.WordsOfModule, hardware.StableUnderHardware.
--- Used by bookkeeping.RefinementRight, words.SideWords, mcal_drivers: proofs/SoundConverters and 11 more.
+-- From words.KeptWords, words.WordsOfModule, words.AllSequences, words.SameWords and 4 more.
+-- Used by bookkeeping.RefinementRight, words.SideWords, mcal_drivers: proofs/SoundConverters and 15 more.
 use Rattle.std.proofs.Common.{◌≡◌, ◌≢◌, ◌+◌, ◌-◌, ◌*◌, ◌<◌, ◌≤◌, ◌==◌, ◌&&◌, [], ◌∷◌, ◌++◌, ◌∙◌, ◌⊎◌}
 use Rattle.std.proofs.Common.{if◌then◌else◌}
 use Rattle.spi_sequences.specs.Terms
@@ -8,14 +8,14 @@ use Terms.{AllRight, ap, AreCarried, arith, Bool, Call, carried_at, carries_chan
 use Terms.{channel_at, channel_of, channels_of, ChannelState, Chip, Cleared, Contains, Contains-get_or}
 use Terms.{count_by-le-length, Debt, drop, entry_carried, eq_isnt, false, Fill, filled, FitsSpi, get_or-append-add}
 use Terms.{get_or-drop, get_or-take, get_or_append_left, Going, Handling, happened, HeldRight, HoldsArrays, inl, inr}
-use Terms.{internal_by, is_in_use, is_off, is_own_word, is_some, IsReady, IsSoundState, item-other, item-same, jobs_of}
-use Terms.{length, length-append, length-take, length_by, List, list_any, Mode, moved, nat_lt, nat_tests, next_job}
-use Terms.{None, not, Option, or_parts, or_rest, overwritten, own_words, owners, Part, place_of, placed_of, Preparing}
-use Terms.{put_by, put_held, Putting, Reading, reads_from, refl, Reservation, Reservations, ReservedBy, RunAgrees}
-use Terms.{RunsNext, same_or_other, same_Some, Sending, set_up_code, SetUpFits, slice_get, slice_index, slice_index_or}
-use Terms.{Some, Source, source_length, source_word, SOURCES, spi_setting, SpiRepresents, SpiState, SpiTable}
-use Terms.{stands-event, subst, suc, sum_by, sum_by-cons, sym, take, to_write, true, untouched, uses, uses_channel}
-use Terms.{view, word_at, word_of, WordsAgree, World, Writing, zero, ℕ}
+use Terms.{internal_by, is_in_use, is_off, is_own_word, is_some, IsReady, IsSoundState, item-other, item-same}
+use Terms.{jobs_of, length, length-append, length-take, length_by, List, list_any, Mode, moved, nat_lt, nat_tests}
+use Terms.{next_job, None, not, Option, or_parts, or_rest, overwritten, own_words, owners, Part, place_of, placed_of}
+use Terms.{Preparing, put_by, put_held, Putting, Reading, reads_from, refl, Reservation, Reservations, ReservedBy}
+use Terms.{RunAgrees, RunsNext, same_or_other, same_Some, Sending, set_up_code, SetUpFits, slice_get, slice_index}
+use Terms.{slice_index_or, Some, Source, source_length, source_word, SOURCES, spi_setting, SpiRepresents, SpiState}
+use Terms.{SpiTable, stands-event, subst, suc, sum_by, sum_by-cons, sym, take, to_write, true, untouched, uses}
+use Terms.{uses_channel, view, whether, word_at, word_of, WordsAgree, World, Writing, zero, ℕ}
 use Rattle.spi_sequences.specs.laws.{words.SameWords.{contains_map, words_alike}, words.KeptWords.{banks_view}}
 use Rattle.spi_sequences.specs.laws.{words.KeptWords.{next_view, sequences_as, sound_as}}
 use Rattle.spi_sequences.specs.laws.{words.SendsKept.{sends_as}, words.AllSequences.{all_cases, none_under_way}}
@@ -167,11 +167,9 @@ module _ (d : SpiTable) (fits : FitsSpi d) (held : Reservations) (chip : Chip) (
 
   -- the sources of other channels
   other_source : (n i : ℕ) → n ≢ c → i < 64 → word_of after (place_of (Source n) i) ≡ word_of chip (place_of (Source n) i)
-  other_source n i ne small = by (nat_lt n c) refl
-    where
-      by : (q : Bool) → nat_lt n c ≡ q → word_of after (place_of (Source n) i) ≡ word_of chip (place_of (Source n) i)
-      by true e = low_word _ (let below : n < c = grind (arith, nat_tests) in omega (arith, below, small))
-      by false e = high_word _ (let above : c < n = grind (arith, nat_tests) in omega (arith, above, small))
+  other_source n i ne small = whether (nat_lt n c)
+      (λ e. low_word _ (let below : n < c = grind (arith, nat_tests) in omega (arith, below, small)))
+      (λ e. high_word _ (let above : c < n = grind (arith, nat_tests) in omega (arith, above, small)))
 
   length_small : (n : ℕ) → length_by (channel_of d n) ≤ 64
   length_small n = by (channel_of d n) refl
@@ -238,11 +236,9 @@ module _ (d : SpiTable) (fits : FitsSpi d) (held : Reservations) (chip : Chip) (
       in_job k f i = any_in (λ n. n == c) (channels_of d (next_job d g.pending)) k i (eq_from k c f)
 
       contained : Contains (channels_of d (next_job d g.pending)) x.channel
-      contained = by_mode (is_off s.mode) refl
-        where
-          by_mode : (q : Bool) → is_off s.mode ≡ q → Contains (channels_of d (next_job d g.pending)) x.channel
-          by_mode true f = absurd (none_under_way d (view s) h.sound f g.pending (subst (λ o. RunsNext d (view s) u o) is (h.nexts u small)).0)
-          by_mode false f = let g1 = subst (λ o. RunAgrees d (word_of chip) u o) is ((h.words.on f).runs u small) in subst (λ cs. Contains cs x.channel) g1.channels (contains_map (λ y. y.channel) g.parts n x e)
+      contained = whether (is_off s.mode)
+          (λ f. absurd (none_under_way d (view s) h.sound f g.pending (subst (λ o. RunsNext d (view s) u o) is (h.nexts u small)).0))
+          (λ f. let g1 = subst (λ o. RunAgrees d (word_of chip) u o) is ((h.words.on f).runs u small) in subst (λ cs. Contains cs x.channel) g1.channels (contains_map (λ y. y.channel) g.parts n x e))
 
   right_filled : (hs : Reservations) → AllSpared c hs → AllRight d s.mode s.channels hs → AllRight d later.mode later.channels hs
   right_filled [] none r = tt

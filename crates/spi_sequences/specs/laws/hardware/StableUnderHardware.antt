@@ -1,9 +1,9 @@
 -- The agreement stays while nothing of the module's changes, and as the hardware moves.
--- From words.WordsOfModule, words.SameWords, words.SendsKept.
--- Used by services.CancelRight, services.QueryRight, bookkeeping.RefinementRight, services.WriteRight and 6 more.
+-- From words.WordsOfModule, words.SendsKept, words.Cases, words.SameWords.
+-- Used by services.QueryRight, spi_driver: bookkeeping.UnpolledFrames, bookkeeping.RefinementRight and 17 more.
 use Rattle.std.proofs.Common.{◌≡◌, ◌≢◌, ◌+◌, ◌-◌, ◌<◌, ◌≤◌, ◌||◌, [], ◌∷◌, ◌++◌, ◌∙◌, ◌⊎◌, if◌then◌else◌}
 use Rattle.spi_sequences.specs.Terms
-use Terms.{all_of, ap, AreCarried, arith, Bool, carried_at, CarriesAgrees, Carrying, Channel, channel_of, Chip}
+use Terms.{all_of, ap, AreCarried, arith, Bool, carried_at, CarriesAgrees, Carrying, cases, Channel, channel_of, Chip}
 use Terms.{Destination, entries_begun, entry_carried, false, faulted, faulted_carrying, faulted_run, Fill, FitsSpi}
 use Terms.{get_or-set_other, get_or-set_same, Going, happened, has_bit, held_word, HoldsArrays, idle, inl, inr}
 use Terms.{InTransfer, is_done, is_done_at, is_running, is_some, is_sync_unit, is_word_of, IsSoundState, item-other}
@@ -81,26 +81,22 @@ module _ (now : ℕ) where
     running_same = pointwise (is_running faulted_state) (is_running s) (λ q. any_changed (runs_sequence q) None s.units u (faulted_run now (run_at s u)) refl (runs_same q (run_at s u)))
 
     pub runs_alike : (n : ℕ) → is_some (run_at faulted_state n) ≡ is_some (run_at s n)
-    runs_alike n = by n (same_or_other n u)
-      where
-        by : (n : ℕ) → (n ≡ u) ⊎ (n ≢ u) → is_some (run_at faulted_state n) ≡ is_some (run_at s n)
-        by n (inl e) = subst (λ k. is_some (run_at faulted_state k) ≡ is_some (run_at s k)) (sym e) (ap is_some (item-same None s.units u (faulted_run now (run_at s u))) ∙ idle_same (run_at s u))
-        by n (inr ne) = ap is_some (item-other None s.units u n (faulted_run now (run_at s u)) ne)
+    runs_alike n = cases (same_or_other n u)
+        (λ e. subst (λ k. is_some (run_at faulted_state k) ≡ is_some (run_at s k)) (sym e) (ap is_some (item-same None s.units u (faulted_run now (run_at s u))) ∙ idle_same (run_at s u)))
+        (λ ne. ap is_some (item-other None s.units u n (faulted_run now (run_at s u)) ne))
 
     free_same : (view faulted_state).idle ≡ (view s).idle
     free_same = pointwise (view faulted_state).idle (view s).idle (λ n. ap not (runs_alike n))
 
     -- and a unit carries out what it did
     carried_alike : (n : ℕ) → entry_carried (carried_at faulted_state n) ≡ entry_carried (carried_at s n)
-    carried_alike n = by n (same_or_other n u)
+    carried_alike n = cases (same_or_other n u)
+        (λ e. subst (λ k. entry_carried (carried_at faulted_state k) ≡ entry_carried (carried_at s k)) (sym e) (ap entry_carried (item-same None s.carried u (faulted_carrying now (carried_at s u))) ∙ entry (carried_at s u)))
+        (λ ne. ap entry_carried (item-other None s.carried u n (faulted_carrying now (carried_at s u)) ne))
       where
         entry : (o : Option Carrying) → entry_carried (faulted_carrying now o) ≡ entry_carried o
         entry None = refl
         entry (Some x) = refl
-
-        by : (n : ℕ) → (n ≡ u) ⊎ (n ≢ u) → entry_carried (carried_at faulted_state n) ≡ entry_carried (carried_at s n)
-        by n (inl e) = subst (λ k. entry_carried (carried_at faulted_state k) ≡ entry_carried (carried_at s k)) (sym e) (ap entry_carried (item-same None s.carried u (faulted_carrying now (carried_at s u))) ∙ entry (carried_at s u))
-        by n (inr ne) = ap entry_carried (item-other None s.carried u n (faulted_carrying now (carried_at s u)) ne)
 
     begun_same : (view faulted_state).begun ≡ (view s).begun
     begun_same = pointwise (view faulted_state).begun (view s).begun carried_alike

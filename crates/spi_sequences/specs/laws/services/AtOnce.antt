@@ -1,7 +1,7 @@
 -- The moves of the module's frames wait for no word, but for one of a call that sends a sequence and waits.
--- From services.InitSteps, services.ModuleSteps, services.QuerySteps, services.SetUpSteps, services.WriteSteps, services.ReadSteps,
 -- services.CancelSteps, services.UnitSteps.
--- Used by spi_driver: bookkeeping.Lawful, spi_driver: services.UnitBegins, spi_sending: services.SendRight.
+-- From services.InitSteps, services.UnitSteps, services.ModuleSteps, services.QuerySteps and 7 more.
+-- Used by spi_driver: bookkeeping.Lawful, spi_sending: services.SendRight, spi_driver: services.UnitBegins.
 use Rattle.std.specs.Prelude.{◌≡◌, ℕ, true, false, ◌&&◌, ◌==◌, if◌then◌else◌, Option, Some, None}
 use Rattle.std.proofs.Common.{refl, sym, ◌∙◌}
 use Rattle.mcal_base.specs.declared.moves.Move.{Move}

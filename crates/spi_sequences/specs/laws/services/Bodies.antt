@@ -1,6 +1,6 @@
 -- Each body as one of the driver's bodies.
 -- From services.ReadSteps.
--- Used by services.LookSteps, asked/rt, service/rt, mcal_drivers: Frames, mcal_drivers: Laws.
+-- Used by services.LookSteps, spi_driver: bookkeeping.Lawful, spi_driver: services.UnitBegins and 5 more.
 use Rattle.spi_sequences.specs.Terms
 use Terms.{Answer, CancelBody, First, InitBody, None, Option, Or, QueryBody, ReadBody, Second, SetUpBody, UnitBody}
 use Terms.{WholeBody, WriteBody}

@@ -1,26 +1,26 @@
 -- Spi_Cancel: that it is right.
--- From words.NumbersApart, words.WordsToState, bookkeeping.SequenceEnded, services.CancelSteps and 8 more.
--- Used by services.RequestRight.
-use Rattle.std.proofs.Common.{◌≡◌, ◌≢◌, ◌+◌, ◌<◌, ◌≤◌, ◌==◌, ◌||◌, [], ◌∷◌, ◌∙◌, ◌⊎◌, if◌then◌else◌}
+-- From words.NumbersApart, bookkeeping.SequenceEnded, words.WordsToState, services.CancelSteps and 14 more.
+-- Used by spi_driver: bookkeeping.Lawful, services.RequestRight, spi_serving: services.GoesOnRight and 10 more.
+use Rattle.std.proofs.Common.{◌≡◌, ◌≢◌, ◌+◌, ◌<◌, ◌≤◌, ◌==◌, ◌||◌, [], ◌∷◌, ◌∙◌, if◌then◌else◌}
 use Rattle.spi_sequences.specs.Terms
 use Terms.{Act, acts, acts_by, and_parts, Answer, ap, AreFree, AreLong, AreThere, AreWindows, arith, AssertedAt}
 use Terms.{begins_word, bit_or, BodyTaken, Bool, Call, Called, Cancel, cancel_drops, cancel_owed, cancel_owed_at}
 use Terms.{cancel_takes, cancel_work, CancelBody, CANCELLED, Cancelled, cancelled, cancelled_bit, cancelled_by}
-use Terms.{Cancels, cancels, changed, Chip, chip_after, Cleans, CommitsTo, Contains, Continues, DiffersIn, drop}
-use Terms.{drop-ends, drop_gave, drop_left, Dropped, dropping, ended, ends, entries_of, error_by, error_in, false}
-use Terms.{filter, find, FitsSpi, FrameHistory, fresh_history, goes, GoesFree, GoesOwing, Going, happened, has_ended}
-use Terms.{holds-agree, inl, inr, is_for, is_left, is_of, is_off, is_own_word, is_pending, is_running}
+use Terms.{Cancels, cancels, cases, changed, Chip, chip_after, Cleans, CommitsTo, Contains, Continues, DiffersIn}
+use Terms.{drop, drop-ends, drop_gave, drop_left, Dropped, dropping, ended, ends, entries_of, error_by, error_in}
+use Terms.{false, filter, find, FitsSpi, FrameHistory, fresh_history, goes, GoesFree, GoesOwing, Going, happened}
+use Terms.{has_ended, holds-agree, is_for, is_left, is_of, is_off, is_own_word, is_pending, is_running}
 use Terms.{is_running_sequence, is_shared, is_simple, is_some, is_sync_sequence, is_sync_unit, Is_this_frame, IsPart}
 use Terms.{IsSoundState, IsThisFrame, job_word, jobs_of, List, list_any, Load, LongBodies, MARKS, may, Memory}
 use Terms.{missed_after, Move, moved, NamesOwn, next_job, NEXTS, no_answer, None, not, notes, Nothing, notices_in}
 use Terms.{notifies_sequence, One, Option, Order, order_word, Origin, outcome, owed_left, owed_move, owing, PartTo}
-use Terms.{PENDING, Pending, PendingWrites, place_at, PointAssertion, position_word, PriorityQueue, refl, Reservations}
-use Terms.{resets_chip, Right, run_in, running_word, RunsBy, RunsNext, same_chip, same_or_other, same_Some, search_of}
-use Terms.{sequence_notice, sequence_of, sequence_word, SequencesAgree, settles_part, Shortens, Some, spi_bare}
-use Terms.{spi_basis, spi_machine, spi_owing, SpiRepresents, SpiSeqCanceled, SpiSeqEndNotification, SpiState, SpiTable}
-use Terms.{stands-move, StandsIn, STATE, Store, stored_other, stored_same, subst, suc, sym, tells_nothing, true}
-use Terms.{TurnsTo, Under, unit_of_sequence, unless_done, value_of, view, Windows, windows, windows_right, Within}
-use Terms.{word_later, word_of, Works, World, world_after, ℕ}
+use Terms.{PENDING, Pending, PendingWrites, place_at, PointAssertion, position_word, PriorityQueue, refl}
+use Terms.{Reservations, resets_chip, Right, run_in, running_word, RunsBy, RunsNext, same_chip, same_or_other}
+use Terms.{same_Some, search_of, sequence_notice, sequence_of, sequence_word, SequencesAgree, settles_part, Shortens}
+use Terms.{Some, spi_bare, spi_basis, spi_machine, spi_owing, SpiRepresents, SpiSeqCanceled, SpiSeqEndNotification}
+use Terms.{SpiState, SpiTable, stands-move, StandsIn, STATE, Store, stored_other, stored_same, subst, suc, sym}
+use Terms.{tells_nothing, true, TurnsTo, Under, unit_of_sequence, unless_done, value_of, view, whether, whether_as}
+use Terms.{Windows, windows, windows_right, Within, word_later, word_of, Works, World, world_after, ℕ}
 use Rattle.spi_sequences.specs.laws.bookkeeping.RefinementRight.{frame_may, frame_names}
 use Rattle.spi_sequences.specs.laws.{words.NumbersApart.{before_sequences, high_enough, high_order, job_at, low_enough}}
 use Rattle.spi_sequences.specs.laws.{words.NumbersApart.{low_order, marks_at, nexts_at, one_sequence, order_at}}
@@ -49,11 +49,9 @@ pub use Rattle.spi_sequences.specs.laws.words.NumbersApart.{from_order, not_orde
 
 pub found_none : (q : ℕ) (ps : List Pending) → is_pending q ps ≡ false → find (is_of q) ps ≡ None
 found_none q [] e = refl
-found_none q (p ∷ ps) e = by (is_of q p) refl e (found_none q ps)
-  where
-    by : (b : Bool) → is_of q p ≡ b → is_of q p || is_pending q ps ≡ false → (is_pending q ps ≡ false → find (is_of q) ps ≡ None) → (if is_of q p then Some p else find (is_of q) ps) ≡ None
-    by true f g rest = absurd (let h = sym g ∙ ap (λ b. b || is_pending q ps) f in cc)
-    by false f g rest = ap (λ b. if b then Some p else find (is_of q) ps) f ∙ rest (ap (λ b. b || is_pending q ps) (sym f) ∙ g)
+found_none q (p ∷ ps) e = whether (is_of q p)
+    (λ f. absurd (let h = sym e ∙ ap (λ b. b || is_pending q ps) f in cc))
+    (λ f. ap (λ b. if b then Some p else find (is_of q) ps) f ∙ found_none q ps (ap (λ b. b || is_pending q ps) (sym f) ∙ e))
 
 -- a pending sequence has one that is found
 pub record IsFound (q : ℕ) (ps : List Pending) : Type 0 where
@@ -222,7 +220,9 @@ module _ (d : SpiTable) (fits : FitsSpi d) (below : Reservations) (chip : Chip) 
     )
 
     orders : (u : ℕ) → u < 2 → ranked.Holds (ordered u) (word_of c) (entries_of d (view after) u)
-    orders u lt = by (same_or_other u unit)
+    orders u lt = cases (same_or_other u unit)
+        (λ e. subst (λ n. ranked.Holds (ordered n) (word_of c) (entries_of d (view after) n)) (sym e) (subst (λ xs. ranked.Holds (ordered unit) (word_of c) xs) (sym (left_order d unit p.sequence (is_running s) (is_running s) (λ n ne. refl) s.pending ((h.words.on on).sequences.orders unit few).once)) holds))
+        (λ ne. subst (λ xs. ranked.Holds (ordered u) (word_of c) xs) (sym (stay d u p.sequence (is_running s) (is_running s) (λ n ne. refl) s.pending (in_other u ne))) (holds-agree (ordered u) (word_of chip) (word_of c) (entries_of d (view s) u) (other_words ne) was))
       where
         was : ranked.Holds (ordered u) (word_of chip) (entries_of d (view s) u)
         was = (h.words.on on).sequences.orders u lt
@@ -232,10 +232,6 @@ module _ (d : SpiTable) (fits : FitsSpi d) (below : Reservations) (chip : Chip) 
             let low = from_order u j own in
             let high = to_order u j own in
             sym (word_same j (other_order unit u j few lt ne low high) (before_sequences p.sequence j (order_at u j lt low high).0))
-
-        by : (u ≡ unit) ⊎ (u ≢ unit) → ranked.Holds (ordered u) (word_of c) (entries_of d (view after) u)
-        by (inl e) = subst (λ n. ranked.Holds (ordered n) (word_of c) (entries_of d (view after) n)) (sym e) (subst (λ xs. ranked.Holds (ordered unit) (word_of c) xs) (sym (left_order d unit p.sequence (is_running s) (is_running s) (λ n ne. refl) s.pending ((h.words.on on).sequences.orders unit few).once)) holds)
-        by (inr ne) = subst (λ xs. ranked.Holds (ordered u) (word_of c) xs) (sym (stay d u p.sequence (is_running s) (is_running s) (λ n ne. refl) s.pending (in_other u ne))) (holds-agree (ordered u) (word_of chip) (word_of c) (entries_of d (view s) u) (other_words ne) was)
 
     -- its jobs that are left never ran
     none_ran : (j : ℕ) → is_left d j p ≡ true → list_any (λ k. k == j) (drop p.next (jobs_of d p.sequence)) ≡ false → ⊥
@@ -453,11 +449,9 @@ module _ (d : SpiTable) (fits : FitsSpi d) where
       stands_by r p v below chip w s o t m true i (q, Is_this_frame, of) h = (h, record { may = (refl, refl); served = false; owed = noted r q of; shown = λ e. absurd (cc); report = refl_report r })
         where
           refl_report : (r : Cancelled) → None ≡ error_in (cancel_owed r)
-          refl_report r = by r.notification
-            where
-              by : (a : Bool) → None ≡ error_in (if a then One (record { kind = SpiSeqEndNotification; id = r.sequence }) else Nothing)
-              by true = refl
-              by false = refl
+          refl_report r = whether_as r.notification (λ a. None ≡ error_in (if a then One (record { kind = SpiSeqEndNotification; id = r.sequence }) else Nothing))
+              (λ _. refl)
+              (λ _. refl)
       stands_by r p v below chip w s o t m false i place h = absurd (cc)
 
       stands : (k : CancelBody) (x : PendingWrites) (v : ℕ) (below : Reservations) (chip : Chip) (w : World) (s : SpiState) (o : Origin Call) (t : FrameHistory) (m : ℕ → Bool) → cancel_owed_at k ≡ Some x → owed_left x v ≡ None → CancelledBy d (cancel_about x) o t → SpiRepresents d below chip w s

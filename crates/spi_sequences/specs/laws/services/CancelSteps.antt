@@ -1,5 +1,5 @@
 -- Spi_Cancel: its steps.
--- Used by services.CancelRight, service/cancel/rt, PendingWrites, bookkeeping.PendingWritesBounds.
+-- Used by services.CancelRight, src/service/cancel.rt, PendingWrites, bookkeeping.PendingWritesBounds, services.AtOnce.
 use Rattle.std.specs.Prelude.{ℕ, ◌==◌, Bool, true, false, if◌then◌else◌, Option, Some, None, bit_or}
 use Rattle.mcal_base.specs.declared.moves.Event.TheVariants.{Act}
 use Rattle.mcal_base.specs.declared.moves.Move.{Move}

@@ -1,5 +1,5 @@
 -- Spi_Init acts: words that are cleared and sides that are readied stand for an initialised module.
--- From words.WordsOfModule, services.InitPrepared, words.SideWords, hardware.AfterReset.
+-- From services.InitPrepared, words.WordsOfModule, service_outline: Words, words.SideWords, hardware.AfterReset.
 -- Used by services.InitClearing, services.InitWords.
 use Rattle.std.proofs.Common.{◌≡◌, ◌≢◌, ◌+◌, ◌<◌, ◌&&◌, [], ◌∷◌, ◌∙◌, if◌then◌else◌}
 use Rattle.spi_sequences.specs.Terms

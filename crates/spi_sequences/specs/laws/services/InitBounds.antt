@@ -1,5 +1,6 @@
 -- The steps of Spi_Init are within the bound of its call.
 -- From services.InitWords.
+-- Used by spi_driver: bookkeeping.Lawful.
 use Rattle.std.proofs.Common.{◌≡◌, ◌+◌, ◌-◌, ◌*◌, ◌%◌, ◌<◌, ◌≤◌, [], ◌∷◌, ◌∙◌, if◌then◌else◌}
 use Rattle.spi_sequences.specs.Terms
 use Terms.{ap, arith, Bool, Channel, channel_of, cond, count_by, drop, drop_all, false, FitsSpi, internal_by, is_some}

@@ -1,12 +1,12 @@
 -- What Spi_Init has cleared and readied before each of its places.
--- From services.InitPrepared, words.WordsOfModule, words.SideWords, services.InitActRight.
+-- From services.InitPrepared, words.WordsOfModule, words.SideWords, services.InitActRight, words.Cases.
 -- Used by services.InitWords.
 use Rattle.std.proofs.Common.{◌≡◌, ◌≢◌, ◌+◌, ◌<◌, ◌≤◌, [], ◌∷◌, ◌∙◌, ◌⊎◌, if◌then◌else◌}
 use Rattle.spi_sequences.specs.Terms
-use Terms.{ap, arith, Bool, Channel, channel_of, Chip, chip_after, Contains, false, FitsSpi, inl, inr, is_own_word}
-use Terms.{job_word, List, None, Option, order_word, placed_of, Received, refl, running_word, same_or_other, Sent}
-use Terms.{sequence_word, set_up_word, Side, Some, SpiRepresents, SpiState, SpiTable, STATE, Store, subst, suc, sym}
-use Terms.{true, World, zero, ℕ}
+use Terms.{ap, arith, Bool, cases, Channel, channel_of, Chip, chip_after, Contains, false, FitsSpi, inl, inr}
+use Terms.{is_own_word, job_word, List, None, Option, order_word, placed_of, Received, refl, running_word}
+use Terms.{same_or_other, Sent, sequence_word, set_up_word, Side, Some, SpiRepresents, SpiState, SpiTable, STATE}
+use Terms.{Store, subst, suc, sym, true, World, zero, ℕ}
 use Rattle.spi_sequences.specs.laws.words.SideWords.{mine, not_first, not_of_other, set_up_by}
 use Rattle.spi_sequences.specs.laws.words.WordsOfModule.{of_set_up, of_sixteen, own_first, own_set_up, past_the_first}
 use Rattle.spi_sequences.specs.laws.services.InitPrepared.{cleared, in_cons, in_first, in_later, is_in, prep}
@@ -120,11 +120,9 @@ later_job y (suc n) is = in_later (job_word n, 0) _ _ (later_job y n is)
 
 in_jobs : (j n : ℕ) → j < n → Contains (jobs_below n) (job_word j, 0)
 in_jobs j zero lt = absurd (omega (arith, lt))
-in_jobs j (suc n) lt = by (λ less. in_jobs j n less) (same_or_other j n)
-  where
-    by : (j < n → Contains (jobs_below n) (job_word j, 0)) → (j ≡ n) ⊎ (j ≢ n) → Contains (jobs_below (suc n)) (job_word j, 0)
-    by rest (inl e) = subst (λ i. Contains (jobs_below (suc n)) (job_word i, 0)) (sym e) (in_first (job_word n, 0) _)
-    by rest (inr ne) = in_later (job_word n, 0) _ _ (rest (omega (arith, lt, ne)))
+in_jobs j (suc n) lt = cases (same_or_other j n)
+    (λ e. subst (λ i. Contains (jobs_below (suc n)) (job_word i, 0)) (sym e) (in_first (job_word n, 0) _))
+    (λ ne. in_later (job_word n, 0) _ _ (in_jobs j n (omega (arith, lt, ne))))
 
 later_sequence : (y : ℕ × ℕ) (n : ℕ) → Contains (jobs_below 16) y → Contains (sequences_below n) y
 later_sequence y zero is = is
@@ -132,11 +130,9 @@ later_sequence y (suc n) is = in_later (sequence_word n, 0) _ _ (later_sequence 
 
 in_sequences : (q n : ℕ) → q < n → Contains (sequences_below n) (sequence_word q, 0)
 in_sequences q zero lt = absurd (omega (arith, lt))
-in_sequences q (suc n) lt = by (λ less. in_sequences q n less) (same_or_other q n)
-  where
-    by : (q < n → Contains (sequences_below n) (sequence_word q, 0)) → (q ≡ n) ⊎ (q ≢ n) → Contains (sequences_below (suc n)) (sequence_word q, 0)
-    by rest (inl e) = subst (λ i. Contains (sequences_below (suc n)) (sequence_word i, 0)) (sym e) (in_first (sequence_word n, 0) _)
-    by rest (inr ne) = in_later (sequence_word n, 0) _ _ (rest (omega (arith, lt, ne)))
+in_sequences q (suc n) lt = cases (same_or_other q n)
+    (λ e. subst (λ i. Contains (sequences_below (suc n)) (sequence_word i, 0)) (sym e) (in_first (sequence_word n, 0) _))
+    (λ ne. in_later (sequence_word n, 0) _ _ (in_sequences q n (omega (arith, lt, ne))))
 
 module _ (d : SpiTable) where
   later_set_up : (y : ℕ × ℕ) (c : ℕ) → Contains (set_ups_below d c) y → Contains (set_ups_below d (suc c)) y
@@ -150,11 +146,9 @@ module _ (d : SpiTable) where
 
   in_set_ups : (c n : ℕ) (k : Channel) → channel_of d c ≡ Some k → c < n → Contains (set_ups_below d n) (set_up_word (placed_of d c), 0)
   in_set_ups c zero k e lt = absurd (omega (arith, lt))
-  in_set_ups c (suc n) k e lt = by (λ less. in_set_ups c n k e less) (same_or_other c n)
-    where
-      by : (c < n → Contains (set_ups_below d n) (set_up_word (placed_of d c), 0)) → (c ≡ n) ⊎ (c ≢ n) → Contains (set_ups_below d (suc n)) (set_up_word (placed_of d c), 0)
-      by rest (inl at) = subst (λ i. Contains (set_ups_below d (suc n)) (set_up_word (placed_of d i), 0)) (sym at) (subst (λ o. Contains (with_set_up (set_up_word (placed_of d n)) o (set_ups_below d n)) (set_up_word (placed_of d n), 0)) (sym e ∙ ap (channel_of d) at) (in_first (set_up_word (placed_of d n), 0) _))
-      by rest (inr ne) = later_set_up (set_up_word (placed_of d c), 0) n (rest (omega (arith, lt, ne)))
+  in_set_ups c (suc n) k e lt = cases (same_or_other c n)
+      (λ at. subst (λ i. Contains (set_ups_below d (suc n)) (set_up_word (placed_of d i), 0)) (sym at) (subst (λ o. Contains (with_set_up (set_up_word (placed_of d n)) o (set_ups_below d n)) (set_up_word (placed_of d n), 0)) (sym e ∙ ap (channel_of d) at) (in_first (set_up_word (placed_of d n), 0) _)))
+      (λ ne. later_set_up (set_up_word (placed_of d c), 0) n (in_set_ups c n k e (omega (arith, lt, ne))))
 
   later_ready : (y : ℕ × Bool) (c : ℕ) → Contains (readied_below d c) y → Contains (readied_below d (suc c)) y
   later_ready y c is =

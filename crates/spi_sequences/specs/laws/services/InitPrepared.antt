@@ -1,17 +1,17 @@
 -- What stands of a module that is being initialised, and what the steps of Spi_Init change of it.
--- From words.SideWords, words.WordsOfModule, words.WordsToState, hardware.SourceFilled, hardware.AfterReset.
--- Used by services.InitWords, services.InitClearing, services.InitActRight, bookkeeping.NextChosen.
+-- From words.SideWords, words.WordsOfModule, service_outline: Words, words.Cases, words.ListTests and 2 more.
+-- Used by services.InitWords, services.InitClearing, services.InitActRight, bookkeeping.NextChosen and 1 more.
 use Rattle.std.proofs.Common.{◌≡◌, ◌≢◌, ◌+◌, ◌*◌, ◌%◌, ◌/◌, ◌<◌, ◌==◌, ◌&&◌, [], ◌∷◌, ◌∙◌, ◌⊎◌, ◌++◌, if◌then◌else◌}
 use Rattle.spi_sequences.specs.Terms
-use Terms.{ap, arith, Banks, BanksAgree, Bool, Call, Called, carried_at, CarriesAgrees, Carrying, Channel, channel_of}
-use Terms.{Chip, chip_after, chooses, choosing, commits, committing, Contains, entry_carried, false, filling, fills}
-use Terms.{FitsSpi, flat_map-cons, Going, HoldsArrays, Init, inl, inr, is_off, is_own_word, is_some, is_sync_unit}
-use Terms.{IsSoundState, Keeps, length, LinesAgree, List, Memory, mode_word, None, not, Option, or_rest, own-control}
-use Terms.{own-word, Pins, placed_of, Preparing, put_held, PutRight, Putting, readied_by, readied_in, Received, refl}
-use Terms.{replicate, Reservation, Reservations, ReservedBy, Run, run_at, run_carried, same_or_other, Sent, Side, Some}
-use Terms.{some_is, SOURCES, SpiRepresents, SpiState, SpiTable, stands-agree, stands-move, StandsIn, STATE, Store}
-use Terms.{stored_by, stored_in, stored_other, stored_same, subst, suc, sym, take_held, TakeRight, Taking, trio_of}
-use Terms.{TripleBuffer, true, unit_at, UnitAgrees, view, WiredAs, word_of, World, zero, ℕ}
+use Terms.{ap, arith, Banks, BanksAgree, Bool, Call, Called, carried_at, CarriesAgrees, Carrying, cases, Channel}
+use Terms.{channel_of, Chip, chip_after, chooses, choosing, commits, committing, Contains, entry_carried, false}
+use Terms.{filling, fills, FitsSpi, flat_map-cons, Going, HoldsArrays, Init, inl, inr, is_off, is_own_word, is_some}
+use Terms.{is_sync_unit, IsSoundState, Keeps, length, LinesAgree, List, Memory, mode_word, None, not, Option, or_rest}
+use Terms.{own-control, own-word, Pins, placed_of, Preparing, put_held, PutRight, Putting, readied_by, readied_in}
+use Terms.{Received, refl, replicate, Reservation, Reservations, ReservedBy, Run, run_at, run_carried, same_or_other}
+use Terms.{Sent, Side, Some, some_is, SOURCES, SpiRepresents, SpiState, SpiTable, stands-agree, stands-move, StandsIn}
+use Terms.{STATE, Store, stored_by, stored_in, stored_other, stored_same, subst, suc, sym, take_held, TakeRight}
+use Terms.{Taking, trio_of, TripleBuffer, true, unit_at, UnitAgrees, view, whether, WiredAs, word_of, World, zero, ℕ}
 use Rattle.spi_sequences.specs.laws.{words.SideWords.{mine, not_first, not_of_other, sides_apart, stands_by_store}}
 use Rattle.spi_sequences.specs.laws.{words.SideWords.{trio_fits}, hardware.SourceFilled.{own_low}}
 use Rattle.spi_sequences.specs.laws.{hardware.AfterReset.{none_in}, words.WordsOfModule.{has_channel, of_banks}}
@@ -99,7 +99,9 @@ no_run_carried (Some x) e = absurd (cc)
 -- the agreement says so
 module _ (d : SpiTable) (held : Reservations) (chip : Chip) (w : World) (s : SpiState) (h : SpiRepresents d held chip w s) (off : is_off s.mode ≡ true) where
   free : (u : ℕ) → u < 2 → h.going u ≡ None
-  free u lt = split (is_sync_unit d u) refl
+  free u lt = whether (is_sync_unit d u)
+      (λ sync. by_carried (h.going u) (h.sends u lt sync))
+      (λ async. by (h.going u) (h.units u lt async))
     where
       by : (g : Option Going) → UnitAgrees d (unit_at chip.serials u) (run_at s u) g → g ≡ None
       by None a = refl
@@ -109,16 +111,10 @@ module _ (d : SpiTable) (held : Reservations) (chip : Chip) (w : World) (s : Spi
       by_carried None a = refl
       by_carried (Some g) a = absurd (let e = sym (no_run_carried (carried_at s u) (h.sound.carries.off off u)) ∙ a.1 in cc)
 
-      split : (q : Bool) → is_sync_unit d u ≡ q → h.going u ≡ None
-      split true sync = by_carried (h.going u) (h.sends u lt sync)
-      split false async = by (h.going u) (h.units u lt async)
-
   word_free : (u : ℕ) → u < 2 → (unit_at chip.serials u).word ≡ None
-  word_free u lt = split (is_sync_unit d u) refl
-    where
-      split : (q : Bool) → is_sync_unit d u ≡ q → (unit_at chip.serials u).word ≡ None
-      split true sync = (subst (λ g. CarriesAgrees d (unit_at chip.serials u) (run_carried (carried_at s u)) g) (free u lt) (h.sends u lt sync)).0
-      split false async = (subst (λ g. UnitAgrees d (unit_at chip.serials u) (run_at s u) g) (free u lt) (h.units u lt async)).0
+  word_free u lt = whether (is_sync_unit d u)
+      (λ sync. (subst (λ g. CarriesAgrees d (unit_at chip.serials u) (run_carried (carried_at s u)) g) (free u lt) (h.sends u lt sync)).0)
+      (λ async. (subst (λ g. UnitAgrees d (unit_at chip.serials u) (run_at s u) g) (free u lt) (h.units u lt async)).0)
 
   no_take : (c : ℕ) (o : Option Taking) → TakeRight h.going c o → o ≡ None
   no_take c None t = refl
@@ -262,13 +258,11 @@ module _ (d : SpiTable) (fits : FitsSpi d) (c : ℕ) (k : Channel) (known : chan
       by _ _ f j own = absurd (cc)
   elsewhere_by n k1 other e i (inr ne) is = inr (record {
     put = λ p. put_of_channel c n (is_in side) (is_in other) p ne;
-    readied = λ rd there. later rd (in_cons (c, is_in side) rd (n, is_in other) there);
+    readied = λ rd there. cases (in_cons (c, is_in side) rd (n, is_in other) there)
+        (λ f. absurd (ne (sym (ap (λ y. y.0) f))))
+        (λ there. there);
     apart = λ j own. not_of_other d fits n k1 e i other c k j (λ f. ne (sym f)) known (of_banks d fits c k known internal side j own);
   })
-    where
-      later : (rd : List (ℕ × Bool)) → (◌≡◌ {A = ℕ × Bool} (c, is_in side) (n, is_in other)) ⊎ Contains rd (n, is_in other) → Contains rd (n, is_in other)
-      later rd (inl f) = absurd (ne (sym (ap (λ y. y.0) f)))
-      later rd (inr there) = there
 
   pub elsewhere : (n : ℕ) (k1 : Channel) (other : Side) → channel_of d n ≡ Some k1 → k1.internal ≡ true → ((n ≡ c) × (other ≡ side)) ⊎ IsElsewhere n other
   elsewhere n k1 other e i = elsewhere_by n k1 other e i (same_or_other n c) (same_side other side)
@@ -321,15 +315,13 @@ module _ (d : SpiTable) (fits : FitsSpi d) (st : List (ℕ × ℕ)) (rd : List (
   -- a word that is of no bank is cleared
   pub cleared : (j : ℕ) → is_own_word d j ≡ true → j ≢ STATE → ((c : ℕ) (k : Channel) → channel_of d c ≡ Some k → k.internal ≡ true → (side : Side) → trio.own_of (trio_of (placed_of d c) side) j ≡ false)
       → ((i n : ℕ) → Contains st (i, n) → n ≡ 0) → Prepared d ((j, 0) ∷ st) rd x (chip_after chip (Store j 0) 0) w s
-  cleared j own ne apart zeros = stored_prepared j 0 own ne ((j, 0) ∷ st) rd x (λ c k e internal side. side_stays j 0 own ne rd x c k side (apart c k e internal side) (λ is. is) refl (p.sides c k e internal side)) (λ i n is. by i n (in_cons (j, 0) st (i, n) is))
+  cleared j own ne apart zeros = stored_prepared j 0 own ne ((j, 0) ∷ st) rd x (λ c k e internal side. side_stays j 0 own ne rd x c k side (apart c k e internal side) (λ is. is) refl (p.sides c k e internal side)) (λ i n is. cases (in_cons (j, 0) st (i, n) is)
+      (λ e. let a : j ≡ i = ap (λ y. y.0) e in let b : 0 ≡ n = ap (λ y. y.1) e in (subst (λ m. is_own_word d m ≡ true) a own, ap (word_of (chip_after chip (Store j 0) 0)) (sym a) ∙ here j 0 own ne ∙ b))
+      (λ is. ((p.stored i n is).0, still i n is (same_or_other i j))))
     where
       still : (i n : ℕ) → Contains st (i, n) → (i ≡ j) ⊎ (i ≢ j) → word_of (chip_after chip (Store j 0) 0) i ≡ n
       still i n is (inl e) = ap (word_of (chip_after chip (Store j 0) 0)) e ∙ here j 0 own ne ∙ sym (zeros i n is)
       still i n is (inr differs) = other j 0 own ne i differs ∙ (p.stored i n is).1
-
-      by : (i n : ℕ) → (◌≡◌ {A = ℕ × ℕ} (j, 0) (i, n)) ⊎ Contains st (i, n) → (is_own_word d i ≡ true) × (word_of (chip_after chip (Store j 0) 0) i ≡ n)
-      by i n (inl e) = let a : j ≡ i = ap (λ y. y.0) e in let b : 0 ≡ n = ap (λ y. y.1) e in (subst (λ m. is_own_word d m ≡ true) a own, ap (word_of (chip_after chip (Store j 0) 0)) (sym a) ∙ here j 0 own ne ∙ b)
-      by i n (inr is) = ((p.stored i n is).0, still i n is (same_or_other i j))
 
 -- a side is filled with its first words
 module _ (d : SpiTable) (fits : FitsSpi d) (c : ℕ) (k : Channel) (known : channel_of d c ≡ Some k) (internal : k.internal ≡ true) (side : Side) (st : List (ℕ × ℕ)) (rd : List (ℕ × Bool)) (chip : Chip) (w : World) (s : SpiState) where

@@ -1,5 +1,6 @@
 -- Spi_Init: that it is right.
--- From services.InitWords, services.InitSteps, words.WordsOfModule, words.WordsToState, services.WriteRight and 3 more.
+-- From services.InitWords, services.InitSteps, words.WordsOfModule, service_outline: Acts and 8 more.
+-- Used by spi_driver: bookkeeping.Lawful.
 use Rattle.std.proofs.Common.{◌≡◌, ◌+◌, ◌-◌, ◌*◌, ◌/◌, ◌%◌, ◌<◌, ◌≤◌, ◌||◌, [], ◌∷◌, ◌∙◌, if◌then◌else◌}
 use Rattle.spi_sequences.specs.Terms
 use Terms.{ap, AreLong, arith, AssertedAt, bank_word, begins_word, Bool, Call, Called, Channel, channel_of, Chip}
@@ -8,7 +9,7 @@ use Terms.{InitPlace, is_closed, is_off, is_own_word, is_shared, Is_this_frame, 
 use Terms.{never_clean, None, Option, Order, order_word, Origin, own-control, own-word, place_at, placed_of, put_gave}
 use Terms.{put_more, Received, refl, Reservations, resets_chip, Right, running_word, Sent, sequence_word, set_up_word}
 use Terms.{Shortens, Side, Some, spi_basis, SpiState, SpiTable, STATE, subst, suc, sym, trio_of, true, TurnsMask}
-use Terms.{TurnsTo, value_of, word_later, World, world_after, zero, ℕ}
+use Terms.{TurnsTo, value_of, whether_as, word_later, World, world_after, zero, ℕ}
 use Rattle.spi_sequences.specs.laws.bookkeeping.RefinementRight.{frame_may}
 use Rattle.spi_sequences.specs.laws.{services.InitSteps.{after_channel, set_up_move, after_set_up, fill_from, first_in}}
 use Rattle.spi_sequences.specs.laws.{services.InitSteps.{init_commits, init_move, init_takes, init_work}}
@@ -48,18 +49,14 @@ module _ (d : SpiTable) where
       [ true ↦ refl | false ↦ refl ]
 
   set_up_open : (x : SpiTable) (c : ℕ) → is_closed (init_spot_at d x (after_set_up x c)) ≡ false
-  set_up_open x c = by (placed_of x c).channel.internal
-    where
-      by : (q : Bool) → is_closed (init_spot_at d x (if q then init.Choose c Sent else after_channel c)) ≡ false
-      by true = refl
-      by false = after_channel_open x c
+  set_up_open x c = whether_as (placed_of x c).channel.internal (λ q. is_closed (init_spot_at d x (if q then init.Choose c Sent else after_channel c)) ≡ false)
+      (λ _. refl)
+      (λ _. after_channel_open x c)
 
   fill_open : (x : SpiTable) (c : ℕ) (side : Side) (b i : ℕ) → is_closed (init_spot_at d x (fill_from x c side b i)) ≡ false
-  fill_open x c side b i = by (nat_lt i (placed_of x c).channel.length)
-    where
-      by : (q : Bool) → is_closed (init_spot_at d x (if q then init.Fill c side b i else init.Shut c side b)) ≡ false
-      by true = refl
-      by false = refl
+  fill_open x c side b i = whether_as (nat_lt i (placed_of x c).channel.length) (λ q. is_closed (init_spot_at d x (if q then init.Fill c side b i else init.Shut c side b)) ≡ false)
+      (λ _. refl)
+      (λ _. refl)
 
   turns_at : (x : SpiTable) (p : InitPlace) (v : ℕ) → TurnsTo (init_bodies d) 32 (record { table = x; place = p }) (init_takes (record { table = x; place = p }) v)
   turns_at x init.Opens v = (refl, refl, refl, refl)
@@ -101,31 +98,23 @@ module _ (d : SpiTable) where
       back = omega (arith, lt)
 
   after_channel_less : (x : SpiTable) (c : ℕ) → init_fuel_at x (after_channel c) ≤ rest_after x c
-  after_channel_less x c = by (nat_lt c 15) refl
-    where
-      by : (q : Bool) → nat_lt c 15 ≡ q → init_fuel_at x (if q then init.SetUp (c + 1) else init.Closes) ≤ rest_after x c
-      by true e = let step = cost_step x c (is_below c 15 e) in omega (arith, step)
-      by false e = omega arith
+  after_channel_less x c = whether_as (nat_lt c 15) (λ q. init_fuel_at x (if q then init.SetUp (c + 1) else init.Closes) ≤ rest_after x c)
+      (λ e. let step = cost_step x c (is_below c 15 e) in omega (arith, step))
+      (λ e. omega arith)
 
   fill_less : (x : SpiTable) (c : ℕ) (side : Side) (b i n : ℕ) → 4 + rest_of x c side < n → (i < (placed_of x c).channel.length → 5 + ((placed_of x c).channel.length - i) + rest_of x c side < n) → init_fuel_at x (fill_from x c side b i) < n
-  fill_less x c side b i n shut fill = by (nat_lt i (placed_of x c).channel.length) refl
-    where
-      by : (q : Bool) → nat_lt i (placed_of x c).channel.length ≡ q → init_fuel_at x (if q then init.Fill c side b i else init.Shut c side b) < n
-      by true e = fill (is_below i (placed_of x c).channel.length e)
-      by false e = shut
+  fill_less x c side b i n shut fill = whether_as (nat_lt i (placed_of x c).channel.length) (λ q. init_fuel_at x (if q then init.Fill c side b i else init.Shut c side b) < n)
+      (λ e. fill (is_below i (placed_of x c).channel.length e))
+      (λ e. shut)
 
   shortens_at : (x : SpiTable) (p : InitPlace) (v : ℕ) → Shortens (init_bodies d).fuel (record { table = x; place = p }) (init_takes (record { table = x; place = p }) v)
   shortens_at x (init.Empty zero) v = omega arith
-  shortens_at x (init.Job j) v = by (nat_lt j 15) refl
-    where
-      by : (q : Bool) → nat_lt j 15 ≡ q → init_fuel_at x (if q then init.Job (j + 1) else init.Sequence 0) < 11 + (16 - j) + rest_after x 0 + channel_cost x 0
-      by true e = let lt = is_below j 15 e in omega (arith, lt)
-      by false e = omega arith
-  shortens_at x (init.Sequence n) v = by (nat_lt n 7) refl
-    where
-      by : (q : Bool) → nat_lt n 7 ≡ q → init_fuel_at x (if q then init.Sequence (n + 1) else init.SetUp 0) < 2 + (8 - n) + rest_after x 0 + channel_cost x 0
-      by true e = let lt = is_below n 7 e in omega (arith, lt)
-      by false e = omega arith
+  shortens_at x (init.Job j) v = whether_as (nat_lt j 15) (λ q. init_fuel_at x (if q then init.Job (j + 1) else init.Sequence 0) < 11 + (16 - j) + rest_after x 0 + channel_cost x 0)
+      (λ e. let lt = is_below j 15 e in omega (arith, lt))
+      (λ e. omega arith)
+  shortens_at x (init.Sequence n) v = whether_as (nat_lt n 7) (λ q. init_fuel_at x (if q then init.Sequence (n + 1) else init.SetUp 0) < 2 + (8 - n) + rest_after x 0 + channel_cost x 0)
+      (λ e. let lt = is_below n 7 e in omega (arith, lt))
+      (λ e. omega arith)
   shortens_at x (init.SetUp c) v = by (placed_of x c).channel.internal
     where
       by : (q : Bool) → init_fuel_at x (if q then init.Choose c Sent else after_channel c) < 1 + (if q then 12 + 2 * (placed_of x c).channel.length else 0) + rest_after x c
@@ -137,11 +126,9 @@ module _ (d : SpiTable) where
       by : (q : Bool) → init_fuel_at x (if q then fill_from x c side b (i + 1) else init.Shut c side b) < 5 + ((placed_of x c).channel.length - i) + rest_of x c side
       by true = fill_less x c side b (i + 1) (5 + ((placed_of x c).channel.length - i) + rest_of x c side) (omega arith) (λ lt. omega (arith, lt))
       by false = omega arith
-  shortens_at x (init.Commit c side p) v = by (has_ended (put_gave p v)) refl
-    where
-      by : (q : Bool) → has_ended (put_gave p v) ≡ q → init_fuel_at x (init_commits c side p v q) < 2 + put_more p + rest_of x c side
-      by true e = omega arith
-      by false e = let lt = put_less p v e in omega (arith, lt)
+  shortens_at x (init.Commit c side p) v = whether_as (has_ended (put_gave p v)) (λ q. init_fuel_at x (init_commits c side p v q) < 2 + put_more p + rest_of x c side)
+      (λ e. omega arith)
+      (λ e. let lt = put_less p v e in omega (arith, lt))
   shortens_at x (init.Reopen c Received) v = let le = after_channel_less x c in omega (arith, le)
   shortens_at x _ v = omega arith
 

@@ -1,6 +1,6 @@
 -- Spi_Init: its places, and what its steps leave.
--- From services.InitClearing, services.InitPrepared, services.InitSteps, words.WordsOfModule and 4 more.
--- Used by services.InitRight, services.InitBounds.
+-- From services.InitClearing, services.InitPrepared, services.InitSteps, words.Cases, words.ListTests and 4 more.
+-- Used by services.InitRight, services.InitBounds, spi_driver: bookkeeping.UnpolledFrames and 1 more.
 use Rattle.std.proofs.Common.{◌≡◌, ◌+◌, ◌-◌, ◌*◌, ◌/◌, ◌%◌, ◌<◌, ◌≤◌, [], ◌∷◌, ◌++◌, ◌∙◌, if◌then◌else◌}
 use Rattle.spi_sequences.specs.Terms
 use Terms.{acts_by, ap, arith, AssertedAt, bank_word, Bool, Call, Called, Channel, channel_of, Chip, chip_after}
@@ -9,8 +9,9 @@ use Terms.{InitPlace, inl, inr, is_off, Is_this_frame, IsThisFrame, job_word, le
 use Terms.{LongBodies, MakesTo, Mask, Memory, missed_after, nat_lt, nat_tests, NO_CHANNEL, None, Option, or_else}
 use Terms.{order_word, Origin, Outside, placed_of, PointAssertion, Preparing, Put, put_more, Putting, Received, refl}
 use Terms.{replicate, Reservation, Reservations, Right, running_word, Sent, sequence_word, set_up_word, Side}
-use Terms.{slice_index_or, Some, spi_basis, spi_machine, SpiRepresents, SpiState, SpiTable, STATE, Store, subst, suc}
-use Terms.{sym, tells_nothing, trio_of, true, Under, Unmask, value_of, Within, word_of, World, zero, ℕ}
+use Terms.{slice_index_or, Some, some_or_none, spi_basis, spi_machine, SpiRepresents, SpiState, SpiTable, STATE}
+use Terms.{Store, subst, suc, sym, tells_nothing, trio_of, true, Under, Unmask, value_of, whether, whether_as, Within}
+use Terms.{word_of, World, zero, ℕ}
 use Rattle.spi_sequences.specs.laws.{bookkeeping.RefinementRight.{apart_agrees}, services.InitSteps.{after_channel}}
 use Rattle.spi_sequences.specs.laws.{services.InitSteps.{set_up_move, after_set_up, after_side, fill_from, first_in}}
 use Rattle.spi_sequences.specs.laws.{services.InitSteps.{init_takes, init_work}, words.WordsOfModule.{has_channel}}
@@ -159,22 +160,18 @@ module _ (d : SpiTable) (fits : FitsSpi d) (w : World) (s : SpiState) where
   StandsAt chip p = AssertedAt (spi_basis d) (init_bodies d) [] chip w s (record { table = d; place = p }) (Called calls.Init) fresh_history
 
   pub placed_internal : (c : ℕ) → c < 16 → (placed_of d c).channel.internal ≡ is_internal (channel_of d c)
-  placed_internal c lt = by (channel_of d c) refl
+  placed_internal c lt = some_or_none (channel_of d c)
+      (λ k e. ap (λ n. (or_else NO_CHANNEL (slice_index_or d.channels n None)).internal) at ∙ ap (λ o. (or_else NO_CHANNEL o).internal) e ∙ sym (ap is_internal e))
+      (λ e. ap (λ n. (or_else NO_CHANNEL (slice_index_or d.channels n None)).internal) at ∙ ap (λ o. (or_else NO_CHANNEL o).internal) e ∙ sym (ap is_internal e))
     where
       at : c % 16 ≡ c
       at = omega (arith, lt)
 
-      by : (k : Option Channel) → channel_of d c ≡ k → (placed_of d c).channel.internal ≡ is_internal (channel_of d c)
-      by None e = ap (λ n. (or_else NO_CHANNEL (slice_index_or d.channels n None)).internal) at ∙ ap (λ o. (or_else NO_CHANNEL o).internal) e ∙ sym (ap is_internal e)
-      by (Some k) e = ap (λ n. (or_else NO_CHANNEL (slice_index_or d.channels n None)).internal) at ∙ ap (λ o. (or_else NO_CHANNEL o).internal) e ∙ sym (ap is_internal e)
-
   -- after a channel
   next_channel : (chip : Chip) (c : ℕ) → c < 16 → SpiRepresents d (prep (set_ups_below d (suc c)) (readied_below d (suc c)) None) chip w s → StandsAt chip (after_channel c)
-  next_channel chip c lt h = by (nat_lt c 15) refl
-    where
-      by : (q : Bool) → nat_lt c 15 ≡ q → StandsAt chip (if q then init.SetUp (c + 1) else init.Closes)
-      by true e = let less = is_below c 15 e in let next : suc c ≡ c + 1 = omega arith in (subst (λ n. SpiRepresents d (prep (set_ups_below d n) (readied_below d n) None) chip w s) next h, (here, omega (arith, less)))
-      by false e = let le = is_past c 15 e in let all : suc c ≡ 16 = omega (arith, le, lt) in (subst (λ n. SpiRepresents d (prep (set_ups_below d n) (readied_below d n) None) chip w s) all h, here)
+  next_channel chip c lt h = whether_as (nat_lt c 15) (λ q. StandsAt chip (if q then init.SetUp (c + 1) else init.Closes))
+      (λ e. let less = is_below c 15 e in let next : suc c ≡ c + 1 = omega arith in (subst (λ n. SpiRepresents d (prep (set_ups_below d n) (readied_below d n) None) chip w s) next h, (here, omega (arith, less))))
+      (λ e. let le = is_past c 15 e in let all : suc c ≡ 16 = omega (arith, le, lt) in (subst (λ n. SpiRepresents d (prep (set_ups_below d n) (readied_below d n) None) chip w s) all h, here))
 
   -- after its set-up
   set_up_done : (chip : Chip) (c : ℕ) → c < 16 → SpiRepresents d (prep (set_ups_below d (suc c)) (readied_below d c) None) chip w s → StandsAt chip (after_set_up d c)
@@ -198,11 +195,9 @@ module _ (d : SpiTable) (fits : FitsSpi d) (w : World) (s : SpiState) where
 
     -- at a place of a bank, or after the last one
     filled_from : (chip : Chip) (side : Side) (b i : ℕ) → i ≤ (placed_of d c).channel.length → SpiRepresents d (prep (set_ups_below d (suc c)) (readied_at d c side) (filled_to d c side b i)) chip w s → StandsAt chip (fill_from d c side b i)
-    filled_from chip side b i le h = by (nat_lt i (placed_of d c).channel.length) refl
-      where
-        by : (q : Bool) → nat_lt i (placed_of d c).channel.length ≡ q → StandsAt chip (if q then init.Fill c side b i else init.Shut c side b)
-        by true e = (h, (here, (k, known, internal), is_below i (placed_of d c).channel.length e))
-        by false e = let past = is_past i (placed_of d c).channel.length e in let all : i ≡ (placed_of d c).channel.length = omega (arith, le, past) in (subst (λ n. SpiRepresents d (prep (set_ups_below d (suc c)) (readied_at d c side) (filled_to d c side b n)) chip w s) all h, (here, (k, known, internal)))
+    filled_from chip side b i le h = whether_as (nat_lt i (placed_of d c).channel.length) (λ q. StandsAt chip (if q then init.Fill c side b i else init.Shut c side b))
+        (λ e. (h, (here, (k, known, internal), is_below i (placed_of d c).channel.length e)))
+        (λ e. let past = is_past i (placed_of d c).channel.length e in let all : i ≡ (placed_of d c).channel.length = omega (arith, le, past) in (subst (λ n. SpiRepresents d (prep (set_ups_below d (suc c)) (readied_at d c side) (filled_to d c side b n)) chip w s) all h, (here, (k, known, internal))))
 
     -- a place is filled in
     fills_one : (chip : Chip) (side : Side) (b i : ℕ) → i < (placed_of d c).channel.length → SpiRepresents d (prep (set_ups_below d (suc c)) (readied_at d c side) (filled_to d c side b i)) chip w s
@@ -275,22 +270,18 @@ module _ (d : SpiTable) (fits : FitsSpi d) (w : World) (s : SpiState) where
         all : AllCleared d ((running_word 1, 0) ∷ units_below 1)
         all = more_cleared d (running_word 1) (units_below 1) (inl (omega arith, omega arith)) (units_cleared d 1 (omega arith))
     steps_at (init.Empty (suc (suc u))) (h, (i, lt)) = absurd (omega (arith, lt))
-    steps_at (init.Job j) (h, (i, lt)) = by (nat_lt j 15) refl
+    steps_at (init.Job j) (h, (i, lt)) = whether (nat_lt j 15)
+        (λ e. let less = is_below j 15 e in let more : suc j ≡ j + 1 = omega arith in subst (λ q. StandsAt (chip_after chip (Store (job_word j) 0) y) (if q then init.Job (j + 1) else init.Sequence 0)) (sym e) (subst (λ n. SpiRepresents d (prep (jobs_below n) [] None) (chip_after chip (Store (job_word j) 0) 0) w s) more next, (here, omega (arith, less))))
+        (λ e. let le = is_past j 15 e in let all : suc j ≡ 16 = omega (arith, le, lt) in subst (λ q. StandsAt (chip_after chip (Store (job_word j) 0) y) (if q then init.Job (j + 1) else init.Sequence 0)) (sym e) (subst (λ n. SpiRepresents d (prep (jobs_below n) [] None) (chip_after chip (Store (job_word j) 0) 0) w s) all next, (here, omega arith)))
       where
         next : SpiRepresents d (prep (jobs_below (suc j)) [] None) (chip_after chip (Store (job_word j) 0) 0) w s
         next = clears_first (jobs_below j) chip (job_word j) (omega arith) (omega (arith, lt)) (jobs_cleared d j (omega (arith, lt))) h
-
-        by : (q : Bool) → nat_lt j 15 ≡ q → StandsAt (chip_after chip (Store (job_word j) 0) y) (if nat_lt j 15 then init.Job (j + 1) else init.Sequence 0)
-        by true e = let less = is_below j 15 e in let more : suc j ≡ j + 1 = omega arith in subst (λ q. StandsAt (chip_after chip (Store (job_word j) 0) y) (if q then init.Job (j + 1) else init.Sequence 0)) (sym e) (subst (λ n. SpiRepresents d (prep (jobs_below n) [] None) (chip_after chip (Store (job_word j) 0) 0) w s) more next, (here, omega (arith, less)))
-        by false e = let le = is_past j 15 e in let all : suc j ≡ 16 = omega (arith, le, lt) in subst (λ q. StandsAt (chip_after chip (Store (job_word j) 0) y) (if q then init.Job (j + 1) else init.Sequence 0)) (sym e) (subst (λ n. SpiRepresents d (prep (jobs_below n) [] None) (chip_after chip (Store (job_word j) 0) 0) w s) all next, (here, omega arith))
-    steps_at (init.Sequence q) (h, (i, lt)) = by (nat_lt q 7) refl
+    steps_at (init.Sequence q) (h, (i, lt)) = whether (nat_lt q 7)
+        (λ e. let less = is_below q 7 e in let more : suc q ≡ q + 1 = omega arith in subst (λ b. StandsAt (chip_after chip (Store (sequence_word q) 0) y) (if b then init.Sequence (q + 1) else init.SetUp 0)) (sym e) (subst (λ n. SpiRepresents d (prep (sequences_below n) [] None) (chip_after chip (Store (sequence_word q) 0) 0) w s) more next, (here, omega (arith, less))))
+        (λ e. let le = is_past q 7 e in let all : suc q ≡ 8 = omega (arith, le, lt) in subst (λ b. StandsAt (chip_after chip (Store (sequence_word q) 0) y) (if b then init.Sequence (q + 1) else init.SetUp 0)) (sym e) (subst (λ n. SpiRepresents d (prep (sequences_below n) [] None) (chip_after chip (Store (sequence_word q) 0) 0) w s) all next, (here, omega arith)))
       where
         next : SpiRepresents d (prep (sequences_below (suc q)) [] None) (chip_after chip (Store (sequence_word q) 0) 0) w s
         next = clears_first (sequences_below q) chip (sequence_word q) (omega arith) (omega (arith, lt)) (sequences_cleared d q (omega (arith, lt))) h
-
-        by : (b : Bool) → nat_lt q 7 ≡ b → StandsAt (chip_after chip (Store (sequence_word q) 0) y) (if nat_lt q 7 then init.Sequence (q + 1) else init.SetUp 0)
-        by true e = let less = is_below q 7 e in let more : suc q ≡ q + 1 = omega arith in subst (λ b. StandsAt (chip_after chip (Store (sequence_word q) 0) y) (if b then init.Sequence (q + 1) else init.SetUp 0)) (sym e) (subst (λ n. SpiRepresents d (prep (sequences_below n) [] None) (chip_after chip (Store (sequence_word q) 0) 0) w s) more next, (here, omega (arith, less)))
-        by false e = let le = is_past q 7 e in let all : suc q ≡ 8 = omega (arith, le, lt) in subst (λ b. StandsAt (chip_after chip (Store (sequence_word q) 0) y) (if b then init.Sequence (q + 1) else init.SetUp 0)) (sym e) (subst (λ n. SpiRepresents d (prep (sequences_below n) [] None) (chip_after chip (Store (sequence_word q) 0) 0) w s) all next, (here, omega arith))
     steps_at (init.SetUp c) (h, (i, lt)) = set_up_step c lt h
     steps_at (init.Choose c side) (h, (i, (k, known, internal))) = filled_from c k known internal chip side (free_bank v) 0 (omega arith) (prepared_agrees d st rd (filled_to d c side (free_bank v) 0) chip w s (chosen d fits c k known internal side st rd chip w s (prepared_by d st rd None chip w s h) (free_bank v) (free_few v)))
       where

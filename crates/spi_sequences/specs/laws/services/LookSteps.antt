@@ -1,6 +1,6 @@
 -- What the load of the state word decides for a call.
--- From services.Bodies.
--- Used by asked/rt, mcal_drivers: Laws.
+-- From services.Bodies, services.SyncSteps.
+-- Used by spi_driver: bookkeeping.Lawful, src/asked.rt, spi_driver: services.UnitBegins, mcal_drivers: Laws and 3 more.
 use Rattle.std.proofs.Common.{◌%◌, ◌==◌, if◌then◌else◌, []}
 use Rattle.spi_sequences.specs.Terms
 use Terms.{Answer, answer_refused, Asked, AsyncTransmit, Bool, Call, Cancel, ChannelCall, DeInit, Done, error_by}

@@ -1,5 +1,6 @@
 -- Spi_DeInit, Spi_SetAsyncMode and Spi_GetStatus: that they are right.
--- From words.WordsToState, services.ModuleSteps, words.KeptWords, words.WordsOfModule, words.SameWords and 4 more.
+-- From services.ModuleSteps, words.WordsOfModule, words.WordsToState, words.KeptWords, words.ListTests and 10 more.
+-- Used by spi_driver: bookkeeping.Lawful, spi_driver: bookkeeping.UnpolledFrames.
 use Rattle.std.proofs.Common.{◌≡◌, ◌≢◌, ◌+◌, ◌-◌, ◌<◌, ◌≤◌, ◌==◌, ◌&&◌, ◌||◌, ◌^◌, [], ◌∷◌, ◌∙◌, ◌⊎◌, if◌then◌else◌}
 use Rattle.spi_sequences.specs.Terms
 use Terms.{Act, acts_by, all_looked, all_of, and_parts, answers, ap, AreFree, AreLong, AreWindows, arith, AssertedAt}
@@ -10,14 +11,14 @@ use Terms.{GoesFree, Going, happened, has_bit, has_bit-or, has_bit-without, held
 use Terms.{is_busy, is_interrupt, is_off, is_pending, is_shared, is_simple, is_some, is_sync_unit, Is_this_frame}
 use Terms.{IsSoundState, IsThisFrame, length, length_by, LINES, LinesAgree, List, list_any, Load, LongBodies}
 use Terms.{looked_at, may, missed_after, Mode, mode_of, mode_word, Modes, moved, named, nat_eq, nat_lt, nat_tests}
-use Terms.{None, not, Nothing, Off, Option, Order, Origin, owed_left, owed_move, Part, PENDING, Pending, PendingWrites}
-use Terms.{place_at, placed_of, PointAssertion, Polling, refl, Reg, Reservations, resets_chip, Right, run_at}
-use Terms.{run_carried, same_chip, same_Some, sequence_word, served_lines, SetAsyncMode, Shortens, slice_get}
-use Terms.{slice_index, slice_index_or, Some, source_word, spi_bare, spi_basis, spi_machine, spi_owing, SpiBusy}
-use Terms.{SpiIdle, SpiRepresents, SpiState, SpiTable, stands-move, StandsIn, STATE, state_word_after, status_by}
-use Terms.{Store, stored_other, stored_same, subst, suc, sym, true, TurnsTo, Under, UnitAgrees, unless_busy, value_of}
-use Terms.{View, view, Whole, whole_owed, whole_takes, whole_work, WholeBody, Wholes, Windows, windows, windows_right}
-use Terms.{Within, word_of, Works, World, world_after, Write, ℕ}
+use Terms.{None, not, Nothing, Off, Option, Order, Origin, owed_left, owed_move, Part, PENDING, Pending}
+use Terms.{PendingWrites, place_at, placed_of, PointAssertion, Polling, refl, Reg, Reservations, resets_chip, Right}
+use Terms.{run_at, run_carried, same_chip, same_Some, sequence_word, served_lines, SetAsyncMode, Shortens, slice_get}
+use Terms.{slice_index, slice_index_or, Some, some_or_none, source_word, spi_bare, spi_basis, spi_machine, spi_owing}
+use Terms.{SpiBusy, SpiIdle, SpiRepresents, SpiState, SpiTable, stands-move, StandsIn, STATE, state_word_after}
+use Terms.{status_by, Store, stored_other, stored_same, subst, suc, sym, true, TurnsTo, Under, UnitAgrees}
+use Terms.{unless_busy, value_of, View, view, whether, Whole, whole_owed, whole_takes, whole_work, WholeBody, Wholes}
+use Terms.{Windows, windows, windows_right, Within, word_of, Works, World, world_after, Write, ℕ}
 use Rattle.spi_sequences.specs.laws.bookkeeping.RefinementRight.{frame_may, frame_names}
 use Rattle.spi_sequences.specs.declared.service.whole.Whole.TheVariants.{DeInit, Status}
 use Rattle.spi_sequences.specs.laws.words.SameWords.{sequences_alike, run_alike, banks_alike}
@@ -61,11 +62,9 @@ none_pending v none = by v.pending (λ p there. none_in p (subst (λ ps. Contain
     by (p ∷ ps) never = absurd (never p (0, omega arith, refl))
 
 none_begun : (d : SpiTable) (v : View) → IsSoundState d v → all_of v ≡ [] → (u : ℕ) → v.begun u ≡ None
-none_begun d v h none u = by (v.begun u) refl
-  where
-    by : (o : Option Pending) → v.begun u ≡ o → v.begun u ≡ None
-    by None e = e
-    by (Some p) e = absurd (none_in p (subst (λ ps. Contains ps p) none (all_carried v u p (h.carries.unit u p e).0 e)))
+none_begun d v h none u = some_or_none (v.begun u)
+    (λ p e. absurd (none_in p (subst (λ ps. Contains ps p) none (all_carried v u p (h.carries.unit u p e).0 e))))
+    (λ e. e)
 
 busy_none : (d : SpiTable) (s : SpiState) → IsSoundState d (view s) → all_of (view s) ≡ [] → is_busy s ≡ false
 busy_none d s h none = ap (λ ps. not (nat_eq (length ps) 0) || list_any is_some s.carried) (none_pending (view s) none) ∙ none_any is_some s.carried (λ o there. by o there)
@@ -87,18 +86,14 @@ module _ (d : SpiTable) (fits : FitsSpi d) (chip : Chip) (w : World) (s : SpiSta
   no_entry p there = none_in p (subst (λ ps. Contains ps p) none there)
 
   free : (u : ℕ) → u < 2 → run_at s u ≡ None
-  free u lt = by (h.going u) refl
-    where
-      by : (g : Option Going) → h.going u ≡ g → run_at s u ≡ None
-      by None e = going_free d fits [] chip w s h u lt e
-      by (Some g) e = absurd (no_entry g.pending (going_next d fits [] chip w s h u g lt e).0)
+  free u lt = some_or_none (h.going u)
+      (λ g e. absurd (no_entry g.pending (going_next d fits [] chip w s h u g lt e).0))
+      (λ e. going_free d fits [] chip w s h u lt e)
 
   all_idle : (u : ℕ) → (view s).idle u ≡ true
-  all_idle u = by (nat_lt u 2) refl
-    where
-      by : (b : Bool) → nat_lt u 2 ≡ b → (view s).idle u ≡ true
-      by true e = ap (λ r. not (is_some r)) (free u (is_below u 2 e))
-      by false e = h.sound.few u (is_past u 2 e)
+  all_idle u = whether (nat_lt u 2)
+      (λ e. ap (λ r. not (is_some r)) (free u (is_below u 2 e)))
+      (λ e. h.sound.few u (is_past u 2 e))
 
   module _ (last : Chip) (outside : StandsIn last w) (wiring : last.wiring ≡ chip.wiring) (units : last.serials.units ≡ chip.serials.units) (words : (k : ℕ) → word_of last k ≡ word_of stored k) (lines : LinesAgree d mode last.control.enabled) where
     other : (k : ℕ) → k ≢ STATE → word_of last k ≡ word_of chip k
@@ -302,21 +297,17 @@ module _ (d : SpiTable) (fits : FitsSpi d) where
 
     looks : (x : Whole) (n value q : ℕ) → error_by d (call_by x) (is_off s.mode) false ≡ None → IsAbove x below → HasLines d x → q < 8 → NoneBefore (all_of (view s)) q → (b : Bool) → is_pending q (all_of (view s)) ≡ b → LookMakes x n value (looked_at x q b)
     looks x n value q clear above l lt none true e = let p = entry_of d fits below chip w s h (all_of (view s)) q e in busy x n value q clear (busy_some s p.0 p.1)
-    looks x n value q clear above l lt none false e = by (nat_lt q 7) refl
+    looks x n value q clear above l lt none false e = whether (nat_lt q 7)
+        (λ f. subst (λ b. LookMakes x n value (if b then (whole.Look x (q + 1), goes) else all_looked x q)) (sym f) (h, ((Is_this_frame, clear, on, above, l), let less = is_below q 7 f in omega (arith, less), upto)))
+        (λ f. subst (λ b. LookMakes x n value (if b then (whole.Look x (q + 1), goes) else all_looked x q)) (sym f) (all_seen x n value q clear above l (all_gone (λ k less. upto k (let past = is_past q 7 f in omega (arith, past, less))))))
       where
         split : (a b : ℕ) → a < b + 1 → nat_lt a b ≡ false → a ≡ b
         split a b l f = grind (arith, nat_tests)
 
         upto : NoneBefore (all_of (view s)) (q + 1)
-        upto k less = by_order (nat_lt k q) refl
-          where
-            by_order : (b : Bool) → nat_lt k q ≡ b → is_pending k (all_of (view s)) ≡ false
-            by_order true f = none k (is_below k q f)
-            by_order false f = ap (λ i. is_pending i (all_of (view s))) (split k q less f) ∙ e
-
-        by : (b : Bool) → nat_lt q 7 ≡ b → LookMakes x n value (if nat_lt q 7 then (whole.Look x (q + 1), goes) else all_looked x q)
-        by true f = subst (λ b. LookMakes x n value (if b then (whole.Look x (q + 1), goes) else all_looked x q)) (sym f) (h, ((Is_this_frame, clear, on, above, l), let less = is_below q 7 f in omega (arith, less), upto))
-        by false f = subst (λ b. LookMakes x n value (if b then (whole.Look x (q + 1), goes) else all_looked x q)) (sym f) (all_seen x n value q clear above l (all_gone (λ k less. upto k (let past = is_past q 7 f in omega (arith, past, less)))))
+        upto k less = whether (nat_lt k q)
+            (λ f. none k (is_below k q f))
+            (λ f. ap (λ i. is_pending i (all_of (view s))) (split k q less f) ∙ e)
 
   whole_steps : (below : Reservations) (chip : Chip) (w : World) (s : SpiState) (k : WholeBody) (o : Origin Call) (y : ℕ) (t : FrameHistory) (m : ℕ → Bool) → whole_owed k ≡ None → AssertedAt (spi_basis d) (whole_bodies d) below chip w s k o t → Right (spi_basis d) (whole_bodies d) below chip w s k o y t m
   whole_steps below chip w s (whole.Look x q) o y t m e (h, ((Is_this_frame, clear, on, above, l), lt, none)) =

@@ -1,5 +1,5 @@
 -- Spi_DeInit, Spi_SetAsyncMode and Spi_GetStatus: their steps.
--- Used by services.ModuleRight, service/whole/rt, PendingWrites.
+-- Used by services.ModuleRight, src/service/whole.rt, PendingWrites, services.AtOnce.
 use Rattle.std.specs.Prelude.{ℕ, ◌+◌, ◌==◌, nat_lt, Bool, true, false, if◌then◌else◌, None, Some}
 use Rattle.mcal_base.specs.declared.answer_name.AnswerName.{AnswerName}
 use Rattle.mcal_base.specs.declared.answer_name.AnswerName.TheVariants.{EOk, ENotOk, SpiIdle, SpiBusy}

@@ -1,10 +1,10 @@
 -- Spi_GetJobResult, Spi_GetSequenceResult and Spi_GetHWUnitStatus: that they are right.
--- From words.WordsToState, services.QuerySteps, words.JobPlaces, hardware.StableUnderHardware and 3 more.
--- Used by services.ModuleRight, services.CancelRight, services.RequestRight.
+-- From words.WordsToState, services.QuerySteps, words.ListTests, hardware.StableUnderHardware and 8 more.
+-- Used by spi_driver: bookkeeping.Lawful, services.ModuleRight, spi_driver: bookkeeping.UnpolledFrames and 6 more.
 use Rattle.std.proofs.Common.{◌≡◌, ◌+◌, ◌-◌, ◌<◌, ◌≤◌, ◌==◌, ◌&&◌, ◌||◌, [], ◌++◌, ◌∙◌, ◌⊎◌, if◌then◌else◌}
 use Rattle.spi_sequences.specs.Terms
 use Terms.{Act, acts_by, all_of, AnswerName, answers, ap, AreLong, arith, asks_no, AssertedAt, AsyncTransmit}
-use Terms.{begins_word, Bool, Call, Called, Cancel, Chip, chip_after, Contains, Contains-append_cases, DeInit}
+use Terms.{begins_word, Bool, Call, Called, Cancel, cases, Chip, chip_after, Contains, Contains-append_cases, DeInit}
 use Terms.{entries_begun, error_by, false, FitsSpi, FrameHistory, fresh_history, Get, get_or_default, Going, has_job}
 use Terms.{HwUnitStatus, Init, inl, inr, is_left, is_of, is_off, is_on_unit, is_pending, is_reset_service, is_running}
 use Terms.{is_shared, is_sync_unit, Is_this_frame, IsEntry, IsThisFrame, Job, job_of, job_result, job_result_in}
@@ -14,9 +14,9 @@ use Terms.{next_in, next_job, NEXTS, None, Nothing, Option, or_parts, Order, Ori
 use Terms.{place_in, PointAssertion, Query, query_answer, QueryBody, ReadIb, refl, Reservations, resets_chip, Right}
 use Terms.{run_in, running_word, RunsBy, RunsNext, sequence_result_in, sequence_word, SequenceResult, service_of}
 use Terms.{SetAsyncMode, SetupEb, shares_job, Shortens, ShortensTo, slice_index_or, Some, spi_basis, spi_machine}
-use Terms.{SpiBusy, SpiIdle, SpiJobPending, SpiJobQueued, SpiRepresents, SpiState, SpiTable, STATE, Status, subst, suc}
-use Terms.{sym, SyncTransmit, true, TurnsMask, TurnsTo, Under, value_of, view, Within, word_of, Works, World, WriteIb}
-use Terms.{zero, ℕ}
+use Terms.{SpiBusy, SpiIdle, SpiJobPending, SpiJobQueued, SpiRepresents, SpiState, SpiTable, STATE, Status, subst}
+use Terms.{suc, sym, SyncTransmit, true, TurnsMask, TurnsTo, Under, value_of, view, whether, Within, word_of, Works}
+use Terms.{World, WriteIb, zero, ℕ}
 use Rattle.spi_sequences.specs.laws.bookkeeping.RefinementRight.{frame_may}
 use Rattle.spi_machine.specs.declared.call.Call.TheVariants.{Channel, Sequence}
 use Rattle.spi_sequences.specs.laws.hardware.StableUnderHardware.{begun_later, mode_later, pending_later}
@@ -152,7 +152,9 @@ module _ (d : SpiTable) (fits : FitsSpi d) (below : Reservations) (chip : Chip) 
 
   -- where its unit runs another job or none, no sequence runs it
   runs_none : ((g : Going) → h.going k.unit ≡ Some g → next_job d g.pending ≡ j → ⊥) → RunsNone d under_way works j
-  runs_none other p there e = not_true (works p.sequence) (λ f. split (is_running s p.sequence) refl f)
+  runs_none other p there e = not_true (works p.sequence) (λ f. whether (is_running s p.sequence)
+      (λ i. let r = runs_on d fits below chip w s h p.sequence i in on_unit_of r.unit r.job r.few r.is r.of)
+      (λ i. begun_one (any_some (is_of p.sequence) carried (ap (λ b. b || list_any (is_of p.sequence) carried) (sym i) ∙ f))))
     where
       -- the sequence's job on a unit is it
       on_unit_of : (u : ℕ) (g : Going) → u < 2 → h.going u ≡ Some g → g.pending.sequence ≡ p.sequence → ⊥
@@ -173,16 +175,10 @@ module _ (d : SpiTable) (fits : FitsSpi d) (below : Reservations) (chip : Chip) 
       entry u (Some y) i x (zero, lt, at) of = by_unit u x (i ∙ ap (λ z. Some z) at) of
       entry u (Some y) i x (suc n, lt, at) of = omega (arith, lt)
 
-      either : (x : Pending) → Contains (entries_begun ((view s).begun 0)) x ⊎ Contains (entries_begun ((view s).begun 1)) x → x.sequence ≡ p.sequence → ⊥
-      either x (inl is) of = entry 0 ((view s).begun 0) refl x is of
-      either x (inr is) of = entry 1 ((view s).begun 1) refl x is of
-
       begun_one : (x : Pending) × Contains carried x × (is_of p.sequence x ≡ true) → ⊥
-      begun_one (x, is, of) = either x (Contains-append_cases (entries_begun ((view s).begun 0)) (entries_begun ((view s).begun 1)) x is) (is_number x.sequence p.sequence of)
-
-      split : (b : Bool) → is_running s p.sequence ≡ b → is_running s p.sequence || list_any (is_of p.sequence) carried ≡ true → ⊥
-      split true i f = let r = runs_on d fits below chip w s h p.sequence i in on_unit_of r.unit r.job r.few r.is r.of
-      split false i f = begun_one (any_some (is_of p.sequence) carried (ap (λ b. b || list_any (is_of p.sequence) carried) (sym i) ∙ f))
+      begun_one (x, is, of) = cases (Contains-append_cases (entries_begun ((view s).begun 0)) (entries_begun ((view s).begun 1)) x is)
+          (λ is. entry 0 ((view s).begun 0) refl x is (is_number x.sequence p.sequence of))
+          (λ is. entry 1 ((view s).begun 1) refl x is (is_number x.sequence p.sequence of))
 
   -- it waits at a place that is left
   queued : (p : Pending) (i : ℕ) → Contains under_way p → RunsNone d under_way works j → p.next ≤ i → i < length (jobs_of d p.sequence) → slice_index_or (jobs_of d p.sequence) i 0 ≡ j → job_result s.job_results j ≡ SpiJobQueued
@@ -283,21 +279,17 @@ module _ (d : SpiTable) (fits : FitsSpi d) (below : Reservations) (chip : Chip) 
 
     -- the place after a look at a sequence that doesn't have it left
     looks_on : (n value q : ℕ) → q < 8 → RunsNone d under_way works j → LeftNone d under_way j q → ((p : Pending) → Contains under_way p → p.sequence ≡ q → is_left d j p ≡ false) → JobMakes n value (after_look q, None)
-    looks_on n value q lt none left this = by (nat_lt q 7) refl
+    looks_on n value q lt none left this = whether (nat_lt q 7)
+        (λ f. subst (λ b. JobMakes n value (if b then place.Look (q + 1) else place.Result, None)) (sym f) (goes_to n value (place.Look (q + 1)) (let less = is_below q 7 f in omega (arith, less), none, upto)))
+        (λ f. subst (λ b. JobMakes n value (if b then place.Look (q + 1) else place.Result, None)) (sym f) (goes_to n value place.Result (none_any (is_left d j) under_way (λ p there. upto p there (let few = (h.sound.entries p there).number in let past = is_past q 7 f in omega (arith, few, past, lt))))))
       where
         split : (a b : ℕ) → a < b + 1 → nat_lt a b ≡ false → a ≡ b
         split a b l f = grind (arith, nat_tests)
 
         upto : LeftNone d under_way j (q + 1)
-        upto p there less = by_order (nat_lt p.sequence q) refl
-          where
-            by_order : (b : Bool) → nat_lt p.sequence q ≡ b → is_left d j p ≡ false
-            by_order true f = left p there (is_below p.sequence q f)
-            by_order false f = this p there (split p.sequence q less f)
-
-        by : (b : Bool) → nat_lt q 7 ≡ b → JobMakes n value (if nat_lt q 7 then place.Look (q + 1) else place.Result, None)
-        by true f = subst (λ b. JobMakes n value (if b then place.Look (q + 1) else place.Result, None)) (sym f) (goes_to n value (place.Look (q + 1)) (let less = is_below q 7 f in omega (arith, less), none, upto))
-        by false f = subst (λ b. JobMakes n value (if b then place.Look (q + 1) else place.Result, None)) (sym f) (goes_to n value place.Result (none_any (is_left d j) under_way (λ p there. upto p there (let few = (h.sound.entries p there).number in let past = is_past q 7 f in omega (arith, few, past, lt)))))
+        upto p there less = whether (nat_lt p.sequence q)
+            (λ f. left p there (is_below p.sequence q f))
+            (λ f. this p there (split p.sequence q less f))
 
     looks : (n value q : ℕ) → q < 8 → RunsNone d under_way works j → LeftNone d under_way j q → (b : Bool) → is_pending q under_way ≡ b → JobMakes n value (job_looked r q b, None)
     looks n value q lt none left false e = looks_on n value q lt none left (λ p there same. absurd (let g = subst (λ k. is_pending k under_way ≡ true) same (is_there d fits below chip w s h under_way p there) in let c = sym e ∙ g in cc))
@@ -312,7 +304,9 @@ module _ (d : SpiTable) (fits : FitsSpi d) (below : Reservations) (chip : Chip) 
 
     nexts : (n value q i v : ℕ) → RunsNone d under_way works j → (p : Pending) → Contains under_way p → p.sequence ≡ q → i < length (jobs_of d q) → slice_index_or (jobs_of d q) i 0 ≡ j → v ≡ p.next
         → JobMakes n value (if nat_le v i then (place.Next q i, Some SpiJobQueued) else (place.Result, None))
-    nexts n value q i v none p there of lt at e = by (nat_le v i) refl
+    nexts n value q i v none p there of lt at e = whether (nat_le v i)
+        (λ f. subst (λ b. JobMakes n value (if b then (place.Next q i, Some SpiJobQueued) else (place.Result, None))) (sym f) (tells n value (place.Next q i) SpiJobQueued (sym (queued p i there none (let l = le v i f in omega (arith, l, e)) within is_at))))
+        (λ f. subst (λ b. JobMakes n value (if b then (place.Next q i, Some SpiJobQueued) else (place.Result, None))) (sym f) (goes_to n value place.Result (left_none p i there (let l = gt v i f in omega (arith, l, e)) within is_at)))
       where
         le : (a b : ℕ) → nat_le a b ≡ true → a ≤ b
         le a b f = grind (arith, nat_tests)
@@ -325,10 +319,6 @@ module _ (d : SpiTable) (fits : FitsSpi d) (below : Reservations) (chip : Chip) 
 
         is_at : slice_index_or (jobs_of d p.sequence) i 0 ≡ j
         is_at = subst (λ k. slice_index_or (jobs_of d k) i 0 ≡ j) (sym of) at
-
-        by : (b : Bool) → nat_le v i ≡ b → JobMakes n value (if nat_le v i then (place.Next q i, Some SpiJobQueued) else (place.Result, None))
-        by true f = subst (λ b. JobMakes n value (if b then (place.Next q i, Some SpiJobQueued) else (place.Result, None))) (sym f) (tells n value (place.Next q i) SpiJobQueued (sym (queued p i there none (let l = le v i f in omega (arith, l, e)) within is_at)))
-        by false f = subst (λ b. JobMakes n value (if b then (place.Next q i, Some SpiJobQueued) else (place.Result, None))) (sym f) (goes_to n value place.Result (left_none p i there (let l = gt v i f in omega (arith, l, e)) within is_at))
 
     job_steps : (p : JobPlace) → JobAt d under_way works j p → (n value : ℕ) → job_move r p ≡ Load n → value ≡ word_of chip n → JobMakes n value (job_took r p value)
     job_steps place.Running at n value move is_value = by (h.going k.unit) refl

@@ -1,5 +1,5 @@
 -- Spi_GetJobResult, Spi_GetSequenceResult and Spi_GetHWUnitStatus: their steps.
--- Used by services.QueryRight, service/query/rt.
+-- Used by services.QueryRight, src/service/query.rt, services.AtOnce.
 use Rattle.std.proofs.Common.{◌+◌, ◌==◌, if◌then◌else◌}
 use Rattle.spi_sequences.specs.Terms
 use Terms.{Act, AnswerName, BodyTaken, Bool, ends, false, goes, job_result_in, job_word, JobPlace, JobQuery, jobs_list}

@@ -1,6 +1,6 @@
 -- Spi_ReadIB: that it is right.
--- From words.SideWords, services.ReadSteps, words.WordsToState, words.WordsOfModule, hardware.SourceFilled and 5 more.
--- Used by services.WriteRight, words.FirstParts.
+-- From services.ReadSteps, words.SideWords, words.ListTests, bookkeeping.RefinementRight and 9 more.
+-- Used by spi_driver: bookkeeping.Lawful, spi_driver: bookkeeping.UnpolledFrames, services.WriteRight and 2 more.
 use Rattle.std.proofs.Common.{◌≡◌, ◌+◌, ◌-◌, ◌*◌, ◌%◌, ◌<◌, ◌≤◌, ◌==◌, ◌&&◌, ◌||◌, [], ◌∷◌, ◌++◌, ◌∙◌, if◌then◌else◌}
 use Rattle.spi_sequences.specs.Terms
 use Terms.{acts_by, Adding, agrees_after, Answer, answers, ap, AreEnding, arith, AssertedAt, bank_of, bank_word}
@@ -14,8 +14,8 @@ use Terms.{Placed, placed_of, PointAssertion, prepares, read_answer, ReadBody, R
 use Terms.{ready, Received, refl, releases, Reservation, Reservations, resets_chip, RightOr, ShortensTo, slice_index}
 use Terms.{Some, spi_bare, spi_basis, spi_machine, spi_owing, SpiRepresents, SpiState, SpiTable, stands-move, Store}
 use Terms.{subst, suc, sym, Take, take, take_all, take_gave, take_held, take_more, trio_of, TripleBuffer, true}
-use Terms.{TurnsMask, Under, Unmask, value_of, view, with_holds, Within, word_later, word_of, WORDS, World}
-use Terms.{world_after, zero, ℕ}
+use Terms.{TurnsMask, Under, Unmask, value_of, view, whether_as, with_holds, Within, word_later, word_of, WORDS}
+use Terms.{World, world_after, zero, ℕ}
 use Rattle.word_shapes.specs.Banks.{pinning, releasing}
 use Rattle.spi_sequences.specs.laws.{words.SideWords.{IsBeside, IsLike, banks_changed, beside_back, beside_one}}
 use Rattle.spi_sequences.specs.laws.{words.SideWords.{differs_by_store, mine, none_readied, received_changed}}
@@ -273,11 +273,9 @@ onward d below chip w s r ws c k xs i len count few lt part le h = by (nat_lt (l
 
 -- the place after a word ends no frame
 further_goes : (x : Placed) (xs ws : List ℕ) → ended_by (ends_at (read_further x xs) ws) None ≡ None
-further_goes x xs ws = by (nat_lt (length xs) 64 && nat_lt (length xs) x.channel.length)
-  where
-    by : (q : Bool) → ended_by (ends_at (if q then read.Load else read.Shut) ws) None ≡ None
-    by true = refl
-    by false = refl
+further_goes x xs ws = whether_as (nat_lt (length xs) 64 && nat_lt (length xs) x.channel.length) (λ q. ended_by (ends_at (if q then read.Load else read.Shut) ws) None ≡ None)
+    (λ _. refl)
+    (λ _. refl)
 
 pub length-first : (n : ℕ) (xs : List ℕ) → length (first_items 0 n xs) ≡ n
 length-first zero xs = refl
@@ -406,21 +404,17 @@ read_less r read.Load x = by (nat_lt (length r.words) 64) refl
       where
         none : read_fuel_at (record r { words = r.words; place = read_further r.placed r.words }) (read_further r.placed r.words) < 8 + (r.placed.channel.length - length r.words)
         none = subst (λ b. read_fuel_at (record r { words = r.words; place = if b && nat_lt (length r.words) r.placed.channel.length then read.Load else read.Shut }) (if b && nat_lt (length r.words) r.placed.channel.length then read.Load else read.Shut) < 8 + (r.placed.channel.length - length r.words)) (sym e) (omega arith)
-read_less r (read.Release p) x = by (has_ended (take_gave p x)) refl
-  where
-    by : (q : Bool) → has_ended (take_gave p x) ≡ q → let z = read_releases r p x q in ShortensTo (4 + take_more p) (read_fuel_at z.0 z.0.place) z.1.done
-    by true e = omega arith
-    by false e = let lt = take_less p x e in omega (arith, lt)
+read_less r (read.Release p) x = whether_as (has_ended (take_gave p x)) (λ q. let z = read_releases r p x q in ShortensTo (4 + take_more p) (read_fuel_at z.0 z.0.place) z.1.done)
+    (λ e. omega arith)
+    (λ e. let lt = take_less p x e in omega (arith, lt))
 read_less r _ x = omega arith
 
 module _ (d : SpiTable) where
   -- the place after a word is with the mask open
   further_open : (r : ReadBody) (x : Placed) (ws : List ℕ) → is_closed (read_spot_at d r (read_further x ws)) ≡ false
-  further_open r x ws = by (nat_lt (length ws) 64 && nat_lt (length ws) x.channel.length)
-    where
-      by : (q : Bool) → is_closed (read_spot_at d r (if q then read.Load else read.Shut)) ≡ false
-      by true = refl
-      by false = refl
+  further_open r x ws = whether_as (nat_lt (length ws) 64 && nat_lt (length ws) x.channel.length) (λ q. is_closed (read_spot_at d r (if q then read.Load else read.Shut)) ≡ false)
+      (λ _. refl)
+      (λ _. refl)
 
   abbrev TurnsAt : ReadBody → ReadPlace → ℕ → Type 0
   TurnsAt r p x = let z = read_took r p x in TurnsMask 32 (is_closed (read_spot_at d r p)) (is_closed (read_spot_at d z.0 z.0.place)) (read_room_at p) (read_room_at z.0.place) (read_move r p) z.1.event z.1.done

@@ -1,5 +1,5 @@
 -- Spi_ReadIB: its steps.
--- Used by services.ReadRight, service/read/rt, services.Bodies.
+-- Used by services.ReadRight, src/service/read.rt, services.AtOnce, services.Bodies.
 use Rattle.std.proofs.Common.{◌&&◌, if◌then◌else◌, [], ◌∷◌, ◌++◌}
 use Rattle.spi_sequences.specs.Terms
 use Terms.{acts, Answer, bank_of, bank_word, BodyTaken, Bool, control_word, ends, EOk, false, gave, goes, has_ended}

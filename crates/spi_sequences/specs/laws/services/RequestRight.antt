@@ -1,17 +1,18 @@
 -- A request is accepted: what its window owes after the act, and the agreement after that.
--- From words.NumbersApart, bookkeeping.AcceptedState, words.WordsToState, services.CancelRight and 8 more.
+-- From words.NumbersApart, bookkeeping.AcceptedState, words.ListTests, services.CancelRight and 12 more.
+-- Used by spi_driver: services.RequestAsking.
 use Rattle.std.proofs.Common.{◌≡◌, ◌≢◌, ◌+◌, ◌<◌, ◌≤◌, ◌==◌, ◌||◌, [], ◌∷◌, ◌∙◌, ◌⊎◌}
 use Rattle.spi_sequences.specs.Terms
-use Terms.{accepted, Add, add-ends, add_gave, adding, after_request, Answer, ap, AreOwed, arith, Bool, Call, Chip}
-use Terms.{chip_after, CommitsAfter, Contains, Contains-append_left, Contains-push_cases, Debt, DiffersIn, entries_of}
-use Terms.{false, filter, FitsSpi, Going, holds-agree, inl, inr, is_for, is_held, is_off, is_owed, is_running, is_some}
-use Terms.{is_sync_sequence, is_sync_unit, IsPart, IsSoundState, job_word, jobs_of, length, MARKS, NEXTS, None}
-use Terms.{one_owed, Option, order_places, order_word, Origin, PartTo, PENDING, Pending, PendingWrites, position_word}
-use Terms.{refl, request_adds, RequestPlace, Reservations, running_word, RunsBy, RunsNext, same_or_other, Sequence}
-use Terms.{sequence_of, sequence_word, SequencesAgree, settles_part, shares_job, slice_index_or, Some, spi_owing}
-use Terms.{SpiRepresents, SpiState, SpiTable, stands-move, StandsIn, STATE, Store, stored_other, stored_same, subst}
-use Terms.{sym, Transmit, true, unit_of_sequence, unit_owed, UnitBody, Units, unless_done, unmarked_in, view}
-use Terms.{with_next_in, word_of, World, ℕ}
+use Terms.{accepted, Add, add-ends, add_gave, adding, after_request, Answer, ap, AreOwed, arith, Bool, Call, cases}
+use Terms.{Chip, chip_after, CommitsAfter, Contains, Contains-append_left, Contains-push_cases, Debt, DiffersIn}
+use Terms.{entries_of, false, filter, FitsSpi, Going, holds-agree, inl, inr, is_for, is_held, is_off, is_owed}
+use Terms.{is_running, is_some, is_sync_sequence, is_sync_unit, IsPart, IsSoundState, job_word, jobs_of, length}
+use Terms.{MARKS, NEXTS, None, one_owed, Option, order_places, order_word, Origin, PartTo, PENDING, Pending}
+use Terms.{PendingWrites, position_word, refl, request_adds, RequestPlace, Reservations, running_word, RunsBy}
+use Terms.{RunsNext, same_or_other, Sequence, sequence_of, sequence_word, SequencesAgree, settles_part, shares_job}
+use Terms.{slice_index_or, Some, spi_owing, SpiRepresents, SpiState, SpiTable, stands-move, StandsIn, STATE, Store}
+use Terms.{stored_other, stored_same, subst, sym, Transmit, true, unit_of_sequence, unit_owed, UnitBody, Units}
+use Terms.{unless_done, unmarked_in, view, with_next_in, word_of, World, ℕ}
 use Rattle.spi_sequences.specs.laws.{bookkeeping.AcceptedState.{accepted_sound, accepted_words, all_kept, apart_from}}
 use Rattle.spi_sequences.specs.laws.{bookkeeping.AcceptedState.{new, order_with, order_without, some}, words.AllSequences.{all_pending}}
 use Rattle.spi_sequences.specs.laws.{words.NumbersApart.{before_sequences, from_order, high_enough, high_order, job_at}}
@@ -134,7 +135,9 @@ module _ (d : SpiTable) (fits : FitsSpi d) (below : Reservations) (chip : Chip) 
     jobs_same j lt = let at = job_at j lt in word_same (job_word j) (high_order unit (job_word j) few at.1) (before_sequences q (job_word j) at.0) (not_nexts (job_word j) at.2) (not_marks (job_word j) at.2)
 
     orders : (u : ℕ) → u < 2 → ranked.Holds (record { at = order_word u }) (word_of c) (entries_of d (view after) u)
-    orders u lt = by (same_or_other u unit)
+    orders u lt = cases (same_or_other u unit)
+        (λ e. subst (λ n. ranked.Holds (record { at = order_word n }) (word_of c) (entries_of d (view after) n)) (sym e) (subst (λ xs. ranked.Holds (record { at = order_word unit }) (word_of c) xs) (sym (order_with d fits (view s) h.sound q small x known free async rests on unit refl)) holds))
+        (λ ne. subst (λ xs. ranked.Holds (record { at = order_word u }) (word_of c) xs) (sym (order_without d fits (view s) h.sound q small x known free async rests on u ne)) (holds-agree (record { at = order_word u }) (word_of chip) (word_of c) (entries_of d (view s) u) (other_words ne) ((h.words.on on).sequences.orders u lt)))
       where
         other_words : u ≢ unit → (j : ℕ) → ranked.own_of (record { at = order_word u }) j ≡ true → word_of chip j ≡ word_of c j
         other_words ne j own =
@@ -142,10 +145,6 @@ module _ (d : SpiTable) (fits : FitsSpi d) (below : Reservations) (chip : Chip) 
             let high = to_order u j own in
             let at = order_at u j lt low high in
             sym (word_same j (other_order unit u j few lt ne low high) (before_sequences q j at.0) (not_nexts j at.1) (not_marks j at.1))
-
-        by : (u ≡ unit) ⊎ (u ≢ unit) → ranked.Holds (record { at = order_word u }) (word_of c) (entries_of d (view after) u)
-        by (inl e) = subst (λ n. ranked.Holds (record { at = order_word n }) (word_of c) (entries_of d (view after) n)) (sym e) (subst (λ xs. ranked.Holds (record { at = order_word unit }) (word_of c) xs) (sym (order_with d fits (view s) h.sound q small x known free async rests on unit refl)) holds)
-        by (inr ne) = subst (λ xs. ranked.Holds (record { at = order_word u }) (word_of c) xs) (sym (order_without d fits (view s) h.sound q small x known free async rests on u ne)) (holds-agree (record { at = order_word u }) (word_of chip) (word_of c) (entries_of d (view s) u) (other_words ne) ((h.words.on on).sequences.orders u lt))
 
     soundly : IsSoundState d (view after)
     soundly = accepted_sound d fits (view s) h.sound q small x known free async rests on

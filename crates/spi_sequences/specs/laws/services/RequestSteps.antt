@@ -1,5 +1,5 @@
 -- The request of a sequence: its steps.
--- Used by services.UnitSteps, service/request/rt, services.RequestRight.
+-- Used by spi_driver: bookkeeping.PendingWritesRight, services.UnitSteps, src/service/request.rt and 7 more.
 use Rattle.std.specs.Prelude.{ℕ, ◌+◌, ◌==◌, nat_lt, Bool, true, false, ◌&&◌, ◌||◌, if◌then◌else◌, Some, None}
 use Rattle.mcal_base.specs.declared.moves.Event.TheVariants.{Act}
 use Rattle.mcal_base.specs.declared.moves.Move.{Move}

@@ -1,5 +1,5 @@
 -- The serving window of a unit: its steps.
--- Used by bookkeeping.PendingWritesBounds, spi_serving: Serving, PendingWrites, services.UnitSteps, service/serve/rt.
+-- Used by spi_driver: bookkeeping.PendingWritesRight, bookkeeping.PendingWritesBounds and 42 more.
 use Rattle.std.specs.Prelude.{ℕ, zero, suc, ◌+◌, ◌-◌, ◌/◌, ◌%◌, ◌==◌, nat_lt, nat_le, min, Bool, true, false, ◌&&◌, not, if◌then◌else◌, Option, Some, None}
 use Rattle.mcal_base.specs.declared.moves.Event.{Event}
 use Rattle.mcal_base.specs.declared.moves.Event.TheVariants as events

@@ -1,20 +1,19 @@
 -- Spi_SetupEB: that it is right.
--- From words.WordsOfModule, words.SameWords, hardware.StableUnderHardware, services.SetUpSteps and 3 more.
--- Used by services.WriteRight, services.ReadRight, services.CancelRight, services.QueryRight and 5 more.
+-- From words.WordsOfModule, words.SameWords, service_outline: Words, hardware.StableUnderHardware and 8 more.
+-- Used by spi_driver: bookkeeping.Lawful, services.WriteRight, spi_serving: services.FurtherRight and 27 more.
 use Rattle.std.proofs.Common.{◌≡◌, ◌≢◌, ◌+◌, ◌<◌, ◌≤◌, ◌&&◌, ◌||◌, [], ◌∷◌, ◌∙◌, ◌⊎◌, ◌++◌}
 use Rattle.spi_sequences.specs.Terms
 use Terms.{acts_by, AllRight, answers, ap, AreCarried, AreLong, arith, AssertedAt, begins_word, Bool, Call, Called}
-use Terms.{Channel, channel-seen, channel_at, channel_of, ChannelFits, ChannelState, Chip, chip_after}
-use Terms.{Contains, EOk, error_by, false, FitsSpi, flat_map-cons, FrameHistory, fresh_history, Going}
-use Terms.{happened, held_word, HeldRight, HoldsArrays, inl, inr, is_off, is_own_word, is_shared, Is_this_frame}
-use Terms.{is_users, is_word_of, IsSoundState, IsThisFrame, item-other, item-same, length, length_by, List, Load}
-use Terms.{LongBodies, may, Mode, moved, named, nat_lt, nat_tests, never_clean, None, Order, Origin, packed, Part}
-use Terms.{place_at, place_of, Placed, placed_of, PointAssertion, Pointer, Preparing, refl, Reservation}
-use Terms.{Reservations, ReservedBy, resets_chip, Right, RunsNext, same_or_other, set_up_code, set_up_word}
-use Terms.{SetUpBody, SetupEb, SetUpFits, slice_get, Some, Source, source_word, spi_basis, SpiRepresents, SpiState}
-use Terms.{SpiTable, stands-move, STATE, Store, stored_by, stored_in, stored_other, stored_same, subst, sym, true}
-use Terms.{TurnsTo, Under, untouched, view, with_channel, Within, word_at, word_of, WORDS, WordsAgree, World}
-use Terms.{world_after, ℕ}
+use Terms.{cases, Channel, channel-seen, channel_at, channel_of, ChannelFits, ChannelState, Chip, chip_after}
+use Terms.{Contains, EOk, error_by, false, FitsSpi, flat_map-cons, FrameHistory, fresh_history, Going, happened}
+use Terms.{held_word, HeldRight, HoldsArrays, inl, inr, is_off, is_own_word, is_shared, Is_this_frame, is_users}
+use Terms.{is_word_of, IsSoundState, IsThisFrame, item-other, item-same, length, length_by, List, Load, LongBodies}
+use Terms.{may, Mode, moved, named, nat_lt, nat_tests, never_clean, None, Order, Origin, packed, Part, place_at}
+use Terms.{place_of, Placed, placed_of, PointAssertion, Pointer, Preparing, refl, Reservation, Reservations}
+use Terms.{ReservedBy, resets_chip, Right, RunsNext, same_or_other, set_up_code, set_up_word, SetUpBody, SetupEb}
+use Terms.{SetUpFits, slice_get, Some, Source, source_word, spi_basis, SpiRepresents, SpiState, SpiTable, stands-move}
+use Terms.{STATE, Store, stored_by, stored_in, stored_other, stored_same, subst, sym, true, TurnsTo, Under, untouched}
+use Terms.{view, with_channel, Within, word_at, word_of, WORDS, WordsAgree, World, world_after, ℕ}
 use Rattle.spi_sequences.specs.laws.bookkeeping.RefinementRight.{frame_may}
 use Rattle.spi_jobs.specs.declared.set_up.SetUp.{SetUp}
 use Rattle.spi_sequences.specs.laws.{words.SameWords.{sequences_alike, run_alike, banks_alike}}
@@ -70,11 +69,9 @@ module _ (d : SpiTable) (fits : FitsSpi d) (below : Reservations) (chip : Chip) 
       ∙ ap (λ f. record (view s) { sources = f }) (pointwise (view later).sources (view s).sources (λ n. channel-seen (λ x. x.source) s c n (record (channel_at s c) { set_up = Some by }) refl))
 
   held_same : (n : ℕ) (k1 : Channel) → channel_of d n ≡ Some k1 → word_of stored (held_word (placed_of d n)) ≡ word_of chip (held_word (placed_of d n))
-  held_same n k1 f = split (same_or_other n c)
-    where
-      split : (n ≡ c) ⊎ (n ≢ c) → word_of stored (held_word (placed_of d n)) ≡ word_of chip (held_word (placed_of d n))
-      split (inl at) = subst (λ i. word_of stored (held_word (placed_of d i)) ≡ word_of chip (held_word (placed_of d i))) (sym at) (other _ (λ g. omega (arith, g)))
-      split (inr ne) = other _ (of_one d fits n c k1 k _ word ne f e (of_held d fits n k1 f) (of_set_up d fits c k e))
+  held_same n k1 f = cases (same_or_other n c)
+      (λ at. subst (λ i. word_of stored (held_word (placed_of d i)) ≡ word_of chip (held_word (placed_of d i))) (sym at) (other _ (λ g. omega (arith, g))))
+      (λ ne. other _ (of_one d fits n c k1 k _ word ne f e (of_held d fits n k1 f) (of_set_up d fits c k e)))
 
   source_same : (n i : ℕ) → word_of stored (place_of (Source n) i) ≡ word_of chip (place_of (Source n) i)
   source_same n i = other _ (λ g. let low = own_low d fits word (own_set_up d fits c k e) in omega (arith, low, g))
@@ -86,11 +83,9 @@ module _ (d : SpiTable) (fits : FitsSpi d) (below : Reservations) (chip : Chip) 
   }
 
   set_ups_same : is_off s.mode ≡ false → (n : ℕ) (k1 : Channel) → channel_of d n ≡ Some k1 → k1.internal ≡ false → word_of stored (set_up_word (placed_of d n)) ≡ set_up_code (channel_at later n).set_up
-  set_ups_same on n k1 f i = split (same_or_other n c)
-    where
-      split : (n ≡ c) ⊎ (n ≢ c) → word_of stored (set_up_word (placed_of d n)) ≡ set_up_code (channel_at later n).set_up
-      split (inl at) = subst (λ i. word_of stored (set_up_word (placed_of d i)) ≡ set_up_code (channel_at later i).set_up) (sym at) (stored_same chip word (set_up_code (Some by)) 0 there h.outside.all.words ∙ ap (λ x. set_up_code x.set_up) (sym (item-same untouched s.channels c (record (channel_at s c) { set_up = Some by }))))
-      split (inr ne) = other _ (of_one d fits n c k1 k _ word ne f e (of_set_up d fits n k1 f) (of_set_up d fits c k e)) ∙ h.set_ups on n k1 f i ∙ ap (λ x. set_up_code x.set_up) (sym (item-other untouched s.channels c n (record (channel_at s c) { set_up = Some by }) ne))
+  set_ups_same on n k1 f i = cases (same_or_other n c)
+      (λ at. subst (λ i. word_of stored (set_up_word (placed_of d i)) ≡ set_up_code (channel_at later i).set_up) (sym at) (stored_same chip word (set_up_code (Some by)) 0 there h.outside.all.words ∙ ap (λ x. set_up_code x.set_up) (sym (item-same untouched s.channels c (record (channel_at s c) { set_up = Some by })))))
+      (λ ne. other _ (of_one d fits n c k1 k _ word ne f e (of_set_up d fits n k1 f) (of_set_up d fits c k e)) ∙ h.set_ups on n k1 f i ∙ ap (λ x. set_up_code x.set_up) (sym (item-other untouched s.channels c n (record (channel_at s c) { set_up = Some by }) ne)))
 
   sizes_same : is_off s.mode ≡ false → (n : ℕ) (k1 : Channel) → channel_of d n ≡ Some k1 → ChannelFits k1 (channel_at later n)
   sizes_same on n k1 f = record { written = λ i. ap length (channel-seen (λ x. x.written) s c n (record (channel_at s c) { set_up = Some by }) refl) ∙ (h.sizes on n k1 f).written i; set_up = λ i. split i (same_or_other n c) }

@@ -1,5 +1,5 @@
 -- Spi_SetupEB: its step.
--- Used by service/set_up/rt, services.SetUpRight.
+-- Used by src/service/set_up.rt, services.SetUpRight, services.AtOnce.
 use Rattle.spi_sequences.specs.Terms
 use Terms.{Act, BodyTaken, ends, EOk, Move, named, Nothing, packed, set_up_word, SetUpBody, Some, Store, ℕ}
 use Rattle.spi_sequences.specs.declared.service.set_up.SetUpBody.TheVariants as set_up

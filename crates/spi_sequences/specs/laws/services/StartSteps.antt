@@ -1,5 +1,5 @@
 -- The start window of a unit: its steps.
--- Used by bookkeeping.PendingWritesBounds, services.UnitSteps, bookkeeping.NextChosen, service/start/rt.
+-- Used by spi_starting: services.StartRight, spi_starting: services.StartAround and 23 more.
 use Rattle.std.specs.Prelude.{ℕ, ◌+◌, ◌==◌, nat_lt, nat_le, Bool, true, false, ◌&&◌, not, if◌then◌else◌, List, [], ◌∷◌, Option, Some, None, bit_or}
 use Rattle.mcal_base.specs.declared.moves.Event.TheVariants.{Start}
 use Rattle.mcal_base.specs.declared.moves.Move.{Move}

@@ -1,6 +1,6 @@
 -- Spi_SyncTransmit: its steps.
 -- From services.ServeSteps, services.StartSteps.
--- Used by service/sync/rt, services.LookSteps, services.Bodies.
+-- Used by spi_sending: services.SendRight, spi_sending: services.SendFuel, spi_sending: services.SendOwed and 16 more.
 use Rattle.std.specs.Prelude.{ℕ, ◌+◌, ◌-◌, ◌/◌, ◌%◌, ◌==◌, nat_lt, nat_le, Bool, true, false, ◌&&◌, if◌then◌else◌, [], ◌∷◌, Option, Some, None, slice_index_or, slice_set}
 use Rattle.mcal_base.specs.declared.answer_name.AnswerName.TheVariants.{EOk, ENotOk}
 use Rattle.mcal_base.specs.declared.error_name.ErrorName.TheVariants.{SpiSeqInProcess}

@@ -1,6 +1,6 @@
 -- Frames that start or serve units: their steps.
 -- From services.RequestSteps, services.ServeSteps, services.StartSteps.
--- Used by bookkeeping.PendingWritesBounds, service/unit/rt, PendingWrites, services.RequestRight.
+-- Used by spi_driver: services.UnitBounds, spi_driver: bookkeeping.MaskDiscipline and 17 more.
 use Rattle.std.specs.Prelude.{ℕ, zero, suc, Bool, true, false, Option, Some, None}
 use Rattle.mcal_base.specs.declared.answer_name.AnswerName.TheVariants.{EOk, ENotOk}
 use Rattle.mcal_base.specs.declared.error_name.ErrorName.TheVariants.{SpiSeqPending}

@@ -1,10 +1,10 @@
 -- Spi_WriteIB: that it is right.
--- From words.SideWords, services.WriteSteps, words.WordsOfModule, words.WordsToState and 7 more.
--- Used by services.InitWords, services.InitRight, words.FirstParts.
+-- From words.SideWords, services.WriteSteps, words.WordsOfModule, words.ListTests and 10 more.
+-- Used by spi_driver: bookkeeping.Lawful, spi_driver: bookkeeping.UnpolledFrames and 6 more.
 use Rattle.std.proofs.Common.{◌≡◌, ◌+◌, ◌-◌, ◌*◌, ◌/◌, ◌%◌, ◌<◌, ◌≤◌, ◌==◌, ◌||◌, [], ◌∷◌, ◌++◌, ◌∙◌, if◌then◌else◌}
 use Rattle.spi_sequences.specs.Terms
-use Terms.{acts_by, AllRight, answers, ap, AreLong, arith, AssertedAt, bank_word, Banks, BanksAgree, begins_word, Bool}
-use Terms.{Call, Called, Channel, channel-seen, channel_at, channel_of, ChannelState, Chip, chip_after, chooses}
+use Terms.{acts_by, AllRight, answers, ap, AreLong, arith, AssertedAt, bank_word, Banks, BanksAgree, begins_word}
+use Terms.{Bool, Call, Called, Channel, channel-seen, channel_at, channel_of, ChannelState, Chip, chip_after, chooses}
 use Terms.{choosing, commits, committing, Contains, control_word, DiffersIn, EOk, error_by, false, filling, fills}
 use Terms.{first_items, FitsSpi, FrameHistory, free_bank, fresh_history, get_or-replicate, happened, has_ended}
 use Terms.{is_closed, is_off, is_own_word, is_shared, is_some, Is_this_frame, IsReady, IsThisFrame, item-other}
@@ -14,8 +14,8 @@ use Terms.{own-control, own-word, place_at, place_of, placed_of, PointAssertion,
 use Terms.{put_held, put_left, put_more, Putting, readied_in, refl, Reservation, Reservations, resets_chip, Right}
 use Terms.{Sent, Shortens, slice_index_or, Some, Source, source_word, spi_basis, SpiRepresents, SpiState, SpiTable}
 use Terms.{stands-move, Store, subst, suc, sym, take, take_all, to_write, trio_of, TripleBuffer, true, TurnsTo, Under}
-use Terms.{Unmask, untouched, Users, value_of, view, with_channel, Within, word_later, word_of, WORDS, words_from}
-use Terms.{World, world_after, WriteBody, WriteIb, Writing, Written, written_from, zero, ℕ}
+use Terms.{Unmask, untouched, Users, value_of, view, whether_as, with_channel, Within, word_later, word_of, WORDS}
+use Terms.{words_from, World, world_after, WriteBody, WriteIb, Writing, Written, written_from, zero, ℕ}
 use Rattle.std.proofs.lemmas.List.{take_more}
 use Rattle.spi_sequences.specs.laws.{words.SideWords.{IsBeside, IsLike, banks_changed, beside_back, beside_one}}
 use Rattle.spi_sequences.specs.laws.{words.SideWords.{beside_then, differs_by_store, differs_none, mine, none_readied}}
@@ -443,26 +443,22 @@ put_less (puts.Commit c b) v e = omega arith
 put_less _ v e = absurd (cc)
 
 from_less : (r : Written) (b n m : ℕ) → 3 < m → (n < r.placed.channel.length → 5 + 2 * (r.placed.channel.length - n) < m) → write_fuel (write_from r b n) < m
-from_less r b n m many more = by (nat_lt n r.placed.channel.length) refl
+from_less r b n m many more = whether_as (nat_lt n r.placed.channel.length) (λ q. write_fuel (if q then word_by r.source r b n else write.Shut r b) < m)
+    (λ e. words r.source (is_below n r.placed.channel.length e))
+    (λ e. omega (arith, many))
   where
     words : (p : Pointer) → n < r.placed.channel.length → write_fuel (word_by p r b n) < m
     words Users lt = more lt
     words Null lt = let l = more lt in omega (arith, l)
-
-    by : (q : Bool) → nat_lt n r.placed.channel.length ≡ q → write_fuel (if q then word_by r.source r b n else write.Shut r b) < m
-    by true e = words r.source (is_below n r.placed.channel.length e)
-    by false e = omega (arith, many)
 
 write_less : (k : WriteBody) (x : ℕ) → Shortens write_fuel k (write_takes k x)
 write_less (write.Opens r b) x = from_less r b 0 (6 + 2 * r.placed.channel.length) (omega arith) (λ lt. omega arith)
 write_less (write.Fill r b n v) x =
     elim (nat_lt n 255) as (λ q. write_fuel (if q then write_from r b (n + 1) else write.Shut r b) < 4 + 2 * (r.placed.channel.length - n))
     [ true ↦ from_less r b (n + 1) (4 + 2 * (r.placed.channel.length - n)) (omega arith) (λ lt. omega (arith, lt)) | false ↦ omega arith ]
-write_less (write.Commit r b p) x = by (has_ended (put_gave p x)) refl
-  where
-    by : (q : Bool) → has_ended (put_gave p x) ≡ q → Shortens write_fuel (write.Commit r b p) (write_commits r b p x q)
-    by true e = omega arith
-    by false e = let lt = put_less p x e in omega (arith, lt)
+write_less (write.Commit r b p) x = whether_as (has_ended (put_gave p x)) (λ q. Shortens write_fuel (write.Commit r b p) (write_commits r b p x q))
+    (λ e. omega arith)
+    (λ e. let lt = put_less p x e in omega (arith, lt))
 write_less _ x = omega arith
 
 module _ (d : SpiTable) where

@@ -1,5 +1,5 @@
 -- Spi_WriteIB: its steps.
--- Used by services.WriteRight, service/write/rt.
+-- Used by services.WriteRight, src/service/write.rt, services.AtOnce.
 use Rattle.std.proofs.Common.{◌+◌, if◌then◌else◌}
 use Rattle.spi_sequences.specs.Terms
 use Terms.{Act, bank_word, BodyTaken, Bool, control_word, ends, EOk, false, free_bank, goes, has_ended, Load, Mask}

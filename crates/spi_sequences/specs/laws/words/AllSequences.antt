@@ -1,13 +1,13 @@
 -- All sequences under way: those that are pending, and those that units carry out for calls.
--- From words.ListTests, words.JobPlaces.
--- Used by words.WordsToState, hardware.SourceFilled.
+-- From words.ListTests, words.Cases, words.JobPlaces.
+-- Used by spi_sending: bookkeeping.CarriedState, bookkeeping.SequenceEnded, spi_driver: words.WordsToState and 30 more.
 use Rattle.std.proofs.Common.{◌≡◌, ◌<◌, ◌==◌, ◌++◌, ◌∙◌, ◌⊎◌}
 use Rattle.spi_sequences.specs.Terms
-use Terms.{all_of, ap, arith, Bool, Contains, Contains-append_cases, Contains-append_left, Contains-append_right}
-use Terms.{entries_begun, false, FitsSpi, get_or_default, has_job, inl, inr, is_for, is_of, is_off, is_on_unit}
-use Terms.{is_sync_sequence, is_sync_unit, IsSoundState, job_of, jobs_of, List, list_any, nat_lt, next_job, None}
-use Terms.{Option, Pending, refl, same_Some, shares_job, slice_get, Some, SpiTable, subst, suc, sym, true}
-use Terms.{unit_of_sequence, View, zero, ℕ}
+use Terms.{all_of, ap, arith, Bool, cases, Contains, Contains-append_cases, Contains-append_left}
+use Terms.{Contains-append_right, entries_begun, false, FitsSpi, get_or_default, has_job, inl, inr, is_for, is_of}
+use Terms.{is_off, is_on_unit, is_sync_sequence, is_sync_unit, IsSoundState, job_of, jobs_of, List, list_any, nat_lt}
+use Terms.{next_job, None, Option, Pending, refl, same_Some, shares_job, slice_get, Some, SpiTable, subst, suc, sym}
+use Terms.{true, unit_of_sequence, View, whether_as, zero, ℕ}
 use Rattle.spi_sequences.specs.laws.words.ListTests.{any_in, any_none, any_some, at_contained, is_below, is_number}
 use Rattle.spi_sequences.specs.laws.words.ListTests.{is_past, none_any, one_unit, other_number}
 use Rattle.spi_sequences.specs.laws.words.JobPlaces.{job_unit}
@@ -40,13 +40,11 @@ module _ (v : View) where
       one u (Some x) e (zero, lt, at) = (u, e ∙ ap (λ z. Some z) at)
       one u (Some x) e (suc k, lt, at) = absurd (omega (arith, lt))
 
-      by_unit : Contains (entries_begun (v.begun 0)) p ⊎ Contains (entries_begun (v.begun 1)) p → (u : ℕ) × (v.begun u ≡ Some p)
-      by_unit (inl there) = one 0 (v.begun 0) refl there
-      by_unit (inr there) = one 1 (v.begun 1) refl there
-
       by : Contains v.pending p ⊎ Contains others p → Contains v.pending p ⊎ ((u : ℕ) × (v.begun u ≡ Some p))
       by (inl there) = inl there
-      by (inr there) = inr (by_unit (Contains-append_cases (entries_begun (v.begun 0)) (entries_begun (v.begun 1)) p there))
+      by (inr there) = inr (cases (Contains-append_cases (entries_begun (v.begun 0)) (entries_begun (v.begun 1)) p there)
+          (λ there. one 0 (v.begun 0) refl there)
+          (λ there. one 1 (v.begun 1) refl there))
 
   -- what is so of none of them
   pub any_pending : (f : Pending → Bool) → list_any f (all_of v) ≡ false → list_any f v.pending ≡ false
@@ -82,11 +80,9 @@ aside_pending d v h p there = aside d v h p.sequence (h.carries.asked p there)
 
 -- lists with the same members
 pub any_alike : (f : Pending → Bool) (xs ys : List Pending) → ((p : Pending) → Contains xs p → Contains ys p) → ((p : Pending) → Contains ys p → Contains xs p) → list_any f xs ≡ list_any f ys
-any_alike f xs ys there back = by (list_any f ys) refl
-  where
-    by : (b : Bool) → list_any f ys ≡ b → list_any f xs ≡ b
-    by true e = let r = any_some f ys e in any_in f xs r.0 (back r.0 r.1) r.2
-    by false e = none_any f xs (λ p is. any_none f ys e p (there p is))
+any_alike f xs ys there back = whether_as (list_any f ys) (λ b. list_any f xs ≡ b)
+    (λ e. let r = any_some f ys e in any_in f xs r.0 (back r.0 r.1) r.2)
+    (λ e. none_any f xs (λ p is. any_none f ys e p (there p is)))
 
 -- a job of a sequence is on the sequence's unit
 pub job_on : (d : SpiTable) → FitsSpi d → (q j : ℕ) → Contains (jobs_of d q) j → is_on_unit (unit_of_sequence d q) (job_of d j) ≡ true

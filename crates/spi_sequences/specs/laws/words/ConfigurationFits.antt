@@ -1,4 +1,5 @@
 -- What a driver that is made of a configuration has by its form: its rows.
+-- Used by spi_driver: words.ConfigurationFits, spi_driver: bookkeeping.Lawful, spi_sending: services.SendBegins.
 use Rattle.std.proofs.Common.{◌≡◌, ◌==◌, [], ◌∷◌, if◌then◌else◌}
 use Rattle.spi_sequences.specs.Terms
 use Terms.{Bool, false, is_some, Job, job_in, job_of, jobs_by_number, length, List, None, Option, refl, same_Some}

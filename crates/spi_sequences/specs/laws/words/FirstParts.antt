@@ -1,13 +1,15 @@
 -- What a job sends of its channels as it starts: its words are the machine's.
--- From words.WordsOfModule, services.ReadRight, words.WordsToState, services.WriteRight.
+-- From services.ReadRight, services.WriteRight, words.Cases, words.ListTests, words.WordsOfModule.
+-- Used by spi_starting: words.FirstWord, spi_sending: services.SendGoesOn, spi_starting: ToBegin and 13 more.
 use Rattle.std.proofs.Common.{◌≡◌, ◌+◌, ◌*◌, ◌/◌, ◌%◌, ◌<◌, ◌≤◌, ◌==◌, [], ◌∷◌, ◌++◌, ◌∙◌, if◌then◌else◌}
 use Rattle.spi_sequences.specs.Terms
 use Terms.{ap, arith, as_words, Bool, Channel, channel_at, channel_of, channel_words, ChannelState, Chip}
-use Terms.{ExternalAgrees, false, FitsSpi, flag, flat_map, flat_map-cons, get_or-replicate, goes_by, goes_to, held_word}
-use Terms.{InternalAgrees, is_off, is_users, length, length-replicate, length_by, List, map, Memory, None, not_set_up}
-use Terms.{Nowhere, Null, Option, or_none, packed, Part, placed_of, Pointer, Position, refl, Reservations, set_up_code}
-use Terms.{set_up_or, set_up_word, SetUp, SetUpFits, slice_index_or, Some, source_word, SpiRepresents, SpiState}
-use Terms.{SpiTable, subst, sym, ToChannel, true, unpacked, Users, width_by, word_of, words_from, words_of, World, ℕ}
+use Terms.{ExternalAgrees, false, FitsSpi, flag, flat_map, flat_map-cons, get_or-replicate, goes_by, goes_to}
+use Terms.{held_word, InternalAgrees, is_off, is_users, length, length-replicate, length_by, List, map, Memory, None}
+use Terms.{not_set_up, Nowhere, Null, Option, or_none, packed, Part, placed_of, Pointer, Position, refl, Reservations}
+use Terms.{set_up_code, set_up_or, set_up_word, SetUp, SetUpFits, slice_index_or, Some, source_word, SpiRepresents}
+use Terms.{SpiState, SpiTable, subst, sym, ToChannel, true, unpacked, Users, whether, width_by, word_of, words_from}
+use Terms.{words_of, World, ℕ}
 use Rattle.spi_sequences.specs.laws.{words.WordsOfModule.{has_channel}, services.ReadRight.{length-first}}
 use Rattle.spi_sequences.specs.laws.{words.WordsToState.{other_number}, services.WriteRight.{first-at}}
 use Rattle.spi_jobs.specs.declared.set_up.SetUp as jobs
@@ -165,11 +167,9 @@ module _ (d : SpiTable) (fits : FitsSpi d) (below : Reservations) (chip : Chip) 
 
   -- it has words
   pub some_words : 0 < length (part_at d s c).values
-  some_words = by k.internal refl
+  some_words = whether k.internal
+      (λ e. subst (λ x. 0 < length x.values) (sym (part_is true e)) (subst (λ n. 0 < n) (sym ((h.sizes on c k known).written e)) some))
+      (λ e. subst (λ x. 0 < length x.values) (sym (part_is false e)) (subst (λ n. 0 < n) (sym (from_count (set_up_or k stands.set_up).source (set_up_or k stands.set_up).words)) (set_up_fits k stands.set_up some ((h.sizes on c k known).set_up e)).0))
     where
       some : 0 < k.length
       some = (fits.channels c k known).some
-
-      by : (q : Bool) → k.internal ≡ q → 0 < length (part_at d s c).values
-      by true e = subst (λ x. 0 < length x.values) (sym (part_is true e)) (subst (λ n. 0 < n) (sym ((h.sizes on c k known).written e)) some)
-      by false e = subst (λ x. 0 < length x.values) (sym (part_is false e)) (subst (λ n. 0 < n) (sym (from_count (set_up_or k stands.set_up).source (set_up_or k stands.set_up).words)) (set_up_fits k stands.set_up some ((h.sizes on c k known).set_up e)).0)

@@ -1,13 +1,13 @@
 -- Jobs by their places in a sequence, and the places that are left of a pending one.
--- From words.ListTests.
--- Used by services.QueryRight, bookkeeping.SequenceEnded, bookkeeping.AcceptedState, services.CancelRight and 2 more.
+-- From words.ListTests, words.Cases.
+-- Used by spi_sending: services.SendGoesOn, spi_sending: services.SendLast and 24 more.
 use Rattle.std.proofs.Common.{◌≡◌, ◌≢◌, ◌+◌, ◌-◌, ◌<◌, ◌≤◌, ◌==◌, ◌∙◌, if◌then◌else◌}
 use Rattle.spi_sequences.specs.Terms
 use Terms.{ap, arith, Bool, Contains, Contains-get_or, drop, false, FitsSpi, get_or-drop, get_or-take, get_or_default}
 use Terms.{is_on_unit, job_at_place, job_number, job_of, jobs_by, jobs_list, jobs_of, length, length-drop}
 use Terms.{length-take-le, List, list_any, nat_lt, nat_tests, None, Option, or_else, place_before, place_in, refl}
-use Terms.{Sequence, sequence_of, slice_get, slice_index_or, Some, SpiTable, subst, suc, sym, true, unit_by}
-use Terms.{unit_of_sequence, zero, ℕ}
+use Terms.{Sequence, sequence_of, slice_get, slice_index_or, Some, some_or_none, SpiTable, subst, suc, sym, true}
+use Terms.{unit_by, unit_of_sequence, zero, ℕ}
 use Rattle.spi_sequences.specs.laws.words.ListTests.{any_in, any_some, at_contained, is_number, same_number}
 use Rattle.spi_machine.specs.Wiring as wiring
 use Rattle.mcal_base.specs.facts.Numbers.{lt_is}
@@ -94,14 +94,12 @@ module _ (d : SpiTable) (fits : FitsSpi d) (q : ℕ) where
 
   -- a job has one place
   pub one_place : (i k : ℕ) → i < length (jobs_of d q) → k < length (jobs_of d q) → slice_index_or (jobs_of d q) i 0 ≡ slice_index_or (jobs_of d q) k 0 → i ≡ k
-  one_place i k lt less e = by (sequence_of d q) refl
+  one_place i k lt less e = some_or_none (sequence_of d q)
+      (λ x f. (fits.sequences q x f).once i k (slice_index_or (jobs_of d q) i 0) (get_at i lt) (get_at k less ∙ ap (λ n. Some n) (sym e)))
+      (λ f. absurd (let none : length (jobs_of d q) ≡ 0 = ap (λ o. length (jobs_by o)) f in omega (arith, lt, none)))
     where
       get_at : (n : ℕ) → n < length (jobs_of d q) → slice_get (jobs_of d q) n ≡ Some (slice_index_or (jobs_of d q) n 0)
       get_at n few = at_contained (jobs_of d q) n (slice_index_or (jobs_of d q) n 0) few (get_or_default (jobs_of d q) n (slice_index_or (jobs_of d q) n 0) 0 few)
-
-      by : (o : Option Sequence) → sequence_of d q ≡ o → i ≡ k
-      by None f = absurd (let none : length (jobs_of d q) ≡ 0 = ap (λ o. length (jobs_by o)) f in omega (arith, lt, none))
-      by (Some x) f = (fits.sequences q x f).once i k (slice_index_or (jobs_of d q) i 0) (get_at i lt) (get_at k less ∙ ap (λ n. Some n) (sym e))
 
   -- ---- the unit
 

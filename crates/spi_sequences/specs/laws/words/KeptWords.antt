@@ -1,5 +1,5 @@
 -- What stays of the agreement where the state changes elsewhere.
--- Used by services.ModuleRight, words.SideWords, hardware.SourceFilled, services.WriteRight and 3 more.
+-- Used by spi_sending: services.SendGoesOn, hardware.SourceFilled, services.ModuleRight, words.SideWords and 10 more.
 use Rattle.std.proofs.Common.{◌≡◌, [], ◌∷◌, ◌++◌, ◌∙◌}
 use Rattle.spi_sequences.specs.Terms
 use Terms.{AllRight, ap, BanksAgree, Bool, Call, Channel, channel_of, ChannelState, Contains}

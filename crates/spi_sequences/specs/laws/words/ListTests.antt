@@ -1,9 +1,10 @@
 -- Tests of numbers, and what is so of some of a list.
--- Used by words.AllSequences, words.JobPlaces, words.WordsToState, hardware.SourceFilled.
+-- From words.Cases.
+-- Used by words.WordsToState, spi_sending: bookkeeping.CarriedState, bookkeeping.AcceptedState and 74 more.
 use Rattle.std.proofs.Common.{◌≡◌, ◌≢◌, ◌<◌, ◌≤◌, ◌==◌, ◌||◌, [], ◌∷◌, ◌∙◌}
 use Rattle.spi_sequences.specs.Terms
 use Terms.{ap, arith, Bool, Contains, false, is_on_unit, Job, job_of, length, List, list_any, nat_lt, nat_tests, None}
-use Terms.{Option, refl, slice_get, slice_index_or, Some, SpiTable, suc, sym, true, zero, ℕ}
+use Terms.{Option, refl, slice_get, slice_index_or, Some, SpiTable, suc, sym, true, whether, zero, ℕ}
 use Rattle.mcal_base.specs.facts.Truths.{or_true}
 
 -- ---- tests
@@ -42,11 +43,9 @@ at_contained (y ∷ ys) (suc k) x lt e = at_contained ys k x (omega (arith, lt))
 
 pub any_some : {A : Type 0} (p : A → Bool) (xs : List A) → list_any p xs ≡ true → (x : A) × Contains xs x × (p x ≡ true)
 any_some p [] e = absurd (cc)
-any_some p (y ∷ ys) e = by (p y) refl (any_some p ys)
-  where
-    by : (q : Bool) → p y ≡ q → (list_any p ys ≡ true → (x : _) × Contains ys x × (p x ≡ true)) → (x : _) × Contains (y ∷ ys) x × (p x ≡ true)
-    by true f rest = (y, (0, omega arith, refl), f)
-    by false f rest = let r = rest (ap (λ q. q || list_any p ys) (sym f) ∙ e) in (r.0, (suc r.1.0, let lt = r.1.1 in omega (arith, lt), r.1.2), r.2)
+any_some p (y ∷ ys) e = whether (p y)
+    (λ f. (y, (0, omega arith, refl), f))
+    (λ f. let r = any_some p ys (ap (λ q. q || list_any p ys) (sym f) ∙ e) in (r.0, (suc r.1.0, let lt = r.1.1 in omega (arith, lt), r.1.2), r.2))
 
 pub any_none : {A : Type 0} (p : A → Bool) (xs : List A) → list_any p xs ≡ false → (x : A) → Contains xs x → p x ≡ false
 any_none p xs e x there = not_true (p x) (λ f. let g = sym e ∙ any_in p xs x there f in cc)

@@ -1,7 +1,7 @@
 -- Numbers of words: which are none of a unit's order, and none of a sequence's. They name no words and no state, so that no
 -- search reads those.
--- From words.WordsToState.
--- Used by services.RequestRight, services.CancelRight.
+-- From words.ListTests.
+-- Used by services.RequestRight, services.CancelRight, spi_serving: services.ToldRight and 12 more.
 use Rattle.std.proofs.Common.{◌≡◌, ◌≢◌, ◌+◌, ◌<◌, ◌≤◌, ◌==◌, ◌||◌, ◌∙◌}
 use Rattle.spi_sequences.specs.Terms
 use Terms.{ap, arith, Bool, false, job_word, MARKS, nat_tests, NEXTS, order_word, position_word, refl, running_word}

@@ -1,6 +1,6 @@
 -- Words of sequences, jobs and orders change with what is pending; the rest of the agreement stays.
--- From words.WordsOfModule, words.SameWords, hardware.AfterReset, words.KeptWords, words.WordsToState and 1 more.
--- Used by services.CancelRight, services.RequestRight, bookkeeping.ClearedUnit.
+-- From words.WordsOfModule, words.SameWords, hardware.AfterReset, services.SetUpRight, words.KeptWords and 2 more.
+-- Used by spi_starting: words.UnitWords, spi_driver: bookkeeping.MainFunctionHold and 16 more.
 use Rattle.std.proofs.Common.{◌≡◌, ◌+◌, ◌<◌, ◌≤◌, ◌∷◌, ◌∙◌}
 use Rattle.spi_sequences.specs.Terms
 use Terms.{AllRight, AllSend, AnswerName, ap, AreCarried, AreOwed, arith, BanksAgree, Bool, Call, carried_at}

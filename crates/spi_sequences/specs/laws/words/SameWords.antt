@@ -1,6 +1,6 @@
 -- Words that are as they were stand for the same.
 -- From words.WordsOfModule.
--- Used by services.ModuleRight, services.SetUpRight, bookkeeping.MarkedState, words.SideWords and 7 more.
+-- Used by spi_sending: services.SendGoesOn, spi_sending: services.SendStarts, bookkeeping.MarkedState and 23 more.
 use Rattle.std.proofs.Common.{◌≡◌, ◌+◌, ◌<◌, ◌≤◌, [], ◌∷◌, ◌∙◌, if◌then◌else◌}
 use Rattle.spi_sequences.specs.Terms
 use Terms.{ap, arith, BanksAgree, Bool, cancelled_bit, Channel, channel_of, channels_of, Contains, Contains-get_or}

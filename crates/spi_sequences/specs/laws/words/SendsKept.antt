@@ -1,5 +1,5 @@
 -- What units carry out for calls, and what the frames that wait hold of it, stays where their words and registers do.
--- Used by hardware.StableUnderHardware, hardware.SourceFilled.
+-- Used by hardware.StableUnderHardware, spi_sending: services.SendBegun, spi_sending: services.SendStarts and 10 more.
 use Rattle.std.proofs.Common.{◌≡◌, ◌+◌, ◌<◌, ◌≤◌, [], ◌∷◌, ◌∙◌}
 use Rattle.spi_sequences.specs.Terms
 use Terms.{AllSend, arith, Bool, carried_at, Channel, channel_of, Chip, Going, has_done}

@@ -1,15 +1,15 @@
 -- The marks and the next jobs of sequences in their words: a change of one sequence's leaves the others'.
--- From words.WordsToState.
--- Used by bookkeeping.AcceptedState.
+-- From words.ListTests.
+-- Used by bookkeeping.AcceptedState, spi_serving: words.NextDigits.
 use Rattle.std.proofs.Common.{◌≡◌, ◌≢◌, ◌+◌, ◌-◌, ◌*◌, ◌/◌, ◌%◌, ◌^◌, ◌<◌, ◌==◌, ◌∙◌, if◌then◌else◌}
 use Rattle.spi_sequences.specs.Terms
-use Terms.{and_assoc, and_le_r, and_mask, and_mod, and_shr, ap, arith, bit_and, bit_or, cancelled_bit, false, has_mark}
-use Terms.{next_in, not, or_disjoint, refl, started_bit, suc, sym, true, unmarked_in, with_next_in, zero, ℕ}
+use Terms.{and_assoc, and_le_r, and_mask, and_mod, and_shr, ap, arith, bit_and, bit_or, cancelled_bit, false}
+use Terms.{has_mark, next_in, not, or_disjoint, refl, started_bit, suc, sym, true, unmarked_in, with_next_in, zero, ℕ}
 use Rattle.mcal_base.specs.Bits.{without}
 use Rattle.spi_sequences.specs.laws.words.WordsToState.{other_number, same_number}
 
 -- one of eight
-by_eight : (P : ℕ → Type 0) → P 0 → P 1 → P 2 → P 3 → P 4 → P 5 → P 6 → P 7 → (k : ℕ) → k < 8 → P k
+pub by_eight : (P : ℕ → Type 0) → P 0 → P 1 → P 2 → P 3 → P 4 → P 5 → P 6 → P 7 → (k : ℕ) → k < 8 → P k
 by_eight P a b c d e f g h zero lt = a
 by_eight P a b c d e f g h (suc zero) lt = b
 by_eight P a b c d e f g h (suc (suc zero)) lt = c

@@ -1,20 +1,20 @@
 -- The words of one side of an internal channel change, and what a frame holds of them; the rest of the agreement stays.
--- From words.WordsOfModule, words.KeptWords, words.SameWords, words.WordsToState, hardware.SourceFilled and 3 more.
--- Used by services.WriteRight, services.ReadRight, services.InitPrepared, services.InitClearing, services.InitActRight.
+-- From words.WordsOfModule, words.KeptWords, words.ListTests, words.SameWords, hardware.SourceFilled and 5 more.
+-- Used by services.WriteRight, services.ReadRight, services.InitPrepared, spi_starting: words.QuietWords and 14 more.
 use Rattle.std.proofs.Common.{◌≡◌, ◌≢◌, ◌+◌, ◌*◌, ◌<◌, ◌≤◌, ◌==◌, ◌&&◌, ◌||◌, [], ◌∷◌, ◌∙◌, ◌⊎◌, ◌++◌, if◌then◌else◌}
 use Rattle.spi_sequences.specs.Terms
 use Terms.{AllRight, AllSend, ap, AreCarried, AreThere, arith, Banks, BanksAgree, block_of, Bool, Call, carried_at}
-use Terms.{CarriesAgrees, Channel, channel_at, channel_of, ChannelState, Chip, chip_after, common_steps}
-use Terms.{Contains, control_word, Destination, differs-after, DiffersIn, false, first_items, first_word}
-use Terms.{FitsChannel, FitsSpi, flat_map-cons, Going, has_bit, HasWords, held_word, HeldRight, inl, inr}
-use Terms.{is_off, is_owed, is_preparing, length, length_by, List, Memory, Mode, nat_le, nat_lt, nat_tests, None}
-use Terms.{Option, or_rest, owes_by, Part, place_of, Placed, placed_of, prepares, Preparing, put_by, put_held}
-use Terms.{PutRight, Putting, readied_by, readied_in, Reading, Received, refl, replicate, Reservation, Reservations}
-use Terms.{ReservedBy, run_at, run_carried, RunAgrees, same_or_other, Sending, Sent, set_up_code, set_up_word}
-use Terms.{SetUpFits, Side, slice_get, slice_index, slice_index_or, Some, some_is, Source, source_word, SOURCES}
-use Terms.{SpiRepresents, SpiState, SpiTable, stands-agree, StandsIn, STATE, Store, stored, stored_by, stored_in}
-use Terms.{subst, sym, take, take_by, take_held, TakeRight, Taking, to_write, trio_of, TripleBuffer, true, unit_at}
-use Terms.{UnitAgrees, untouched, View, view, word_at, word_of, words-same, words_in, World, Writing, ℕ}
+use Terms.{CarriesAgrees, cases, Channel, channel_at, channel_of, ChannelState, Chip, chip_after, common_steps}
+use Terms.{Contains, control_word, Destination, differs-after, DiffersIn, false, first_items, first_word, FitsChannel}
+use Terms.{FitsSpi, flat_map-cons, Going, has_bit, HasWords, held_word, HeldRight, inl, inr, is_off, is_owed}
+use Terms.{is_preparing, length, length_by, List, Memory, Mode, nat_le, nat_lt, nat_tests, None, Option, or_rest}
+use Terms.{owes_by, Part, place_of, Placed, placed_of, prepares, Preparing, put_by, put_held, PutRight, Putting}
+use Terms.{readied_by, readied_in, Reading, Received, refl, replicate, Reservation, Reservations, ReservedBy, run_at}
+use Terms.{run_carried, RunAgrees, same_or_other, Sending, Sent, set_up_code, set_up_word, SetUpFits, Side, slice_get}
+use Terms.{slice_index, slice_index_or, Some, some_is, Source, source_word, SOURCES, SpiRepresents, SpiState}
+use Terms.{SpiTable, stands-agree, StandsIn, STATE, Store, stored, stored_by, stored_in, subst, sym, take, take_by}
+use Terms.{take_held, TakeRight, Taking, to_write, trio_of, TripleBuffer, true, unit_at, UnitAgrees, untouched, View}
+use Terms.{view, word_at, word_of, words-same, words_in, World, Writing, ℕ}
 use Rattle.spi_sequences.specs.laws.{words.SameWords.{sequences_alike, run_alike, banks_alike}}
 use Rattle.spi_sequences.specs.laws.{hardware.SourceFilled.{own_low, put_if}, hardware.AfterReset.{none_in}}
 use Rattle.spi_sequences.specs.laws.{words.KeptWords.{banks_view, next_view, sequences_as, sound_as}}
@@ -79,11 +79,9 @@ module _ (d : SpiTable) (fits : FitsSpi d) (c : ℕ) (k : Channel) (e : channel_
   not_of_other n x j ne f is = not_true (mine j) (λ i. of_one d fits n c x k j j ne f e is (of_banks d fits c k e internal side j i) refl)
 
   pub not_held : (n : ℕ) (x : Channel) → channel_of d n ≡ Some x → mine (held_word (placed_of d n)) ≡ false
-  not_held n x f = by (same_or_other n c)
-    where
-      by : (n ≡ c) ⊎ (n ≢ c) → mine (held_word (placed_of d n)) ≡ false
-      by (inl at) = subst (λ i. mine (held_word (placed_of d i)) ≡ false) (sym at) (held_apart (placed_of d c) side)
-      by (inr ne) = not_of_other n x (held_word (placed_of d n)) ne f (of_held d fits n x f)
+  not_held n x f = cases (same_or_other n c)
+      (λ at. subst (λ i. mine (held_word (placed_of d i)) ≡ false) (sym at) (held_apart (placed_of d c) side))
+      (λ ne. not_of_other n x (held_word (placed_of d n)) ne f (of_held d fits n x f))
 
   -- ---- what is held
 
@@ -254,11 +252,9 @@ module _ (d : SpiTable) (fits : FitsSpi d) (c : ℕ) (k : Channel) (e : channel_
         sizes_by n x f i (inr ne) = ap length (like.written n ne) ∙ (h.sizes on n x f).written i
 
         set_up_apart : (n : ℕ) (x : Channel) → channel_of d n ≡ Some x → x.internal ≡ false → mine (set_up_word (placed_of d n)) ≡ false
-        set_up_apart n x f external = split (same_or_other n c)
-          where
-            split : (n ≡ c) ⊎ (n ≢ c) → mine (set_up_word (placed_of d n)) ≡ false
-            split (inl at) = subst (λ i. mine (set_up_word (placed_of d i)) ≡ false) (sym at) (set_up_by (placed_of d c) side)
-            split (inr ne) = not_of_other n x (set_up_word (placed_of d n)) ne f (of_set_up d fits n x f)
+        set_up_apart n x f external = cases (same_or_other n c)
+            (λ at. subst (λ i. mine (set_up_word (placed_of d i)) ≡ false) (sym at) (set_up_by (placed_of d c) side))
+            (λ ne. not_of_other n x (set_up_word (placed_of d n)) ne f (of_set_up d fits n x f))
 
 -- ---- the banks of the channel itself
 

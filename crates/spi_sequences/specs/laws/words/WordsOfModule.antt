@@ -1,12 +1,14 @@
 -- Which driver words are the module's: the first 64, those of each channel, and the users' arrays. They stand apart.
--- Used by words.SideWords, services.SetUpRight, services.InitClearing, words.SameWords and 20 more.
+-- From words.Cases.
+-- Used by words.SideWords, spi_serving: services.WellEnded, spi_starting: services.StartAround and 62 more.
 use Rattle.std.proofs.Common.{◌≡◌, ◌≢◌, ◌+◌, ◌-◌, ◌*◌, ◌%◌, ◌<◌, ◌≤◌, ◌==◌, ◌&&◌, ◌||◌, [], ◌∷◌, ◌∙◌, if◌then◌else◌}
 use Rattle.spi_sequences.specs.Terms
 use Terms.{ap, arith, banked, block_of, Bool, Channel, channel_of, control_word, Destination, enumerate_from, false}
 use Terms.{first_word, FitsChannel, FitsSpi, held_word, is_own_word, is_users_place, is_users_word, is_within}
 use Terms.{is_word_of, length, length_by, List, list_any, nat_le, nat_lt, nat_tests, NO_CHANNEL, None, not, Option}
 use Terms.{or_else, or_left, or_right, order_word, own_words, place_of, placed_of, Received, refl, Sent, set_up_word}
-use Terms.{Side, slice_index_or, Some, Source, SpiTable, start_of, STATE, subst, suc, sym, trio_of, true, zero, ℕ}
+use Terms.{Side, slice_index_or, Some, Source, SpiTable, start_of, STATE, subst, suc, sym, trio_of, true, whether}
+use Terms.{zero, ℕ}
 use Rattle.word_shapes.specs.PriorityQueue as ranked
 use Rattle.word_shapes.specs.TripleBuffer as trio
 use Rattle.mcal_base.specs.facts.Truths.{or_true}
@@ -56,6 +58,14 @@ word_of_own d k e = or_left (is_own_word d k) (is_users_word d k) e
 -- a configured channel is one of sixteen, and stands at its block
 pub of_sixteen : (d : SpiTable) (c : ℕ) (k : Channel) → FitsSpi d → channel_of d c ≡ Some k → c < 16
 of_sixteen d c k fits e = let lt = in_list d.channels c k e in omega (arith, lt, fits.rows.0)
+
+-- a place of a configured channel
+pub few_places : (d : SpiTable) → FitsSpi d → (n i : ℕ) → i < length_by (channel_of d n) → (n < 16) × (i < 64)
+few_places d fits n i lt = by (channel_of d n) refl lt
+  where
+    by : (o : Option Channel) → channel_of d n ≡ o → i < length_by o → (n < 16) × (i < 64)
+    by None e less = absurd (omega (arith, less))
+    by (Some k) e less = (of_sixteen d n k fits e, let most = (fits.channels n k e).few in omega (arith, less, most))
 
 pub placed_is : (d : SpiTable) (c : ℕ) (k : Channel) → FitsSpi d → channel_of d c ≡ Some k → placed_of d c ≡ record { number = c; block = block_of d c; channel = k }
 placed_is d c k fits e =
@@ -132,11 +142,9 @@ module _ (d : SpiTable) (fits : FitsSpi d) (c : ℕ) (k : Channel) (e : channel_
 
 -- no word is one of two channels
 pub of_one : (d : SpiTable) → FitsSpi d → (b c : ℕ) (x y : Channel) (word other : ℕ) → b ≢ c → channel_of d b ≡ Some x → channel_of d c ≡ Some y → IsWordOf d b x word → IsWordOf d c y other → word ≢ other
-of_one d fits b c x y word other ne e f is at same = by (nat_lt b c) refl
-  where
-    by : (q : Bool) → nat_lt b c ≡ q → ⊥
-    by true i = let lt : b < c = grind (arith, nat_tests) in let less = of_the_lower d b c x y word other fits lt (of_sixteen d c y fits f) e is at in omega (arith, less, same)
-    by false i = let lt : c < b = grind (arith, nat_tests) in let less = of_the_lower d c b y x other word fits lt (of_sixteen d b x fits e) f at is in omega (arith, less, same)
+of_one d fits b c x y word other ne e f is at same = whether (nat_lt b c)
+    (λ i. let lt : b < c = grind (arith, nat_tests) in let less = of_the_lower d b c x y word other fits lt (of_sixteen d c y fits f) e is at in omega (arith, less, same))
+    (λ i. let lt : c < b = grind (arith, nat_tests) in let less = of_the_lower d c b y x other word fits lt (of_sixteen d b x fits e) f at is in omega (arith, less, same))
 
 -- the words of an order are among the first
 pub in_order : (u j : ℕ) → u < 2 → ranked.own_of (record { at = order_word u }) j ≡ true → (STATE < j) × (j < STATE + 64)

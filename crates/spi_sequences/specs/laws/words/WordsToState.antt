@@ -1,17 +1,17 @@
 -- What the words of an initialised module say: of results, of pending sequences, and of what the units run.
--- From words.SameWords, words.ListTests, words.AllSequences, words.WordsOfModule.
--- Used by services.QueryRight, services.CancelRight, bookkeeping.SequenceEnded, bookkeeping.AcceptedState and 21 more.
+-- From words.ListTests, words.AllSequences, words.Cases, words.SameWords, words.WordsOfModule.
+-- Used by services.QueryRight, services.CancelRight, spi_starting: bookkeeping.UnitsGoOn and 28 more.
 use Rattle.std.proofs.Common.{◌≡◌, ◌+◌, ◌-◌, ◌*◌, ◌/◌, ◌%◌, ◌<◌, ◌==◌, ◌||◌, ◌∙◌, if◌then◌else◌}
 use Rattle.spi_sequences.specs.Terms
 use Terms.{all_of, AnswerName, ap, arith, Bool, carried_at, CarriesAgrees, Carrying, Chip, Contains, Contains-get_or}
 use Terms.{entry_carried, false, FitsSpi, get_or_default, Going, has_job, inl, inr, is_for, is_of, is_off, is_pending}
-use Terms.{is_running, is_some, is_sync_sequence, is_sync_unit, IsLast, IsOfSequence, job_code, job_result_in, jobs_of}
-use Terms.{List, nat_lt, next_in, next_job, NEXTS, None, not, Option, PENDING, Pending, refl, Reservations, Run}
-use Terms.{run_at, run_carried, run_in, run_of, RunAgrees, Running, running_word, runs_sequence, RunsBy, RunsNext}
-use Terms.{same_Some, sequence_code, sequence_result, sequence_result_in, sequence_word, shares_job, Some, SpiBusy}
-use Terms.{SpiIdle, SpiJobFailed, SpiJobOk, SpiRepresents, SpiSeqCanceled, SpiSeqFailed, SpiSeqOk, SpiSeqPending}
-use Terms.{SpiState, SpiTable, status_by, subst, sym, Transfer, true, unit_at, unit_of_sequence, UnitAgrees, view}
-use Terms.{word_of, World, ℕ}
+use Terms.{is_running, is_some, is_sync_sequence, is_sync_unit, IsLast, IsOfSequence, job_code, job_result_in}
+use Terms.{jobs_of, List, nat_lt, next_in, next_job, NEXTS, None, not, Option, PENDING, Pending, refl, Reservations}
+use Terms.{Run, run_at, run_carried, run_in, run_of, RunAgrees, Running, running_word, runs_sequence, RunsBy}
+use Terms.{RunsNext, same_Some, sequence_code, sequence_result, sequence_result_in, sequence_word, shares_job, Some}
+use Terms.{some_or_none, SpiBusy, SpiIdle, SpiJobFailed, SpiJobOk, SpiRepresents, SpiSeqCanceled, SpiSeqFailed}
+use Terms.{SpiSeqOk, SpiSeqPending, SpiState, SpiTable, status_by, subst, sym, Transfer, true, unit_at}
+use Terms.{unit_of_sequence, UnitAgrees, view, whether, word_of, World, ℕ}
 pub use Rattle.spi_sequences.specs.laws.words.ListTests.{any_none, any_some, at_contained, is_below, is_number, is_past}
 pub use Rattle.spi_sequences.specs.laws.words.ListTests.{none_any, not_true, one_unit, other_number, same_number}
 use Rattle.spi_sequences.specs.laws.{words.SameWords.{job_small}, words.ListTests.{any_in}}
@@ -69,11 +69,9 @@ module _ (d : SpiTable) (fits : FitsSpi d) (held : Reservations) (chip : Chip) (
   runs_none_sync u sync = idle_none (run_at s u) (h.sound.carries.idle u sync)
 
   pub going_free : (u : ℕ) → u < 2 → h.going u ≡ None → run_at s u ≡ None
-  going_free u lt is = by (is_sync_unit d u) refl
-    where
-      by : (q : Bool) → is_sync_unit d u ≡ q → run_at s u ≡ None
-      by true sync = runs_none_sync u sync
-      by false async = (subst (λ o. UnitAgrees d (unit_at chip.serials u) (run_at s u) o) is (h.units u lt async)).1
+  going_free u lt is = whether (is_sync_unit d u)
+      (λ sync. runs_none_sync u sync)
+      (λ async. (subst (λ o. UnitAgrees d (unit_at chip.serials u) (run_at s u) o) is (h.units u lt async)).1)
 
   pub going_next : (u : ℕ) (g : Going) → u < 2 → h.going u ≡ Some g → RunsNext d (view s) u (Some g)
   going_next u g lt is = subst (λ o. RunsNext d (view s) u o) is (h.nexts u lt)
@@ -109,11 +107,9 @@ module _ (d : SpiTable) (fits : FitsSpi d) (held : Reservations) (chip : Chip) (
       by (x, (u, lt, at), is) =
           let same : run_at s u ≡ x = get_or_default s.units u None x lt ∙ at in
           let runs : runs_sequence q (run_at s u) ≡ true = ap (runs_sequence q) same ∙ is in
-          on (nat_lt u 2) refl runs
-        where
-          on : (b : Bool) → nat_lt u 2 ≡ b → runs_sequence q (run_at s u) ≡ true → RunsOn q
-          on true f runs = runs_by q u (is_below u 2 f) (is_sync_unit d u) refl runs (h.going u) refl
-          on false f runs = absurd (let g = sym runs ∙ ap (runs_sequence q) (idle_none (run_at s u) (h.sound.few u (is_past u 2 f))) in cc)
+          whether (nat_lt u 2)
+          (λ f. runs_by q u (is_below u 2 f) (is_sync_unit d u) refl runs (h.going u) refl)
+          (λ f. absurd (let g = sym runs ∙ ap (runs_sequence q) (idle_none (run_at s u) (h.sound.few u (is_past u 2 f))) in cc))
 
   -- ---- sequences under way
 
@@ -128,14 +124,12 @@ module _ (d : SpiTable) (fits : FitsSpi d) (held : Reservations) (chip : Chip) (
 
   -- a sequence of a unit that starts jobs of pending ones is under way where it is pending
   pub pending_alone : (q : ℕ) → is_sync_sequence d q ≡ false → is_pending q under_way ≡ is_pending q s.pending
-  pending_alone q async = by (is_pending q s.pending) refl
+  pending_alone q async = whether (is_pending q s.pending)
+      (λ e. let r = any_some (is_of q) s.pending e in any_in (is_of q) under_way r.0 (all_pending (view s) r.0 r.1) r.2 ∙ sym e)
+      (λ e. none e ∙ sym e)
     where
       none : is_pending q s.pending ≡ false → is_pending q under_way ≡ false
       none e = any_all (view s) (is_of q) e (λ u p begun. other_number p.sequence q (λ same. let r = h.sound.carries.unit u p begun in let f = sym async ∙ ap (is_sync_sequence d) (sym same) ∙ ap (is_sync_unit d) r.2 ∙ r.1 in cc))
-
-      by : (b : Bool) → is_pending q s.pending ≡ b → is_pending q under_way ≡ is_pending q s.pending
-      by true e = let r = any_some (is_of q) s.pending e in any_in (is_of q) under_way r.0 (all_pending (view s) r.0 r.1) r.2 ∙ sym e
-      by false e = none e ∙ sym e
 
   -- its next job is one of its jobs
   pub next_there : (p : Pending) → Contains under_way p → Contains (jobs_of d p.sequence) (next_job d p)
@@ -165,11 +159,9 @@ module _ (d : SpiTable) (fits : FitsSpi d) (held : Reservations) (chip : Chip) (
   no_entry (Some x) h = absurd (h x.entry refl)
 
   pub carried_free : (u : ℕ) → u < 2 → h.going u ≡ None → carried_at s u ≡ None
-  carried_free u lt is = by (is_sync_unit d u) refl
-    where
-      by : (q : Bool) → is_sync_unit d u ≡ q → carried_at s u ≡ None
-      by true sync = no_run (carried_at s u) (subst (λ o. CarriesAgrees d (unit_at chip.serials u) (run_carried (carried_at s u)) o) is (h.sends u lt sync)).1
-      by false async = no_entry (carried_at s u) (λ p begun. let f = sym async ∙ (h.sound.carries.unit u p begun).1 in cc)
+  carried_free u lt is = whether (is_sync_unit d u)
+      (λ sync. no_run (carried_at s u) (subst (λ o. CarriesAgrees d (unit_at chip.serials u) (run_carried (carried_at s u)) o) is (h.sends u lt sync)).1)
+      (λ async. no_entry (carried_at s u) (λ p begun. let f = sym async ∙ (h.sound.carries.unit u p begun).1 in cc))
 
   in_use : (u : ℕ) (g : Going) → u < 2 → h.going u ≡ Some g → is_some (run_at s u) || is_some (carried_at s u) ≡ true
   in_use u g lt is = by (is_sync_unit d u) refl
@@ -186,14 +178,12 @@ module _ (d : SpiTable) (fits : FitsSpi d) (held : Reservations) (chip : Chip) (
 
   -- a unit that carries out a sequence runs a job of it
   pub carried_going : (u : ℕ) (p : Pending) → (view s).begun u ≡ Some p → (g : Going) × (h.going u ≡ Some g) × (g.pending ≡ p)
-  carried_going u p begun = by (h.going u) refl
+  carried_going u p begun = some_or_none (h.going u)
+      (λ g is. (g, is, same_Some g.pending p (sym (subst (λ q. RunsBy q (view s) u g.pending) right.1 (going_next u g right.0 is).1) ∙ begun)))
+      (λ is. absurd (let f = sym begun ∙ ap entry_carried (carried_free u right.0 is) in cc))
     where
       right : (u < 2) × (is_sync_unit d u ≡ true) × (unit_of_sequence d p.sequence ≡ u)
       right = h.sound.carries.unit u p begun
-
-      by : (o : Option Going) → h.going u ≡ o → (g : Going) × (h.going u ≡ Some g) × (g.pending ≡ p)
-      by None is = absurd (let f = sym begun ∙ ap entry_carried (carried_free u right.0 is) in cc)
-      by (Some g) is = (g, is, same_Some g.pending p (sym (subst (λ q. RunsBy q (view s) u g.pending) right.1 (going_next u g right.0 is).1) ∙ begun))
 
   -- the word of a sequence says whether it is under way
   module _ (on : is_off s.mode ≡ false) where

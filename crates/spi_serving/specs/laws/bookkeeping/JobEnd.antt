@@ -1,6 +1,6 @@
 -- A job's end: what the machine makes of it, and that the frame has loaded how its sequence goes on.
--- From words.FacingWords, bookkeeping.UnderWay, hardware.UnitRegisters.
--- Used by services.ServeRight, services.JobOverRight.
+-- From bookkeeping.UnderWay, words.FacingWords, spi_sequences: services.CancelRight and 5 more.
+-- Used by services.ServeRight, spi_sending: services.SendLast, services.JobOverRight and 4 more.
 use Rattle.std.proofs.Common.{◌≡◌, ◌+◌, ◌<◌, ◌++◌, ◌∙◌, if◌then◌else◌}
 use Rattle.spi_serving.specs.Terms
 use Terms.{after_job, after_last, all_pending, AnswerName, ap, arith, Arrived, Bool, CANCELLED, cancelled_bit, changed}
@@ -25,9 +25,9 @@ course_by v q n None = courses.Further (with_next_in v q (n + 1))
 course_by v q n (Some x) = courses.Ends (sequence_code x)
 
 -- the notices of the end
-abbrev pub told_by : SpiTable → Pending → Option AnswerName → List Notice
-told_by d p None = job_notice d (next_job d p)
-told_by d p (Some x) = job_notice d (next_job d p) ++ sequence_notice d p.sequence
+abbrev pub end_notices : SpiTable → Pending → Option AnswerName → List Notice
+end_notices d p None = job_notice d (next_job d p)
+end_notices d p (Some x) = job_notice d (next_job d p) ++ sequence_notice d p.sequence
 
 pub jobs_count : (d : SpiTable) → FitsSpi d → (q : ℕ) → (jobs_list d q).count ≡ length (jobs_of d q)
 jobs_count d fits q = by (sequence_of d q) refl
@@ -122,18 +122,18 @@ module _ (d : SpiTable) (fits : FitsSpi d) (below : Reservations) (chip : Chip) 
     state2 None = record over_state { pending = changed entry.sequence goes_to_next over_state.pending }
     state2 (Some x) = ended d over_state entry (entry.next + 1) x
 
-    after_is : (o : Option AnswerName) → sequence_after d over_state entry o ≡ outcome_with (state2 o) (notes (told_by d entry o)) None
+    after_is : (o : Option AnswerName) → sequence_after d over_state entry o ≡ outcome_with (state2 o) (notes (end_notices d entry o)) None
     after_is None = refl
     after_is (Some x) = refl
 
-    told_is : (o : Option AnswerName) (c : SequenceNext) → c ≡ course_by (word_of chip NEXTS) entry.sequence entry.next o → notices_by d a.served c ≡ told_by d entry o
+    told_is : (o : Option AnswerName) (c : SequenceNext) → c ≡ course_by (word_of chip NEXTS) entry.sequence entry.next o → notices_by d a.served c ≡ end_notices d entry o
     told_is o c e = ap (notices_by d a.served) e ∙ each o
       where
-        each : (o : Option AnswerName) → notices_by d a.served (course_by (word_of chip NEXTS) entry.sequence entry.next o) ≡ told_by d entry o
+        each : (o : Option AnswerName) → notices_by d a.served (course_by (word_of chip NEXTS) entry.sequence entry.next o) ≡ end_notices d entry o
         each None = ap (job_notice d) job_is
         each (Some x) = ap (λ n. job_notice d n ++ sequence_notice d a.served.run.sequence) job_is ∙ ap (λ q. job_notice d (next_job d entry) ++ sequence_notice d q) sequence_is
 
-    pub ends_is : (spi_machine d).happens w s (Serves (26 + u) y) ≡ Some (outcome_with (state2 ending) (notes (told_by d entry ending)) None)
+    pub ends_is : (spi_machine d).happens w s (Serves (26 + u) y) ≡ Some (outcome_with (state2 ending) (notes (end_notices d entry ending)) None)
     ends_is =
         ap (λ q. if q then Some (served d w s (unit_of (26 + u)) y (machine.run_of s (unit_of (26 + u)))) else None) (is_ready d fits below chip w s h u few under.on (ap (has_done w.now) runs ∙ by.done.done))
         ∙ ap (λ o. Some (served d w s o y (machine.run_of s o))) (unit_line u few)
@@ -143,5 +143,5 @@ module _ (d : SpiTable) (fits : FitsSpi d) (below : Reservations) (chip : Chip) 
         ∙ ap (λ z. Some z) (after_is ending)
 
     -- what it tells is what the frame will tell
-    pub ends_told : (c : SequenceNext) → c ≡ after_job d a.served (has_mark (word_of chip MARKS) (cancelled_bit a.served.run.sequence)) (word_of chip NEXTS) → told_by d entry ending ≡ notices_by d a.served c
+    pub ends_told : (c : SequenceNext) → c ≡ after_job d a.served (has_mark (word_of chip MARKS) (cancelled_bit a.served.run.sequence)) (word_of chip NEXTS) → end_notices d entry ending ≡ notices_by d a.served c
     ends_told c e = sym (told_is ending c (e ∙ course_is))

@@ -1,15 +1,15 @@
 -- A job ends well: all of its words have begun, and no pin or put of another job changes.
--- From words.JoinedLists, bookkeeping.MovedOn, words.Positions.
--- Used by services.WellEnded, services.FailedEnded, services.GoesOnRight, words.LastKept, services.FreedUnit.
+-- From spi_sequences: words.ListTests, bookkeeping.MovedOn, words.JoinedLists, spi_sequences: words.Cases and 4 more.
+-- Used by services.WellEnded, services.FailedEnded, services.GoesOnRight, words.LastKept and 2 more.
 use Rattle.std.proofs.Common.{◌≡◌, ◌≢◌, ◌+◌, ◌<◌, ◌≤◌, ◌==◌, ◌&&◌, ◌||◌, [], ◌∷◌, ◌∙◌, ◌⊎◌, if◌then◌else◌}
 use Rattle.spi_serving.specs.Terms
-use Terms.{all_pending, ap, arith, Bool, changed, Chip, Contains, entries_of, Entry, false, filter, FitsSpi}
+use Terms.{all_pending, ap, arith, Bool, cases, changed, Chip, Contains, entries_of, Entry, false, filter, FitsSpi}
 use Terms.{goes_to_next, Going, GoingAgrees, held_word, inl, inr, is_for, is_of, is_on_unit, is_to_begin, job_of}
 use Terms.{job_unit, jobs_of, Keeps, KeepsNone, length, List, map, Memory, nat_lt, nat_tests, next_job, None, not}
 use Terms.{not_true, one_pending, one_unit, Option, other_number, Part, Pending, Pins, PinsNone, placed_of, PutRight}
-use Terms.{Putting, refl, Reservations, same_number, same_or_other, slice_get, Some, SpiRepresents, SpiState, SpiTable}
-use Terms.{subst, suc, sum_by, sym, TakeRight, Taking, true, unit_of_sequence, view, with_wait, word_of, words_before}
-use Terms.{words_of, World, ℕ}
+use Terms.{Putting, refl, Reservations, same_number, same_or_other, slice_get, Some, SpiRepresents, SpiState}
+use Terms.{SpiTable, subst, suc, sum_by, sym, TakeRight, Taking, true, unit_of_sequence, view, whether, with_wait}
+use Terms.{word_of, words_before, words_of, World, ℕ}
 use Rattle.spi_serving.specs.laws.words.JoinedLists.{before-all, before-less, before-next}
 use Rattle.spi_serving.specs.laws.bookkeeping.MovedOn.{by_unit, going_other, going_with}
 use Rattle.spi_serving.specs.laws.words.Positions.{Stands, words_count}
@@ -30,11 +30,9 @@ module _ (d : SpiTable) (fits : FitsSpi d) (u : ℕ) (m : Memory) (g : Going) (f
   further = before-next size g.parts g.at.channel at.part at.there
 
   within : (n : ℕ) → words_before g.parts n ≤ sum_by size g.parts
-  within n = by (nat_lt (length g.parts) n) refl
-    where
-      by : (q : Bool) → nat_lt (length g.parts) n ≡ q → words_before g.parts n ≤ sum_by size g.parts
-      by true e = let all = before-all size g.parts n (let lt : length g.parts < n = lt_is (length g.parts) n e in omega (arith, lt)) in omega (arith, all)
-      by false e = let less = before-less size g.parts n (length g.parts) (lt_isnt (length g.parts) n e) in let all = before-all size g.parts (length g.parts) (omega arith) in omega (arith, less, all)
+  within n = whether (nat_lt (length g.parts) n)
+      (λ e. let all = before-all size g.parts n (let lt : length g.parts < n = lt_is (length g.parts) n e in omega (arith, lt)) in omega (arith, all))
+      (λ e. let less = before-less size g.parts n (length g.parts) (lt_isnt (length g.parts) n e) in let all = before-all size g.parts (length g.parts) (omega arith) in omega (arith, less, all))
 
   -- it is the last one of its part
   pub last_word : g.at.word + 1 ≡ length at.part.values
@@ -72,26 +70,22 @@ module _ (d : SpiTable) (fits : FitsSpi d) (below : Reservations) (chip : Chip) 
   -- the job has no part of the channel that is pinned
   pub take_over : (c : ℕ) (o : Option Taking) → PinsNone (Some g) c → TakeRight h.going c o → TakeRight going_free c o
   take_over c None none r = λ n lt. by_unit (λ k z. PinsNone z c) h.going u None tt n (r n lt)
-  take_over c (Some t) none (n, lt, pins) = by (same_or_other n u)
+  take_over c (Some t) none (n, lt, pins) = cases (same_or_other n u)
+      (λ e. absurd (pinned (subst (λ z. Pins z c t.kept) (ap h.going e ∙ is) pins)))
+      (λ ne. (n, lt, subst (λ z. Pins z c t.kept) (sym (going_other h.going u None n ne)) pins))
     where
       pinned : Pins (Some g) c t.kept → ⊥
       pinned (k, x, part, begins, kept) = let f = sym begins ∙ none k x part in cc
 
-      by : (n ≡ u) ⊎ (n ≢ u) → TakeRight going_free c (Some t)
-      by (inl e) = absurd (pinned (subst (λ z. Pins z c t.kept) (ap h.going e ∙ is) pins))
-      by (inr ne) = (n, lt, subst (λ z. Pins z c t.kept) (sym (going_other h.going u None n ne)) pins)
-
   -- nor one that is kept
   pub put_over : (c : ℕ) (m1 : Memory) (o : Option Putting) → m1 (held_word (placed_of d c)) ≡ word_of chip (held_word (placed_of d c)) → KeepsNone (Some g) c → PutRight h.going (word_of chip) (placed_of d c) None o → PutRight going_free m1 (placed_of d c) None o
   put_over c m1 None same none r = λ n lt. by_unit (λ k z. KeepsNone z c) h.going u None tt n (r n lt)
-  put_over c m1 (Some t) same none (n, lt, keeps, bank) = by (same_or_other n u)
+  put_over c m1 (Some t) same none (n, lt, keeps, bank) = cases (same_or_other n u)
+      (λ e. absurd (kept (subst (λ z. Keeps z c t.filled) (ap h.going e ∙ is) keeps)))
+      (λ ne. (n, lt, subst (λ z. Keeps z c t.filled) (sym (going_other h.going u None n ne)) keeps, same ∙ bank))
     where
       kept : Keeps (Some g) c t.filled → ⊥
       kept (k, x, part, some, filled) = let f = none k x part in omega (arith, some, f)
-
-      by : (n ≡ u) ⊎ (n ≢ u) → PutRight going_free m1 (placed_of d c) None (Some t)
-      by (inl e) = absurd (kept (subst (λ z. Keeps z c t.filled) (ap h.going e ∙ is) keeps))
-      by (inr ne) = (n, lt, subst (λ z. Keeps z c t.filled) (sym (going_other h.going u None n ne)) keeps, same ∙ bank)
 
 -- ---- the order of a unit's sequences
 
@@ -124,11 +118,9 @@ module _ (d : SpiTable) (fits : FitsSpi d) (below : Reservations) (chip : Chip) 
           ∙ sym (not_true (is_for d u p) (λ f. ne (one_unit d u (unit_of_sequence d p.sequence) (next_job d p) f before)))
 
   pub for_same : (x : Pending) → Contains s.pending x → is_for d u (item x) ≡ is_for d u x
-  for_same x at = by (same_or_other x.sequence p.sequence)
-    where
-      by : (x.sequence ≡ p.sequence) ⊎ (x.sequence ≢ p.sequence) → is_for d u (item x) ≡ is_for d u x
-      by (inl e) = subst (λ z. is_for d u (item z) ≡ is_for d u z) (sym (one_pending d fits below chip w s h x p (all_pending (view s) x at) (all_pending (view s) p there) e)) (ap (λ q. is_for d u (if q then goes_to_next p else p)) (same_number p.sequence) ∙ own_for)
-      by (inr ne) = ap (λ q. is_for d u (if q then goes_to_next x else x)) (other_number x.sequence p.sequence ne)
+  for_same x at = cases (same_or_other x.sequence p.sequence)
+      (λ e. subst (λ z. is_for d u (item z) ≡ is_for d u z) (sym (one_pending d fits below chip w s h x p (all_pending (view s) x at) (all_pending (view s) p there) e)) (ap (λ q. is_for d u (if q then goes_to_next p else p)) (same_number p.sequence) ∙ own_for))
+      (λ ne. ap (λ q. is_for d u (if q then goes_to_next x else x)) (other_number x.sequence p.sequence ne))
 
   entry_same : (x : Pending) → now (item x) ≡ with_wait p.sequence true (was x)
   entry_same x = by (same_or_other x.sequence p.sequence)

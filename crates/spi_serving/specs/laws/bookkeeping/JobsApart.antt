@@ -1,6 +1,6 @@
 -- A channel is in one job under way, once: its pin and its put are that job's.
--- From words.JoinedLists.
--- Used by words.LastKept, words.ReleasedPins, services.FailedEnded, services.WellEnded and 7 more.
+-- From spi_sequences: words.ListTests, spi_sequences: words.SameWords, spi_sequences: words.WordsToState and 1 more.
+-- Used by spi_sending: services.SendFurther, words.LastKept, words.ReleasedPins and 15 more.
 use Rattle.std.proofs.Common.{◌≡◌, ◌<◌, ◌==◌, ◌∙◌}
 use Rattle.spi_serving.specs.Terms
 use Terms.{any_in, ap, arith, channels_of, Chip, Contains, contains_map, false, FitsSpi, Going, going_next}

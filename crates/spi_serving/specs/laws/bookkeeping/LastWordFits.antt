@@ -1,5 +1,6 @@
 -- At a job's end the frame has the place and the bank of its last word as they stand, so that its window has room.
--- From words.FacingWords, services.ServeBounds, services.ServeDecisions, words.Positions, bookkeeping.UnderWay.
+-- From words.FacingWords, spi_sequences: services.ServeSteps, bookkeeping.UnderWay, services.ServeBounds and 2 more.
+-- Used by spi_driver: services.ServePart.
 use Rattle.std.proofs.Common.{◌<◌, ◌≤◌}
 use Rattle.spi_serving.specs.Terms
 use Terms.{arith, asked_word, channel_served, Chip, FitsSpi, IsServed, length, Position, Reservations}

@@ -1,9 +1,9 @@
 -- A job moves on to its next word: which of its words are still to be begun, and which were taken.
--- From words.JoinedLists, words.Positions.
--- Used by bookkeeping.PinsTurned, services.FurtherBegun, bookkeeping.JobOver, services.FailedEnded and 6 more.
+-- From words.JoinedLists, words.Positions, spi_sequences: words.ListTests, spi_sequences: words.Cases.
+-- Used by bookkeeping.PinsTurned, spi_sending: services.SendFurther, services.FurtherBegun and 12 more.
 use Rattle.std.proofs.Common.{◌≡◌, ◌≢◌, ◌+◌, ◌-◌, ◌<◌, ◌≤◌, ◌==◌, ◌&&◌, ◌||◌, [], ◌∷◌, ◌++◌, ◌∙◌, ◌⊎◌, if◌then◌else◌}
 use Rattle.spi_serving.specs.Terms
-use Terms.{ap, arith, Bool, drop, false, FitsSpi, Going, GoingAgrees, inl, inr, is_ahead, is_below, is_for}
+use Terms.{ap, arith, Bool, cases, drop, false, FitsSpi, Going, GoingAgrees, inl, inr, is_ahead, is_below, is_for}
 use Terms.{is_to_begin, length, length-append, Memory, nat_lt, nat_tests, Option, other_number, Part, Position}
 use Terms.{received_of, refl, same_number, same_or_other, slice_get, Some, SpiTable, subst, suc, sym, take, taken_of}
 use Terms.{true, words_before, ℕ}
@@ -27,11 +27,9 @@ going_other f u o n ne = ap (λ q. if q then o else f n) (other_number n u ne)
 
 -- what is so of that unit and of the others is so of each
 pub by_unit : (P : ℕ → Option Going → Type 0) (f : ℕ → Option Going) (u : ℕ) (o : Option Going) → P u o → (n : ℕ) → P n (f n) → P n (going_with f u o n)
-by_unit P f u o here n other = by (same_or_other n u)
-  where
-    by : (n ≡ u) ⊎ (n ≢ u) → P n (going_with f u o n)
-    by (inl e) = subst (λ k. P k (going_with f u o k)) (sym e) (subst (P u) (sym (going_here f u o)) here)
-    by (inr ne) = subst (P n) (sym (going_other f u o n ne)) other
+by_unit P f u o here n other = cases (same_or_other n u)
+    (λ e. subst (λ k. P k (going_with f u o k)) (sym e) (subst (P u) (sym (going_here f u o)) here))
+    (λ ne. subst (P n) (sym (going_other f u o n ne)) other)
 
 -- ---- places
 

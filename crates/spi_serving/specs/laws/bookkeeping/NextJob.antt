@@ -1,15 +1,16 @@
 -- A job ends well and its sequence goes on: it waits with its next job, and the state is sound.
--- Used by services.GoesOnRight, words.NextWords.
+-- From spi_sequences: words.ListTests, spi_sequences: words.AllSequences, spi_sequences: words.JobPlaces and 4 more.
+-- Used by words.NextWords, services.GoesOnRight.
 use Rattle.std.proofs.Common.{◌≡◌, ◌≢◌, ◌+◌, ◌<◌, ◌≤◌, ◌==◌, ◌&&◌, ◌∙◌, ◌⊎◌, if◌then◌else◌, ◌++◌, ◌||◌}
 use Rattle.spi_serving.specs.Terms
 use Terms.{all_carried, all_cases, all_of, all_pending, AnswerName, any_in, any_mapped, any_none, ap, arith}
-use Terms.{aside_pending, at_contained, at_left, Bool, changed, Chip, Contains, Contains-get_or, contains_back}
+use Terms.{aside_pending, at_contained, at_left, Bool, cases, changed, Chip, Contains, Contains-get_or, contains_back}
 use Terms.{contains_map, entries_begun, false, FitsSpi, get_back, goes_to_next, has_job, inl, inr, is_left, is_of}
 use Terms.{is_off, is_pending, is_sync_sequence, is_sync_unit, IsEntry, IsSoundState, item-other, item-same}
-use Terms.{job_result, jobs_of, left_at, LeftAt, length, List, list_any, list_any-append, next_job, none_any, not_true}
-use Terms.{one_by_job, one_pending, one_place, other_number, Pending, refl, Reservations, same_number, same_or_other}
-use Terms.{shares_job, slice_get, slice_index_or, Some, SpiJobOk, SpiJobPending, SpiJobQueued, SpiRepresents, SpiState}
-use Terms.{SpiTable, subst, sym, true, View, view, with_item, World, ℕ}
+use Terms.{job_result, jobs_of, left_at, LeftAt, length, List, list_any, list_any-append, next_job, none_any}
+use Terms.{not_true, one_by_job, one_pending, one_place, other_number, Pending, refl, Reservations, same_number}
+use Terms.{same_or_other, shares_job, slice_get, slice_index_or, Some, SpiJobOk, SpiJobPending, SpiJobQueued}
+use Terms.{SpiRepresents, SpiState, SpiTable, subst, sym, true, View, view, with_item, World, ℕ}
 use Rattle.spi_sequences.specs.Refinement.{IsLast}
 
 module _ (d : SpiTable) (fits : FitsSpi d) (below : Reservations) (chip : Chip) (w : World) (s : SpiState) (h : SpiRepresents d below chip w s) (p : Pending) (there : Contains s.pending p) (more : p.next + 1 < length (jobs_of d p.sequence)) (good : p.cancelled ≡ false)
@@ -120,7 +121,9 @@ module _ (d : SpiTable) (fits : FitsSpi d) (below : Reservations) (chip : Chip) 
 
   -- a job that none has left had none left before, but for the one that ended
   pub none_left : (j : ℕ) → j ≢ next_job d p → list_any (is_left d j) (all_of next_view) ≡ false → list_any (is_left d j) (all_of (view s)) ≡ false
-  none_left j ne none = none_any (is_left d j) (all_of (view s)) (λ x at. by x at (same_or_other x.sequence p.sequence))
+  none_left j ne none = none_any (is_left d j) (all_of (view s)) (λ x at. cases (same_or_other x.sequence p.sequence)
+      (λ e. subst (λ z. is_left d j z ≡ false) (sym (one_pending d fits below chip w s h x p at (all_pending (view s) p there) e)) own)
+      (λ other. ap (is_left d j) (sym (item_other x other)) ∙ any_none (is_left d j) (all_of next_view) none (item x) (all_still x at)))
     where
       own : is_left d j p ≡ false
       own = not_true (is_left d j p) (λ e. left (at_left (jobs_of d p.sequence) p.next j e))
@@ -138,10 +141,6 @@ module _ (d : SpiTable) (fits : FitsSpi d) (below : Reservations) (chip : Chip) 
                   greater : (a b : ℕ) → a ≤ b → b ≢ a → a < b
                   greater a b le ne = grind arith
 
-      by : (x : Pending) → Contains (all_of (view s)) x → (x.sequence ≡ p.sequence) ⊎ (x.sequence ≢ p.sequence) → is_left d j x ≡ false
-      by x at (inl e) = subst (λ z. is_left d j z ≡ false) (sym (one_pending d fits below chip w s h x p at (all_pending (view s) p there) e)) own
-      by x at (inr other) = ap (is_left d j) (sym (item_other x other)) ∙ any_none (is_left d j) (all_of next_view) none (item x) (all_still x at)
-
   abbrev begun_ones : List Pending
   begun_ones = entries_begun ((view s).begun 0) ++ entries_begun ((view s).begun 1)
 
@@ -158,7 +157,9 @@ module _ (d : SpiTable) (fits : FitsSpi d) (below : Reservations) (chip : Chip) 
     requests = each_entry (λ x. x.request ≤ s.requests) (h.sound.requests p there) (λ x at ne. h.sound.requests x at);
     results = record {
       queued = λ x i at le lt. queued x at i le lt;
-      last = λ j none. by_job j none (same_or_other j (next_job d p));
+      last = λ j none. cases (same_or_other j (next_job d p))
+          (λ e. subst (λ k. IsLast (job_result results k)) (sym e) (subst (λ x. IsLast x) (sym (item-same SpiJobOk s.job_results (next_job d p) result)) last))
+          (λ ne. subst (λ x. IsLast x) (sym (item-other SpiJobOk s.job_results (next_job d p) j result ne)) (h.sound.results.last j (none_left j ne none)));
       named = h.sound.results.named;
       sequences = λ n lt. let r = h.sound.results.sequences n lt in (λ e. still_pending n ∙ r.0 e, λ e. r.1 (sym (still_pending n) ∙ e));
     };
@@ -180,7 +181,3 @@ module _ (d : SpiTable) (fits : FitsSpi d) (below : Reservations) (chip : Chip) 
           let first : x.request ≡ a.request = ap (λ z. z.request) isa ∙ item_request a in
           let second : y.request ≡ b.request = ap (λ z. z.request) isb ∙ item_request b in
           (omega (arith, less, first, second), ap (λ z. shares_job d z y.sequence) (ap (λ z. z.sequence) isa ∙ item_sequence a) ∙ ap (λ z. shares_job d a.sequence z) (ap (λ z. z.sequence) isb ∙ item_sequence b) ∙ r.1)
-
-      by_job : (j : ℕ) → list_any (is_left d j) (all_of next_view) ≡ false → (j ≡ next_job d p) ⊎ (j ≢ next_job d p) → IsLast (job_result results j)
-      by_job j none (inl e) = subst (λ k. IsLast (job_result results k)) (sym e) (subst (λ x. IsLast x) (sym (item-same SpiJobOk s.job_results (next_job d p) result)) last)
-      by_job j none (inr ne) = subst (λ x. IsLast x) (sym (item-other SpiJobOk s.job_results (next_job d p) j result ne)) (h.sound.results.last j (none_left j ne none))

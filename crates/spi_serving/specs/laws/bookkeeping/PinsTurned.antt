@@ -1,6 +1,6 @@
 -- A job moves on to its next word: the pins and the puts of its channels.
 -- From bookkeeping.MovedOn, bookkeeping.JobsApart, words.Positions, ToServe.
--- Used by words.KeepingWords, services.FurtherBegun, services.FurtherRight, services.WellEnded and 3 more.
+-- Used by words.KeepingWords, services.FurtherBegun, spi_sending: services.SendFurther and 9 more.
 use Rattle.std.proofs.Common.{◌≡◌, ◌≢◌, ◌+◌, ◌<◌, [], ◌∷◌, ◌++◌, ◌∙◌, ◌⊎◌}
 use Rattle.spi_serving.specs.Terms
 use Terms.{AllRight, ap, arith, Call, ChannelState, false, Going, HasPart, held_word, HeldRight, inl, inr, is_off}

@@ -1,6 +1,6 @@
 -- What the machine has of the words that came in, once a job has ended well.
--- From words.JoinedLists, bookkeeping.JobsApart, words.Positions, services.FreedUnit and 4 more.
--- Used by services.WellEnded, services.JobOverRight.
+-- From spi_sequences: words.ListTests, words.JoinedLists, bookkeeping.JobsApart, words.Positions and 7 more.
+-- Used by services.WellEnded, spi_sending: services.SendGoesOn, spi_sending: services.SendLast and 3 more.
 use Rattle.std.proofs.Common.{◌≡◌, ◌≢◌, ◌+◌, ◌-◌, ◌<◌, ◌==◌, ◌&&◌, [], ◌∷◌, ◌++◌, ◌∙◌, if◌then◌else◌}
 use Rattle.spi_serving.specs.Terms
 use Terms.{after_last, all_kept, ap, arith, at_contained, Bool, channel-seen, channel_at, Contains, drop, ends_well}

@@ -1,6 +1,6 @@
 -- What a serving stores of the word that came in, in the machine.
 -- From services.FurtherBegun.
--- Used by services.FurtherRight, bookkeeping.Readable.
+-- Used by spi_sending: services.SendFurther, bookkeeping.Readable, services.FurtherRight, services.FurtherServed.
 use Rattle.std.proofs.Common.{◌≡◌, ◌≢◌, ◌∙◌, ◌⊎◌}
 use Rattle.spi_serving.specs.Terms
 use Terms.{ap, channel-seen, channel_at, ChannelState, Goes, inl, inr, item-other, item-same, JobWord, refl}

@@ -1,5 +1,6 @@
 -- What a unit's registers and words say of the job under way.
--- Used by services.ServeDecisions, words.FacingWords, services.FurtherRight, bookkeeping.JobEnd and 5 more.
+-- From spi_sequences: words.WordsToState, spi_sequences: hardware.AfterReset and 4 more.
+-- Used by services.ServeDecisions, spi_sending: bookkeeping.HeldWord, bookkeeping.JobEnd and 14 more.
 use Rattle.std.proofs.Common.{◌≡◌, ◌+◌, ◌*◌, ◌/◌, ◌%◌, ◌<◌, ◌==◌, ◌&&◌, ◌∙◌, if◌then◌else◌}
 use Rattle.spi_serving.specs.Terms
 use Terms.{all_of, ap, arith, bit_of, Bool, by_two, carried_at, CarriesAgrees, Chip, Contains, done_same, false}
@@ -7,8 +8,8 @@ use Terms.{FitsSpi, Going, going_asked, going_next, GoingAgrees, has_done, InTra
 use Terms.{is_sync_unit, IsDone, job_of, next_job, None, none_under_way, not, not_true, Option, packed_position}
 use Terms.{Pending, Position, position_in, ready, refl, Reservations, Run, run_at, run_carried, run_in, run_of}
 use Terms.{RunAgrees, Running, running_says, running_word, select_by, select_of, Serial, Some, some_is, SpiRepresents}
-use Terms.{SpiState, SpiTable, subst, sym, Transfer, true, unit_at, unit_of, unit_run, UnitAgrees, view, word_of}
-use Terms.{WordAgrees, World, ℕ}
+use Terms.{SpiState, SpiTable, subst, sym, Transfer, true, unit_at, unit_of, unit_run, UnitAgrees, view, whether_as}
+use Terms.{word_of, WordAgrees, World, ℕ}
 use Rattle.chip_units.specs.Serials as serials
 use Rattle.chip_units.specs.declared.serial.Word as chips
 use Rattle.spi_machine.specs.Machine as machine
@@ -69,15 +70,13 @@ module _ (d : SpiTable) (fits : FitsSpi d) (below : Reservations) (chip : Chip) 
 
   -- what the unit runs agrees with its word, whichever kind of unit it is
   agrees : CarriesAgrees d unit (unit_run d s u) (h.going u)
-  agrees = by (is_sync_unit d u) refl
+  agrees = whether_as (is_sync_unit d u) (λ q. CarriesAgrees d unit (if q then run_carried (carried_at s u) else run_at s u) (h.going u))
+      (λ e. h.sends u few e)
+      (λ e. plain (h.going u) (h.units u few e))
     where
       plain : (o : Option Going) → UnitAgrees d unit (run_at s u) o → CarriesAgrees d unit (run_at s u) o
       plain None a = a
       plain (Some g) a = (a.0, a.1, a.2)
-
-      by : (q : Bool) → is_sync_unit d u ≡ q → CarriesAgrees d unit (if q then run_carried (carried_at s u) else run_at s u) (h.going u)
-      by true e = h.sends u few e
-      by false e = plain (h.going u) (h.units u few e)
 
   -- a unit that starts jobs of pending sequences runs one of those, on its device
   pub asked_by : is_sync_unit d u ≡ false → (g : Going) → h.going u ≡ Some g → Contains s.pending g.pending × ((unit_at chip.serials u).select ≡ select_of (select_by (job_of d (next_job d g.pending))))

@@ -1,5 +1,6 @@
 -- Writes of a unit's registers: what they leave of the agreement.
--- Used by services.FurtherRight, services.ServeDecisions, bookkeeping.JobEnd, services.FurtherServed, services.JobLeft.
+-- From spi_sequences: words.SendsKept.
+-- Used by spi_sending: services.SendSteps, spi_sending: bookkeeping.SelectsNext and 8 more.
 use Rattle.std.proofs.Common.{◌≡◌, ◌≢◌, ◌<◌, ◌∙◌, ◌⊎◌}
 use Rattle.spi_serving.specs.Terms
 use Terms.{ap, carried_at, CarriesAgrees, Chip, chip_after, false, get_or-set_other, get_or-set_same, Going, idle, inl}

@@ -1,5 +1,6 @@
 -- The moves of a job's end, as a frame owes them.
--- Used by words.AllKept, words.LastKept, words.ReleasedPins, services.JobOverRight, services.JobLeft.
+-- From spi_sequences: services.ServeSteps, spi_sequences: services.UnitSteps, services.FurtherRight.
+-- Used by services.JobLeft, words.AllKept, spi_sending: services.SendKeeps, spi_sending: services.SendLast and 3 more.
 use Rattle.std.proofs.Common.{◌≡◌, ◌∙◌, if◌then◌else◌}
 use Rattle.spi_serving.specs.Terms
 use Terms.{after_serve, ap, Bool, Chip, chip_after, Commit, commit_ends, CommitsAfter, CommitsTo, ends_of, false}

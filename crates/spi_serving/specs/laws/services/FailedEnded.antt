@@ -1,14 +1,14 @@
 -- A job has failed and no pin of it stands: what is left are the words of its sequence.
--- From words.SidesApart, services.FreedUnit, bookkeeping.JobsApart, words.ReleasedPins, bookkeeping.MovedOn and 7 more.
+-- From spi_sequences: words.WordsOfModule, words.SidesApart, services.FreedUnit and 14 more.
 -- Used by services.JobLeft.
 use Rattle.std.proofs.Common.{◌≡◌, ◌≢◌, ◌+◌, ◌<◌, ◌≤◌, ◌∷◌, ◌∙◌, ◌⊎◌}
 use Rattle.spi_serving.specs.Terms
-use Terms.{abandoning, abandons, Answer, ap, arith, Banks, banks_held, BanksAgree, Call, Channel, channel_of, Chip}
-use Terms.{Contains, Destination, false, first_items, Going, has_channel, held_word, holds_debt, inl, inr, IsWordOf}
-use Terms.{length, nat_lt, nat_tests, None, none_in, none_readied, of_banks, of_held, of_set_up, Option, Origin, Part}
-use Terms.{past_the_first, PinsNone, place_of, placed_of, prepares, put_held, PutRight, Received, refl, running_word}
-use Terms.{same_or_other, Sent, set_up_by, set_up_word, sides_apart, slice_get, Some, Source, SOURCES, stands-agree}
-use Terms.{STATE, subst, sym, TakeRight, trio_of, true, unit_at, UnitAgrees, view, word_of, ℕ}
+use Terms.{abandoning, abandons, Answer, ap, arith, Banks, banks_held, BanksAgree, Call, cases, Channel, channel_of}
+use Terms.{Chip, Contains, Destination, false, first_items, Going, has_channel, held_word, holds_debt, inl, inr}
+use Terms.{IsWordOf, length, nat_lt, nat_tests, None, none_in, none_readied, of_banks, of_held, of_set_up, Option}
+use Terms.{Origin, Part, past_the_first, PinsNone, place_of, placed_of, prepares, put_held, PutRight, Received, refl}
+use Terms.{running_word, same_or_other, Sent, set_up_by, set_up_word, sides_apart, slice_get, Some, Source, SOURCES}
+use Terms.{stands-agree, STATE, subst, sym, TakeRight, trio_of, true, unit_at, UnitAgrees, view, word_of, ℕ}
 use Rattle.spi_serving.specs.laws.{bookkeeping.JobsApart.{agrees_at, for_at, one_job}, words.CommitWords.{upto}}
 use Rattle.spi_serving.specs.laws.{services.FreedUnit.{IsFilled, IsFree, Left, going_left, start_owed}}
 use Rattle.spi_serving.specs.laws.{words.JoinedLists.{get_within}, bookkeeping.MovedOn.{going_here, going_other}}
@@ -50,11 +50,9 @@ module _ (st : ToServe) (fc : Chip) (freed : IsFree st.d st.w st.chip st.u fc) (
     word_same j word own = same j away (λ e. let past = past_the_first d n k j (fits.channels n k is_channel) word in omega (arith, past, e, few))
       where
         away : Away j
-        away m x there i = by (same_or_other n x.channel)
-          where
-            by : (n ≡ x.channel) ⊎ (n ≢ x.channel) → trio.own_of (trio_of (placed_of d x.channel) Sent) j ≡ false
-            by (inl e) = subst (λ z. trio.own_of (trio_of (placed_of d z) Sent) j ≡ false) e (own m x there e)
-            by (inr ne) = banks_of_one d fits x.channel (known m x there).0 (known m x there).1 (inner m x there i) Sent n k j ne is_channel word
+        away m x there i = cases (same_or_other n x.channel)
+            (λ e. subst (λ z. trio.own_of (trio_of (placed_of d z) Sent) j ≡ false) e (own m x there e))
+            (λ ne. banks_of_one d fits x.channel (known m x there).0 (known m x there).1 (inner m x there i) Sent n k j ne is_channel word)
 
     held_same : word_of c (held_word (placed_of d n)) ≡ word_of chip (held_word (placed_of d n))
     held_same = same (held_word (placed_of d n)) (λ m x there i. banks_unheld d fits x.channel (known m x there).0 (known m x there).1 (inner m x there i) Sent n k is_channel) (λ e. let past = past_the_first d n k (held_word (placed_of d n)) (fits.channels n k is_channel) (of_held d fits n k is_channel) in omega (arith, past, e, few))
@@ -94,15 +92,13 @@ module _ (st : ToServe) (fc : Chip) (freed : IsFree st.d st.w st.chip st.u fc) (
           )
 
       pins_none : (i : ℕ) (x : Part) → slice_get g.parts i ≡ Some x → (m : ℕ) → m < 2 → PinsNone (going_then m) x.channel
-      pins_none i x there m lt = by_other (same_or_other m u)
+      pins_none i x there m lt = cases (same_or_other m u)
+          (λ e. subst (λ o. PinsNone o x.channel) (sym (ap going_then e ∙ going_here h.going u None)) tt)
+          (λ ne. subst (λ o. PinsNone o x.channel) (sym (going_other h.going u None m ne)) (other ne (h.going m) refl))
         where
           other : m ≢ u → (o : Option Going) → h.going m ≡ o → PinsNone o x.channel
           other ne None e = tt
           other ne (Some z) e = λ j y part. absurd (ne (one_job d fits below chip w s h on u m g z few lt is e i j x y there part.0 part.1))
-
-          by_other : (m ≡ u) ⊎ (m ≢ u) → PinsNone (going_then m) x.channel
-          by_other (inl e) = subst (λ o. PinsNone o x.channel) (sym (ap going_then e ∙ going_here h.going u None)) tt
-          by_other (inr ne) = subst (λ o. PinsNone o x.channel) (sym (going_other h.going u None m ne)) (other ne (h.going m) refl)
 
       sent_left : SentLeft
       sent_left = by (part_or_none g.parts n)

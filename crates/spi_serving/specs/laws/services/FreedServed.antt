@@ -1,16 +1,16 @@
 -- A unit that starts jobs of pending sequences is free after a job: what runs then, and the agreement with the start that
 -- the frame owes it.
--- From services.FreedUnit.
+-- From services.FreedUnit, spi_sequences: words.ListTests, spi_sequences: words.WordsToState and 7 more.
 -- Used by services.GoesOnRight, services.SequenceOverRight.
 use Rattle.std.proofs.Common.{◌≡◌, ◌≢◌, ◌<◌, ◌≤◌, ◌∷◌, ◌∙◌, ◌⊎◌}
 use Rattle.spi_serving.specs.Terms
-use Terms.{AllSend, Answer, AnswerName, any_some, ap, AreOwed, arith, Bool, Call, carried_at, CarriesAgrees}
+use Terms.{AllSend, Answer, AnswerName, any_some, ap, AreOwed, arith, Call, carried_at, CarriesAgrees, cases}
 use Terms.{ChannelState, Chip, Contains, false, get_or_default, Going, going_free, going_run, held_word, inl, inr}
 use Terms.{is_number, is_running, is_some, is_sync_unit, IsSoundState, item-other, item-same, List, list_any, None}
 use Terms.{not, not_true, of_held, Option, Origin, other_number, past_the_first, Pending, placed_of, refl}
 use Terms.{Reservations, Run, run_at, run_carried, runs_none_sync, runs_sequence, RunsNext, same_or_other, sends_as}
 use Terms.{SequencesAgree, slice_index_or, Some, SpiRepresents, SpiState, subst, sym, true, unit_at, UnitAgrees, view}
-use Terms.{with_item, word_of, ℕ}
+use Terms.{whether, with_item, word_of, ℕ}
 use Rattle.spi_serving.specs.laws.{services.FreedUnit.{freed_as, going_left, IsFilled, IsTold, Left, others_differ}}
 use Rattle.spi_serving.specs.laws.{services.FreedUnit.{start_owed, with_free}, services.FurtherBegun.{any_changed}}
 use Rattle.spi_serving.specs.laws.{services.FurtherBegun.{right_like}, bookkeeping.JobsApart.{one_job}}
@@ -40,11 +40,9 @@ module _ (st : ToServe) (async : is_sync_unit st.d st.u ≡ false) where
         where
           on_unit : n < 2 → (o : Option Going) → h.going n ≡ o → ⊥
           on_unit lt None f = let x = sym e ∙ ap (runs_sequence q) (going_free d fits below chip w s h n lt f) in cc
-          on_unit lt (Some k) f = by_kind (is_sync_unit d n) refl
-            where
-              by_kind : (b : Bool) → is_sync_unit d n ≡ b → ⊥
-              by_kind true sync = let x = sym e ∙ ap (runs_sequence q) (runs_none_sync d fits below chip w s h n sync) in cc
-              by_kind false asks = others_differ st n k lt ne f (is_number k.pending.sequence q (sym (ap (runs_sequence q) (going_run d fits below chip w s h n k lt asks f).1) ∙ e))
+          on_unit lt (Some k) f = whether (is_sync_unit d n)
+              (λ sync. let x = sym e ∙ ap (runs_sequence q) (runs_none_sync d fits below chip w s h n sync) in cc)
+              (λ asks. others_differ st n k lt ne f (is_number k.pending.sequence q (sym (ap (runs_sequence q) (going_run d fits below chip w s h n k lt asks f).1) ∙ e)))
 
           split : (n ≡ 0) ⊎ (n ≢ 0) → (n ≡ 1) ⊎ (n ≢ 1) → ⊥
           split (inl a) b = on_unit (omega (arith, a)) (h.going n) refl
@@ -56,14 +54,12 @@ module _ (st : ToServe) (async : is_sync_unit st.d st.u ≡ false) where
               idle (Some r) x y = cc
 
       by : (x : Option Run) × Contains units_left x × (runs_sequence q x ≡ true) → ⊥
-      by (x, (n, lt, at), runs) = split (same_or_other n u)
+      by (x, (n, lt, at), runs) = cases (same_or_other n u)
+          (λ e. let f : None ≡ x = sym (item-same None s.units u None) ∙ ap (λ k. slice_index_or units_left k None) (sym e) ∙ same in let z = ap (runs_sequence q) f ∙ runs in cc)
+          (λ ne. elsewhere n ne (ap (runs_sequence q) (sym (run_left n ne) ∙ same) ∙ runs))
         where
           same : slice_index_or units_left n None ≡ x
           same = get_or_default units_left n None x lt ∙ at
-
-          split : (n ≡ u) ⊎ (n ≢ u) → ⊥
-          split (inl e) = let f : None ≡ x = sym (item-same None s.units u None) ∙ ap (λ k. slice_index_or units_left k None) (sym e) ∙ same in let z = ap (runs_sequence q) f ∙ runs in cc
-          split (inr ne) = elsewhere n ne (ap (runs_sequence q) (sym (run_left n ne) ∙ same) ∙ runs)
 
   pub few_run : (n : ℕ) → 2 ≤ n → not (is_some (slice_index_or units_left n None)) ≡ true
   few_run n le = ap (λ r. not (is_some r)) (run_left n (λ e. omega (arith, e, le, few))) ∙ h.sound.few n le

@@ -1,19 +1,19 @@
 -- A job has ended and its unit is free: the words and registers stand for the machine's state.
--- From bookkeeping.MovedOn, ToServe, bookkeeping.JobOver.
--- Used by services.GoesOnRight, services.SequenceOverRight, services.WellEnded, services.FailedEnded and 5 more.
-use Rattle.std.proofs.Common.{◌&&◌, ◌≡◌, ◌≢◌, ◌+◌, ◌<◌, ◌≤◌, ◌==◌, ◌||◌, ◌∷◌, ◌∙◌, ◌⊎◌, if◌then◌else◌}
+-- From spi_sequences: words.WordsOfModule, spi_sequences: words.ListTests and 12 more.
+-- Used by services.GoesOnRight, services.SequenceOverRight, spi_sending: services.SendLast and 12 more.
+use Rattle.std.proofs.Common.{◌&&◌, ◌≡◌, ◌≢◌, ◌+◌, ◌<◌, ◌≤◌, ◌==◌, ◌||◌, ◌∷◌, ◌∙◌, if◌then◌else◌}
 use Rattle.spi_serving.specs.Terms
-use Terms.{all_pending, AllRight, AllSend, Answer, AnswerName, ap, AreCarried, AreOwed, arith, banks_view, banks_words}
-use Terms.{BanksAgree, Bool, Call, carried_at, CarriesAgrees, Channel, channel_at, channel_of, ChannelState, Chip}
-use Terms.{Contains, Debt, Destination, entries_of, false, filter, filter_back, from_order, Going, going_next, has_bit}
-use Terms.{has_channel, held_word, holds-agree, inl, inr, is_for, is_interrupt, is_off, is_owed, is_sync_unit}
-use Terms.{IsSoundState, length, length_by, List, mode_word, next_job, None, none_in, none_stored, not, not_true}
-use Terms.{of_banks, of_held, of_set_up, of_sixteen, one_pending, one_unit, Option, order_word, Origin, Part}
-use Terms.{part_there, PartBy, past_the_first, Pending, place_of, placed_of, position_word, put_held, refl}
-use Terms.{Reservation, Reservations, ReservedBy, run_at, run_carried, RunAgrees, running_word, RunsNext, same_number}
-use Terms.{same_or_other, SequencesAgree, set_up_code, set_up_word, SetUpFits, slice_get, slice_index, slice_index_or}
-use Terms.{Some, Source, source_word, SpiRepresents, SpiState, SpiTable, StandsIn, STATE, subst, sym, there_back}
-use Terms.{to_order, true, unit_at, UnitAgrees, untouched, view, with_item, word_at, word_of, World, ℕ}
+use Terms.{all_pending, AllRight, AllSend, Answer, AnswerName, ap, AreCarried, AreOwed, arith, banks_view}
+use Terms.{banks_words, BanksAgree, Bool, Call, carried_at, CarriesAgrees, cases, Channel, channel_at, channel_of}
+use Terms.{ChannelState, Chip, Contains, Debt, Destination, entries_of, false, few_places, filter, filter_back}
+use Terms.{from_order, Going, going_next, has_bit, has_channel, held_word, holds-agree, is_for, is_interrupt, is_off}
+use Terms.{is_owed, is_sync_unit, IsSoundState, length, length_by, List, mode_word, next_job, None, none_in}
+use Terms.{none_stored, not, not_true, of_banks, of_held, of_set_up, one_pending, one_unit, Option, order_word}
+use Terms.{Origin, Part, part_there, PartBy, past_the_first, Pending, place_of, placed_of, position_word, put_held}
+use Terms.{refl, Reservation, Reservations, ReservedBy, run_at, run_carried, RunAgrees, running_word, RunsNext}
+use Terms.{same_number, same_or_other, SequencesAgree, set_up_code, set_up_word, SetUpFits, slice_get, slice_index}
+use Terms.{slice_index_or, Some, Source, source_word, SpiRepresents, SpiState, SpiTable, StandsIn, STATE, subst, sym}
+use Terms.{there_back, to_order, true, unit_at, UnitAgrees, untouched, view, with_item, word_at, word_of, World, ℕ}
 use Rattle.spi_serving.specs.laws.{bookkeeping.MovedOn.{going_here}}
 use Rattle.spi_serving.specs.laws.{bookkeeping.MovedOn.{going_other}, ToServe.{ToServe}}
 use Rattle.word_shapes.specs.Order as order
@@ -73,11 +73,9 @@ module _ (st : ToServe) where
 
   -- it is owed a start, and others are where they were
   pub owed_left : (owner : Origin Call) (acted : Option Answer) (n : ℕ) → n < 2 → going_left n ≡ None → (n ≢ u → is_owed n below ≡ true) → is_owed n (start_owed u owner acted ∷ below) ≡ true
-  owed_left owner acted n lt free other = by (same_or_other n u)
-    where
-      by : (n ≡ u) ⊎ (n ≢ u) → is_owed n (start_owed u owner acted ∷ below) ≡ true
-      by (inl e) = ap (λ q. q || is_owed n below) (ap (λ k. u == k) e ∙ same_number u)
-      by (inr ne) = or_right (u == n) (is_owed n below) (other ne)
+  owed_left owner acted n lt free other = cases (same_or_other n u)
+      (λ e. ap (λ q. q || is_owed n below) (ap (λ k. u == k) e ∙ same_number u))
+      (λ ne. or_right (u == n) (is_owed n below) (other ne))
 
   pub other_free : (n : ℕ) → n ≢ u → going_left n ≡ None → h.going n ≡ None
   other_free n ne free = sym (going_other h.going u None n ne) ∙ free
@@ -166,11 +164,9 @@ module _ (st : ToServe) where
                   from false j under = refl
 
       runs_left : (n : ℕ) → n < 2 → RunAgrees d (word_of f) n (going_left n)
-      runs_left n lt = by (same_or_other n u)
-        where
-          by : (n ≡ u) ⊎ (n ≢ u) → RunAgrees d (word_of f) n (going_left n)
-          by (inl e) = subst (λ k. RunAgrees d (word_of f) k (going_left k)) (sym e) (subst (λ o. RunAgrees d (word_of f) u o) (sym (going_here h.going u None)) ((t.runs u few).0 ∙ l.running))
-          by (inr ne) = subst (λ o. RunAgrees d (word_of f) n o) (sym (going_other h.going u None n ne)) (run_other n lt ne (h.going n) refl ((h.words.on on).runs n lt))
+      runs_left n lt = cases (same_or_other n u)
+          (λ e. subst (λ k. RunAgrees d (word_of f) k (going_left k)) (sym e) (subst (λ o. RunAgrees d (word_of f) u o) (sym (going_here h.going u None)) ((t.runs u few).0 ∙ l.running)))
+          (λ ne. subst (λ o. RunAgrees d (word_of f) n o) (sym (going_other h.going u None n ne)) (run_other n lt ne (h.going n) refl ((h.words.on on).runs n lt)))
 
       -- the state after it has these channels
       module _ (after : SpiState) (channels : after.channels ≡ cs) (mode : after.mode ≡ s.mode) where
@@ -179,13 +175,6 @@ module _ (st : ToServe) where
             banks_view d held going_left (word_of f) (view (with_channels s cs)) (view after) n k (ap (λ xs. (slice_index_or xs n untouched).written) channels) (ap (λ xs. (slice_index_or xs n untouched).received) channels) (λ r. ap (λ xs. put_held d (λ m. (slice_index_or xs m untouched).source) n r held) channels)
             (banks_words d fits held going_left (word_of c) (word_of f) (view (with_channels s cs)) n k known (t.above (held_word (placed_of d n)) (past_the_first d n k (held_word (placed_of d n)) (fits.channels n k known) (of_held d fits n k known)))
             (λ side j own. t.above j (past_the_first d n k j (fits.channels n k known) (of_banks d fits n k known internal side j own))) (l.banks n k known internal))
-
-        fewer : (n i : ℕ) → i < length_by (channel_of d n) → (n < 16) × (i < 64)
-        fewer n i lt = by (channel_of d n) refl lt
-          where
-            by : (o : Option Channel) → channel_of d n ≡ o → i < length_by o → (n < 16) × (i < 64)
-            by None e less = absurd (omega (arith, less))
-            by (Some k) e less = (of_sixteen d n k fits e, let most = (fits.channels n k e).few in omega (arith, less, most))
 
         as_now : (n : ℕ) → channel_at after n ≡ slice_index_or cs n untouched
         as_now n = ap (λ xs. slice_index_or xs n untouched) channels
@@ -216,7 +205,7 @@ module _ (st : ToServe) where
           set_ups = λ still n k known external. t.above (set_up_word (placed_of d n)) (past_the_first d n k (set_up_word (placed_of d n)) (fits.channels n k known) (of_set_up d fits n k known)) ∙ l.set_ups n k known ∙ h.set_ups on n k known external ∙ ap (λ o. set_up_code o) (sym (ap (λ z. z.set_up) (as_now n) ∙ like.set_up n));
           sizes = λ still n k known. record { written = λ i. ap length (ap (λ z. z.written) (as_now n) ∙ like.written n) ∙ (h.sizes on n k known).written i; set_up = λ i. subst (λ o. SetUpFits k o) (sym (ap (λ z. z.set_up) (as_now n) ∙ like.set_up n)) ((h.sizes on n k known).set_up i) };
           arrays = λ n. record {
-            source = λ i lt. past_source n i (fewer n i lt).0 (fewer n i lt).1 ∙ (h.arrays n).source i lt ∙ ap (λ xs. word_at xs i) (sym (ap (λ z. z.source) (as_now n) ∙ like.source n));
+            source = λ i lt. past_source n i (few_places d fits n i lt).0 (few_places d fits n i lt).1 ∙ (h.arrays n).source i lt ∙ ap (λ xs. word_at xs i) (sym (ap (λ z. z.source) (as_now n) ∙ like.source n));
             destination = λ i lt. t.above (place_of (Destination n) i) (omega arith) ∙ l.destinations n i lt ∙ ap (λ z. word_at z.destination i) (sym (as_now n));
           };
           lines = λ n lt. ap (λ x. has_bit x.control.enabled (26 + n)) t.rest ∙ ap (λ x. has_bit x.enabled (26 + n)) l.control ∙ h.lines n lt ∙ ap (λ m. is_interrupt m && not (is_sync_unit d n)) (sym mode);

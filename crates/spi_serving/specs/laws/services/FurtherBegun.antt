@@ -1,20 +1,20 @@
 -- A further word has begun and what came in is kept: the words and registers stand for the machine's state.
--- From bookkeeping.MovedOn, bookkeeping.PinsTurned, bookkeeping.JobsApart, words.JoinedLists, ToServe.
--- Used by bookkeeping.StoredWord, words.KeepingWords, services.FreedServed, services.FurtherServed.
+-- From bookkeeping.MovedOn, bookkeeping.PinsTurned, bookkeeping.JobsApart and 10 more.
+-- Used by spi_sending: services.SendFurther, services.FreedServed, services.FurtherServed and 4 more.
 use Rattle.std.proofs.Common.{◌≡◌, ◌≢◌, ◌+◌, ◌<◌, ◌≤◌, ◌&&◌, ◌||◌, [], ◌∷◌, ◌∙◌, ◌⊎◌, if◌then◌else◌}
 use Rattle.spi_serving.specs.Terms
 use Terms.{AllRight, AllSend, ap, AreCarried, arith, BanksAgree, Bool, Call, cancelled_bit, carried_at, CarriesAgrees}
-use Terms.{Channel, channel_at, channel_of, ChannelState, Chip, Contains, Destination, entries_of, false, from_order}
-use Terms.{Going, GoingAgrees, has_bit, has_channel, has_mark, held_word, HeldRight, holds-agree, inl, inr}
-use Terms.{is_interrupt, is_off, is_owed, is_some, is_sync_unit, IsReady, IsSoundState, item-other, item-same}
-use Terms.{job_small, job_word, jobs_of, length, length-append, length_by, List, list_any, MARKS, next_in, NEXTS, None}
-use Terms.{none_in, none_stored, not, of_sixteen, Option, order_word, packed_position, Part, part_there, PartBy}
-use Terms.{place_of, placed_of, pointwise, Position, position_word, refl, Reservation, Reservations, ReservedBy, Run}
-use Terms.{run_at, run_carried, RunAgrees, running_word, runs_sequence, RunsNext, same_or_other, sends_as}
-use Terms.{sequence_word, SequencesAgree, set_up_code, set_up_word, SetUpFits, slice_get, slice_index, slice_index_or}
-use Terms.{Some, Source, source_word, SpiRepresents, SpiState, SpiTable, StandsIn, started_bit, STATE, subst, suc, sym}
-use Terms.{to_order, to_write, true, unit_at, UnitAgrees, untouched, view, with_item, word_at, word_of, WordsAgree}
-use Terms.{Writing, zero, ℕ}
+use Terms.{cases, Channel, channel_at, channel_of, ChannelState, Chip, Contains, Destination, entries_of, false}
+use Terms.{few_places, from_order, Going, GoingAgrees, has_bit, has_channel, has_mark, held_word, HeldRight}
+use Terms.{holds-agree, inl, inr, is_interrupt, is_off, is_owed, is_some, is_sync_unit, IsReady, IsSoundState}
+use Terms.{item-other, item-same, job_small, job_word, jobs_of, length, length-append, length_by, List, list_any}
+use Terms.{MARKS, next_in, NEXTS, None, none_in, none_stored, not, Option, order_word, packed_position, Part}
+use Terms.{part_there, PartBy, place_of, placed_of, pointwise, Position, position_word, refl, Reservation}
+use Terms.{Reservations, ReservedBy, Run, run_at, run_carried, RunAgrees, running_word, runs_sequence, RunsNext}
+use Terms.{same_or_other, sends_as, sequence_word, SequencesAgree, set_up_code, set_up_word, SetUpFits, slice_get}
+use Terms.{slice_index, slice_index_or, Some, Source, source_word, SpiRepresents, SpiState, SpiTable, StandsIn}
+use Terms.{started_bit, STATE, subst, suc, sym, to_order, to_write, true, unit_at, UnitAgrees, untouched, view}
+use Terms.{with_item, word_at, word_of, WordsAgree, Writing, zero, ℕ}
 use Rattle.spi_serving.specs.laws.{bookkeeping.JobsApart.{agrees_at, for_at, one_job}, bookkeeping.MovedOn.{ahead_still}}
 use Rattle.spi_serving.specs.laws.{bookkeeping.MovedOn.{by_unit, going_here, going_other}}
 use Rattle.spi_serving.specs.laws.{words.JoinedLists.{get_within}, bookkeeping.PinsTurned.{After, At, going1, later}}
@@ -59,11 +59,9 @@ module _ (s : SpiState) (u : ℕ) (q r : Run) (runs : run_at s u ≡ Some q) (sa
   running_as = pointwise (view after).running (view s).running (λ n. any_changed (runs_sequence n) None s.units u (Some r) refl (ap (runs_sequence n) (ap (λ z. Some (record q { sequence = z })) same) ∙ sym (ap (runs_sequence n) runs)))
 
   idle_as : (view after).idle ≡ (view s).idle
-  idle_as = pointwise (view after).idle (view s).idle (λ n. ap not (by n (same_or_other n u)))
-    where
-      by : (n : ℕ) → (n ≡ u) ⊎ (n ≢ u) → is_some (run_at after n) ≡ is_some (run_at s n)
-      by n (inl e) = subst (λ k. is_some (run_at after k) ≡ is_some (run_at s k)) (sym e) (ap is_some (item-same None s.units u (Some r)) ∙ sym (ap is_some runs))
-      by n (inr ne) = ap is_some (item-other None s.units u n (Some r) ne)
+  idle_as = pointwise (view after).idle (view s).idle (λ n. ap not (cases (same_or_other n u)
+      (λ e. subst (λ k. is_some (run_at after k) ≡ is_some (run_at s k)) (sym e) (ap is_some (item-same None s.units u (Some r)) ∙ sym (ap is_some runs)))
+      (λ ne. ap is_some (item-other None s.units u n (Some r) ne))))
 
   pub view_as : IsLike cs s → view after ≡ view s
   view_as like =
@@ -174,11 +172,9 @@ module _ (st : ToServe) (at : At st st.g.at (length st.g.received)) (p : Positio
                 from false j below = refl
 
     pub runs_after : (n : ℕ) → n < 2 → RunAgrees d (word_of c) n (going_after n)
-    runs_after n lt = by (same_or_other n u)
-      where
-        by : (n ≡ u) ⊎ (n ≢ u) → RunAgrees d (word_of c) n (going_after n)
-        by (inl e) = subst (λ k. RunAgrees d (word_of c) k (going_after k)) (sym e) (subst (λ o. RunAgrees d (word_of c) u o) (sym (going_here h.going u (Some going_on))) run_going)
-        by (inr ne) = subst (λ o. RunAgrees d (word_of c) n o) (sym (going_other h.going u (Some going_on) n ne)) (run_other n lt ne (h.going n) refl ((h.words.on on).runs n lt))
+    runs_after n lt = cases (same_or_other n u)
+        (λ e. subst (λ k. RunAgrees d (word_of c) k (going_after k)) (sym e) (subst (λ o. RunAgrees d (word_of c) u o) (sym (going_here h.going u (Some going_on))) run_going))
+        (λ ne. subst (λ o. RunAgrees d (word_of c) n o) (sym (going_other h.going u (Some going_on) n ne)) (run_other n lt ne (h.going n) refl ((h.words.on on).runs n lt)))
 
     -- the words of sequences and jobs are as they were
     sequences_after : SequencesAgree d (word_of c) (view s)
@@ -231,7 +227,7 @@ module _ (st : ToServe) (at : At st st.g.at (length st.g.received)) (p : Positio
         });
         set_ups = λ still n k known external. words.set_ups n k known ∙ h.set_ups on n k known external ∙ ap (λ o. set_up_code o) (sym (like.set_up n));
         sizes = λ still n k known. record { written = λ i. ap length (like.written n) ∙ (h.sizes on n k known).written i; set_up = λ i. subst (λ o. SetUpFits k o) (sym (like.set_up n)) ((h.sizes on n k known).set_up i) };
-        arrays = λ n. record { source = λ i lt. words.sources n i (fewer n i lt).0 (fewer n i lt).1 ∙ (h.arrays n).source i lt ∙ ap (λ xs. word_at xs i) (sym (like.source n)); destination = λ i lt. destinations n i lt };
+        arrays = λ n. record { source = λ i lt. words.sources n i (few_places d fits n i lt).0 (few_places d fits n i lt).1 ∙ (h.arrays n).source i lt ∙ ap (λ xs. word_at xs i) (sym (like.source n)); destination = λ i lt. destinations n i lt };
         lines = λ n lt. ap (λ x. has_bit x.enabled (26 + n)) control ∙ h.lines n lt ∙ ap (λ m. is_interrupt m && not (is_sync_unit d n)) (sym mode);
         owed = λ n z lt free there for. owed n (h.owed n z lt (still_free n free) (subst (λ ps. Contains ps z) (ap (λ v. v.pending) seen) there) for);
       }
@@ -240,18 +236,9 @@ module _ (st : ToServe) (at : At st st.g.at (length st.g.received)) (p : Positio
           mode = ap (λ v. v.mode) seen
 
           still_free : (n : ℕ) → going_after n ≡ None → h.going n ≡ None
-          still_free n free = by (same_or_other n u)
-            where
-              by : (n ≡ u) ⊎ (n ≢ u) → h.going n ≡ None
-              by (inl e) = absurd (let f = sym (ap going_after e ∙ going_here h.going u (Some going_on)) ∙ free in cc)
-              by (inr ne) = sym (going_other h.going u (Some going_on) n ne) ∙ free
-
-          fewer : (n i : ℕ) → i < length_by (channel_of d n) → (n < 16) × (i < 64)
-          fewer n i lt = by (channel_of d n) refl lt
-            where
-              by : (o : Option Channel) → channel_of d n ≡ o → i < length_by o → (n < 16) × (i < 64)
-              by None e less = absurd (omega (arith, less))
-              by (Some k) e less = (of_sixteen d n k fits e, let most = (fits.channels n k e).few in omega (arith, less, most))
+          still_free n free = cases (same_or_other n u)
+              (λ e. absurd (let f = sym (ap going_after e ∙ going_here h.going u (Some going_on)) ∙ free in cc))
+              (λ ne. sym (going_other h.going u (Some going_on) n ne) ∙ free)
 
     -- of a unit that starts jobs of pending sequences
     module _ (async : is_sync_unit d u ≡ false) (r1 : Run) (cs : List ChannelState) (ws : List (List (ℕ × ℕ))) (q : Run) (runs : run_at s u ≡ Some q) (same : r1.sequence ≡ q.sequence) (like : IsLike cs s) where

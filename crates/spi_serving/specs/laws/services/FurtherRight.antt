@@ -1,21 +1,21 @@
 -- A further word begins, on a unit of either kind: the word on the wire, and the moves that the window owes after it.
--- From words.KeepingWords, words.FacingWords, words.Positions, bookkeeping.StoredWord, words.SidesApart and 8 more.
--- Used by services.ServeRight, services.JobOverRight, services.GoesOnRight, services.SequenceOverRight and 4 more.
+-- From words.KeepingWords, spi_sequences: services.ServeSteps, words.FacingWords, words.Positions and 14 more.
+-- Used by services.FurtherServed, spi_sending: services.SendFurther, services.EndsOwed and 5 more.
 use Rattle.std.proofs.Common.{◌≡◌, ◌≢◌, ◌+◌, ◌%◌, ◌^◌, ◌<◌, ◌≤◌, ◌==◌, ◌&&◌, [], ◌∷◌, ◌++◌, ◌∙◌, ◌⊎◌, if◌then◌else◌}
 use Rattle.spi_serving.specs.Terms
 use Terms.{after_serve, ap, arith, Arrived, as_begun, asked_word, bank_of, bank_word, begins, Begun, begun, Bool}
 use Terms.{CarriesAgrees, Channel, channel_at, channel_next, channel_of, channel_served, ChannelState, Chip}
 use Terms.{chip_after, CommitsAfter, CommitsTo, control_word, Destination, destination_own, destination_word}
-use Terms.{ExternalAgrees, false, FitsSpi, FrameRole, free_bank, Goes, goes_by, Going, has_channel, has_ended}
-use Terms.{held_word, inl, inr, InTransfer, is_last_place, is_number, is_sync_unit, IsFurther, IsServed, job_of}
-use Terms.{JobWord, Keep, keep_ends, keep_move, keep_of, keeping, length, length_by, lets_of, lets_with, List, Main}
-use Terms.{main_over, may, may_store, may_users, min, mod-mod, nat_le, nat_lt, nat_tests, next_job, None, not, Nowhere}
-use Terms.{of_sixteen, on_wire, one_owed, Option, owed_left, owed_move, owes_move, own-control, own_first, own_held}
+use Terms.{ExternalAgrees, false, few_places, FitsSpi, FrameRole, free_bank, Goes, goes_by, Going, has_channel}
+use Terms.{has_ended, held_word, inl, inr, InTransfer, is_last_place, is_number, is_sync_unit, IsFurther, IsServed}
+use Terms.{job_of, JobWord, Keep, keep_ends, keep_move, keep_of, keeping, length, length_by, lets_of, lets_with, List}
+use Terms.{Main, main_over, may, may_store, may_users, min, mod-mod, nat_le, nat_lt, nat_tests, next_job, None, not}
+use Terms.{Nowhere, on_wire, one_owed, Option, owed_left, owed_move, owes_move, own-control, own_first, own_held}
 use Terms.{own_low, packed_position, PartBy, PendingWrites, place_of, Placed, placed_of, Position, position_word}
-use Terms.{Received, received_with, refl, releasing, Reservations, Run, run_of, same_or_other, select_by}
-use Terms.{select_of, SendsRight, Sent, Serial, SerialData, serve_keeps, serve_lets, serve_move, ServePlace, ServeStep}
-use Terms.{SetUp, slice_index_or, Some, SOURCES, spi_owing, SpiRepresents, SpiState, SpiTable, stands-move, StandsIn}
-use Terms.{Store, stored, stored_other, stored_same, subst, sym, Take, take_gave, take_move, taker_of, ToChannel}
+use Terms.{Received, received_with, refl, releasing, Reservations, Run, run_of, same_or_other, select_by, select_of}
+use Terms.{SendsRight, Sent, Serial, SerialData, serve_keeps, serve_lets, serve_move, ServePlace, ServeStep, SetUp}
+use Terms.{slice_index_or, Some, SOURCES, spi_owing, SpiRepresents, SpiState, SpiTable, stands-move, StandsIn, Store}
+use Terms.{stored, stored_other, stored_same, subst, sym, Take, take_gave, take_move, taker_of, ToChannel}
 use Terms.{ToDestination, trio_of, true, unit_at, unit_over, unit_owed, unit_run, UnitBody, UnitPlace, Units}
 use Terms.{unless_done, unpacked, untouched, value_of, wire_at, with_item, word_after, word_at, word_of, World, Write}
 use Terms.{zero, ℕ}
@@ -274,13 +274,6 @@ module _ (d : SpiTable) (fits : FitsSpi d) (below : Reservations) (chip : Chip) 
     goes_there : (g : Goes) → at.part.goes ≡ g → channels ≡ (stored s here_word g came).channels
     goes_there g f = channels_are ∙ ap (λ z. (stored s here_word z came).channels) f
 
-    small_place : (n j : ℕ) → j < length_by (channel_of d n) → (n < 16) × (j < 64)
-    small_place n j lt = by_channel (channel_of d n) refl lt
-      where
-        by_channel : (o : Option Channel) → channel_of d n ≡ o → j < length_by o → (n < 16) × (j < 64)
-        by_channel None f less = absurd (omega (arith, less))
-        by_channel (Some k) f less = (of_sixteen d n k fits f, let most = (fits.channels n k f).few in omega (arith, less, most))
-
     not_let : (j : ℕ) → SOURCES ≤ j → NotLet st at p next follows came j
     not_let j le = λ q. let k = there_known st at p next follows came in banks_low d fits next.part.channel k.0 k.1 (is_inside d fits next.part.channel k.0 k.1 q) Sent j le
 
@@ -289,7 +282,7 @@ module _ (d : SpiTable) (fits : FitsSpi d) (below : Reservations) (chip : Chip) 
 
     -- destinations that are as they were
     same_destinations : (c : Chip) → ((n j : ℕ) → n < 16 → j < 64 → word_of c (place_of (Destination n) j) ≡ word_of chip (place_of (Destination n) j)) → channels ≡ s.channels → Destinations c
-    same_destinations c same f n j lt = let small = small_place n j lt in same n j small.0 small.1 ∙ (h.arrays n).destination j lt ∙ ap (λ cs. word_at (slice_index_or cs n untouched).destination j) (sym f)
+    same_destinations c same f n j lt = let small = few_places d fits n j lt in same n j small.0 small.1 ∙ (h.arrays n).destination j lt ∙ ap (λ cs. word_at (slice_index_or cs n untouched).destination j) (sym f)
 
     -- where an internal channel keeps it
     module _ (c : Chip) (l : Lets c) (rest : IsAfter c) where
@@ -348,7 +341,7 @@ module _ (d : SpiTable) (fits : FitsSpi d) (below : Reservations) (chip : Chip) 
             within = subst (λ o. going.at.word < length_by o) (sym known.1) (subst (λ (z : Channel). going.at.word < z.length) (has_channel d fits at.part.channel known.0 known.1) (let lt = first.inside in let le = part_few d fits u (word_of chip) going under.for under.represents going.at.channel first.part first.there in omega (arith, lt, le)))
 
             small : (at.part.channel < 16) × (going.at.word < 64)
-            small = small_place at.part.channel going.at.word within
+            small = few_places d fits at.part.channel going.at.word within
 
             kept : Keeps (chip_after c (Store (destination_word here going.at.word) came) 0)
             kept = kept_outside st at p next follows came c l q
@@ -360,7 +353,7 @@ module _ (d : SpiTable) (fits : FitsSpi d) (below : Reservations) (chip : Chip) 
                 apart ne = stored_other c (destination_word here going.at.word) came 0 (place_of (Destination n) j) ne ∙ l.others (place_of (Destination n) j) (not_let (place_of (Destination n) j) (omega arith)) ∙ (h.arrays n).destination j lt
 
                 less : j < 64
-                less = (small_place n j lt).1
+                less = (few_places d fits n j lt).1
 
                 split : (n ≡ at.part.channel) ⊎ (n ≢ at.part.channel) → (j ≡ going.at.word) ⊎ (j ≢ going.at.word) → word_of (chip_after c (Store (destination_word here going.at.word) came) 0) (place_of (Destination n) j) ≡ word_at (slice_index_or (stored s here_word ToDestination came).channels n untouched).destination j
                 split (inl a1) (inl b1) =

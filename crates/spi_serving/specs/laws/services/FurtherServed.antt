@@ -1,5 +1,5 @@
 -- A further word begins for a frame that serves its line: the event, and the moves that the window owes after it.
--- From services.FurtherRight, services.FurtherBegun, bookkeeping.StoredWord, bookkeeping.UnderWay.
+-- From bookkeeping.UnderWay, services.FurtherRight, spi_sequences: bookkeeping.ClearedUnit and 11 more.
 -- Used by services.ServeRight.
 use Rattle.std.proofs.Common.{◌≡◌, ◌+◌, ◌<◌, [], ◌∷◌, ◌∙◌, if◌then◌else◌}
 use Rattle.spi_serving.specs.Terms

@@ -1,18 +1,18 @@
 -- A job has ended well and its sequence goes on: its result, the next job and the order of the unit are told, and the
 -- words stand for the machine's state.
--- From services.FreedUnit, services.ToldRight, bookkeeping.NextJob, bookkeeping.MovedOn and 4 more.
+-- From services.ToldRight, services.FreedUnit, services.FreedServed, bookkeeping.NextJob and 16 more.
 -- Used by services.JobOverRight.
 use Rattle.std.proofs.Common.{◌≡◌, ◌≢◌, ◌+◌, ◌<◌, ◌≤◌, [], ◌∷◌, ◌∙◌, ◌⊎◌, if◌then◌else◌}
 use Rattle.spi_serving.specs.Terms
 use Terms.{after_serve, Again, again-ends, again_gave, all_carried, all_pending, Answer, ap, AreOwed, arith, Bool}
-use Terms.{Call, changed, ChannelState, Chip, CommitsTo, Contains, contains_back, DiffersIn, entries_of, failed_word}
-use Terms.{false, FitsSpi, FrameRole, goes_to_next, Going, going_asked, going_next, inl, inr, is_for, is_of, is_owed}
-use Terms.{is_some, is_sync_unit, IsPart, IsSoundState, job_word, jobs_of, Leaving, length, List, MARKS, may_store}
-use Terms.{named_own, next_job, next_small, NEXTS, None, not_order, one_owed, Option, order_places, order_there}
-use Terms.{order_word, Origin, own_first, own_order, PartTo, Pending, refl, RunsBy, RunsNext, same_or_other}
-use Terms.{sequence_word, sequences_as, SequencesAgree, serve_again, Served, ServePlace, settles_part, Some, sound_as}
-use Terms.{spi_owing, SpiJobOk, SpiRepresents, SpiState, SpiTable, STATE, subst, sym, Taker, true, unit_owed, Units}
-use Terms.{unless_done, view, waiting-absent, waiting_again, with_item, with_next_in, word_of, ℕ}
+use Terms.{Call, cases, changed, ChannelState, Chip, CommitsTo, Contains, contains_back, DiffersIn, entries_of}
+use Terms.{failed_word, false, FitsSpi, FrameRole, goes_to_next, Going, going_asked, going_next, inl, inr, is_for}
+use Terms.{is_of, is_owed, is_some, is_sync_unit, IsPart, IsSoundState, job_word, jobs_of, Leaving, length, List}
+use Terms.{MARKS, may_store, named_own, next_job, next_small, NEXTS, None, not_order, one_owed, Option, order_places}
+use Terms.{order_there, order_word, Origin, own_first, own_order, PartTo, Pending, refl, RunsBy, RunsNext}
+use Terms.{same_or_other, sequence_word, sequences_as, SequencesAgree, serve_again, Served, ServePlace, settles_part}
+use Terms.{Some, sound_as, spi_owing, SpiJobOk, SpiRepresents, SpiState, SpiTable, STATE, subst, sym, Taker, true}
+use Terms.{unit_owed, Units, unless_done, view, waiting-absent, waiting_again, with_item, with_next_in, word_of, ℕ}
 use Rattle.spi_serving.specs.laws.{services.FreedServed.{calm_run, few_run, freed_agrees, none_runs, others_run}}
 use Rattle.spi_serving.specs.laws.{services.FreedUnit.{in_no_other, order_left, IsFilled, Left, going_left}}
 use Rattle.spi_serving.specs.laws.{services.FreedUnit.{other_free, others_differ, owed_left, start_owed, with_free}}
@@ -89,7 +89,9 @@ module _ (st : ToServe) (async : is_sync_unit st.d st.u ≡ false) (owner : Orig
   still x at ne = subst (λ z. Contains after.pending z) (item_other d fits below chip w s h p there more good runs idle over others rest calm on SpiJobOk tt x ne) (still_there d fits below chip w s h p there more good runs idle over others rest calm on SpiJobOk tt x at)
 
   nexts : (n : ℕ) → n < 2 → RunsNext d (view after) n (going_left st n)
-  nexts n lt = by (same_or_other n u)
+  nexts n lt = cases (same_or_other n u)
+      (λ e. subst (λ k. RunsNext d (view after) k (going_left st k)) (sym e) (subst (λ o. RunsNext d (view after) u o) (sym (going_here h.going u None)) tt))
+      (λ ne. subst (λ o. RunsNext d (view after) n o) (sym (going_other h.going u None n ne)) (other ne (h.going n) refl (h.nexts n lt)))
     where
       other : n ≢ u → (o : Option Going) → h.going n ≡ o → RunsNext d (view s) n o → RunsNext d (view after) n o
       other ne None e r = tt
@@ -101,10 +103,6 @@ module _ (st : ToServe) (async : is_sync_unit st.d st.u ≡ false) (owner : Orig
               let asked = subst (λ q. RunsBy q (view s) n k.pending) i r.1 in
               let at = still k.pending asked.0 (others_differ st n k lt ne e) in
               (all_pending (view after) k.pending at, subst (λ q. RunsBy q (view after) n k.pending) (sym i) (at, asked.1), r.2)
-
-      by : (n ≡ u) ⊎ (n ≢ u) → RunsNext d (view after) n (going_left st n)
-      by (inl e) = subst (λ k. RunsNext d (view after) k (going_left st k)) (sym e) (subst (λ o. RunsNext d (view after) u o) (sym (going_here h.going u None)) tt)
-      by (inr ne) = subst (λ o. RunsNext d (view after) n o) (sym (going_other h.going u None n ne)) (other ne (h.going n) refl (h.nexts n lt))
 
   owed : AreOwed d (start_owed u owner acted ∷ below) (going_left st) after
   owed n x lt free at mine = owed_left st owner acted n lt free (λ ne. by ne (contains_back item s.pending x at))

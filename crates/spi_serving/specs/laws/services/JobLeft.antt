@@ -1,14 +1,15 @@
 -- What a job's end owes until its results are told, on a unit of either kind: the unit is free, what came in is readable, or the
 -- pins of a failed job end.
--- From words.LastKept, words.FacingWords, services.FreedUnit, words.ReleasedPins, services.EndsOwed and 9 more.
--- Used by services.JobOverRight.
+-- From spi_sequences: services.ServeSteps, words.LastKept, words.AllKept, words.FacingWords and 19 more.
+-- Used by spi_sending: services.SendFirst, spi_sending: services.SendGoesOn and 3 more.
 use Rattle.std.proofs.Common.{◌≡◌, ◌≢◌, ◌+◌, ◌-◌, ◌<◌, ◌≤◌, ◌==◌, ◌&&◌, ◌∙◌, if◌then◌else◌}
 use Rattle.spi_serving.specs.Terms
 use Terms.{Answer, ap, arith, Arrived, asked_word, bank_of, begins_by, Bool, Call, channel_served, Chip, chip_after}
-use Terms.{commit_at, commit_by, commit_last, CommitsTo, control_word, ends_of, false, FitsSpi, free_bank, further_of, Going, held_word, is_number}
-use Terms.{IsLast, IsServed, Keep, keep_ends, keep_left, keep_of, keeping, Leaving, length, length-set, lt_itself, lt_next, may_store, nat_tests, None, not}
-use Terms.{Option, Origin, own_first, Part, PendingWrites, Placed, placed_of, Position, Received, refl, release_last}
-use Terms.{Reservations, Run, running_word, SequenceNext, SerialAck, serve_keeps_last, serve_owes, ServePlace, slice_get, Some, some_is}
+use Terms.{commit_at, commit_by, commit_last, CommitsTo, control_word, ends_of, false, FitsSpi, free_bank, further_of}
+use Terms.{Going, held_word, is_number, IsLast, IsServed, Keep, keep_ends, keep_left, keep_of, keeping, Leaving}
+use Terms.{length, length-set, lt_itself, lt_next, may_store, nat_tests, None, not, Option, Origin, own_first, Part}
+use Terms.{PendingWrites, Placed, placed_of, Position, Received, refl, release_last, Reservations, Run, running_word}
+use Terms.{SequenceNext, SerialAck, serve_keeps_last, serve_owes, ServePlace, slice_get, Some, some_is, some_or_none}
 use Terms.{spi_owing, SpiRepresents, SpiState, SpiTable, stands-move, StandsIn, Store, stored_other, stored_same}
 use Terms.{subst, suc, sym, taker_of, true, unit_at, unpacked, word_of, words_of, World, Write, ℕ}
 use Rattle.spi_serving.specs.laws.{words.AllKept.{AllKept, commit_one, commit_owes, lt_else}, services.EndsOwed.{end_to, OwesEnds, OwesKeep}, words.CommitWords.{commits_owed, held_kept, upto}}
@@ -88,11 +89,9 @@ module _ (d : SpiTable) (fits : FitsSpi d) (below : Reservations) (chip : Chip) 
 
   -- a word that didn't fail is the last one
   pub last : a.served.failed ≡ false → length g.received + 1 ≡ length (words_of d g.parts)
-  last good = by (further_of d a) refl
-    where
-      by : (o : Option Position) → further_of d a ≡ o → length g.received + 1 ≡ length (words_of d g.parts)
-      by None f = onward_to d fits below chip w s h u few a.served served a refl i.arrived.taken None f
-      by (Some p) f = absurd (let ended : serve.Width a p ≡ serve.Marks a = sym (ap (λ b. if b then serve.Marks a else begins_by a (further_of d a)) good ∙ ap (begins_by a) f) ∙ i.ends in cc)
+  last good = some_or_none (further_of d a)
+      (λ p f. absurd (let ended : serve.Width a p ≡ serve.Marks a = sym (ap (λ b. if b then serve.Marks a else begins_by a (further_of d a)) good ∙ ap (begins_by a) f) ∙ i.ends in cc))
+      (λ f. onward_to d fits below chip w s h u few a.served served a refl i.arrived.taken None f)
 
   -- ---- the word is kept, whichever frame keeps it
 

@@ -1,6 +1,6 @@
 -- What a job's end owes: the unit is free, what came in is readable, or the pins of a failed job end, and then its results and
 -- its sequence are told.
--- From words.FacingWords, services.FreedUnit, service_outline: Words, bookkeeping.JobEnd, bookkeeping.Readable and 14 more.
+-- From services.FreedUnit, bookkeeping.Readable, bookkeeping.JobEnd, spi_sequences: services.ServeSteps and 9 more.
 -- Used by services.ServeRight.
 use Rattle.std.proofs.Common.{◌≡◌, ◌+◌, ◌<◌, ◌&&◌, ◌∷◌, ◌∙◌}
 use Rattle.spi_serving.specs.Terms
@@ -95,10 +95,10 @@ module _ (d : SpiTable) (fits : FitsSpi d) (below : Reservations) (chip : Chip) 
   state_is (Some x) = ap (λ (z : SpiState). with_free z u cs (without entry.sequence z.pending) (with_item SpiSeqOk z.sequence_results entry.sequence x) (given_back d entry (entry.next + 1) (with_item SpiJobOk z.job_results (next_job d entry) (result_by failed)))) (last_is s run failed)
 
   abbrev pub out : Outcome SpiState
-  out = outcome_with (state3 ending) (notes (ends.told_by d entry ending)) None
+  out = outcome_with (state3 ending) (notes (ends.end_notices d entry ending)) None
 
   pub over_is : (spi_machine d).happens w s (Serves (26 + u) y) ≡ Some out
-  over_is = ends.ends_is d fits below chip w s h u few a i y async ∙ ap (λ z. Some (outcome_with z (notes (ends.told_by d entry ending)) None)) (state_is ending)
+  over_is = ends.ends_is d fits below chip w s h u few a i y async ∙ ap (λ z. Some (outcome_with z (notes (ends.end_notices d entry ending)) None)) (state_is ending)
 
   like : IsFilled cs s
   like = last_like s run failed

@@ -1,18 +1,18 @@
 -- A job has ended and its sequence with it: both results and the order of the unit are told, and the words stand for the
 -- machine's state.
--- From services.FreedUnit, services.ToldRight, bookkeeping.MovedOn, services.FurtherRight, ToServe.
+-- From services.ToldRight, spi_sequences: bookkeeping.SequenceEnded, services.FreedUnit and 16 more.
 -- Used by services.JobOverRight.
 use Rattle.std.proofs.Common.{◌≡◌, ◌≢◌, ◌+◌, ◌<◌, ◌≤◌, ◌==◌, ◌&&◌, [], ◌∷◌, ◌∙◌, ◌⊎◌}
 use Rattle.spi_serving.specs.Terms
-use Terms.{after_serve, all_of, all_pending, Answer, AnswerName, ap, AreOwed, arith, at_left, Bool, Call, ChannelState}
-use Terms.{Chip, CommitsTo, Contains, DiffersIn, drop, drop-ends, drop_gave, Dropped, dropping, ended_sound}
-use Terms.{ended_view, ended_words, entries_of, failed_word, false, filter, filter_back, filter_keeps, FitsSpi}
-use Terms.{FrameRole, given_back, Going, going_asked, going_next, inl, inr, is_for, is_left, is_of, is_off, is_some}
-use Terms.{is_sync_unit, IsOfSequence, IsPart, IsSoundState, item-other, item-same, job_code, job_result, job_word}
-use Terms.{jobs_of, Leaves, leaves_pending, Leaving, left_at, left_order, LeftAt, length, List, list_any, MARKS}
-use Terms.{may_store, named_own, next_job, next_small, NEXTS, None, not, not_order, not_true, one_owed, one_place}
-use Terms.{Option, order_there, order_word, Origin, other_number, own_first, own_order, PartTo, Pending, refl}
-use Terms.{result_by, RunsBy, RunsNext, same_or_other, search_of, sequence_code, sequence_word, sequences_as}
+use Terms.{after_serve, all_of, all_pending, Answer, AnswerName, ap, AreOwed, arith, at_left, Bool, Call, cases}
+use Terms.{ChannelState, Chip, CommitsTo, Contains, DiffersIn, drop, drop-ends, drop_gave, Dropped, dropping}
+use Terms.{ended_sound, ended_view, ended_words, entries_of, failed_word, false, filter, filter_back, filter_keeps}
+use Terms.{FitsSpi, FrameRole, given_back, Going, going_asked, going_next, inl, inr, is_for, is_left, is_of, is_off}
+use Terms.{is_some, is_sync_unit, IsOfSequence, IsPart, IsSoundState, item-other, item-same, job_code, job_result}
+use Terms.{job_word, jobs_of, Leaves, leaves_pending, Leaving, left_at, left_order, LeftAt, length, List, list_any}
+use Terms.{MARKS, may_store, named_own, next_job, next_small, NEXTS, None, not, not_order, not_true, one_owed}
+use Terms.{one_place, Option, order_there, order_word, Origin, other_number, own_first, own_order, PartTo, Pending}
+use Terms.{refl, result_by, RunsBy, RunsNext, same_or_other, search_of, sequence_code, sequence_word, sequences_as}
 use Terms.{SequencesAgree, serve_drops, Served, ServePlace, settles_part, slice_index_or, Some, sound_as, spi_owing}
 use Terms.{SpiJobOk, SpiRepresents, SpiSeqOk, SpiSeqPending, SpiState, SpiTable, STATE, stay, subst, sym, Taker}
 use Terms.{there_by, true, unit_owed, Units, unless_done, view, with_item, without, word_of, ℕ}
@@ -142,7 +142,9 @@ module _ (st : ToServe) (async : is_sync_unit st.d st.u ≡ false) (owner : Orig
       (ended_sound d fits (view s) h.sound p all (p.next + 1) (omega arith) results ran unrun after.pending (view s).begun leaves runs idle x named done others rest calm off)
 
   nexts : (n : ℕ) → n < 2 → RunsNext d (view after) n (going_left st n)
-  nexts n lt = by (same_or_other n u)
+  nexts n lt = cases (same_or_other n u)
+      (λ e. subst (λ k. RunsNext d (view after) k (going_left st k)) (sym e) (subst (λ o. RunsNext d (view after) u o) (sym (going_here h.going u None)) tt))
+      (λ ne. subst (λ o. RunsNext d (view after) n o) (sym (going_other h.going u None n ne)) (other ne (h.going n) refl (h.nexts n lt)))
     where
       other : n ≢ u → (o : Option Going) → h.going n ≡ o → RunsNext d (view s) n o → RunsNext d (view after) n o
       other ne None e r = tt
@@ -151,10 +153,6 @@ module _ (st : ToServe) (async : is_sync_unit st.d st.u ≡ false) (owner : Orig
           split : (b : Bool) → RunsBy b (view s) n k.pending → RunsBy b (view after) n k.pending
           split true begun = begun
           split false asked = (filter_keeps (λ z. not (is_of p.sequence z)) s.pending k.pending asked.0 (ap not (other_number k.pending.sequence p.sequence (others_differ st n k lt ne e))), asked.1)
-
-      by : (n ≡ u) ⊎ (n ≢ u) → RunsNext d (view after) n (going_left st n)
-      by (inl e) = subst (λ k. RunsNext d (view after) k (going_left st k)) (sym e) (subst (λ o. RunsNext d (view after) u o) (sym (going_here h.going u None)) tt)
-      by (inr ne) = subst (λ o. RunsNext d (view after) n o) (sym (going_other h.going u None n ne)) (other ne (h.going n) refl (h.nexts n lt))
 
   owed : AreOwed d (start_owed u owner acted ∷ below) (going_left st) after
   owed n z lt free at mine = owed_left st owner acted n lt free (λ ne. h.owed n z lt (other_free st n ne free) (filter_back (λ y. not (is_of p.sequence y)) s.pending z at).0 mine)

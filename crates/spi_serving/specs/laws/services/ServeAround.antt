@@ -1,5 +1,7 @@
 -- Around the steps of the serving window: its frame may make them, the hardware leaves the places as they are, and what follows
 -- a step at a place that owes moves.
+-- From spi_sequences: services.ServeSteps.
+-- Used by spi_driver: services.ServePart, spi_sending: services.SendAround.
 use Rattle.std.proofs.Common.{◌≡◌, ◌≢◌, ◌+◌, ◌<◌, ◌≤◌, ◌==◌, ◌&&◌, ◌∙◌, ◌⊎◌, if◌then◌else◌}
 use Rattle.spi_serving.specs.Terms
 use Terms.{after_job, ap, arith, Arrived, asked_word, begins_word, Bool, cancelled_bit, carried_at, Carrying}

@@ -1,13 +1,14 @@
 -- A serving window is at most 32 moves: a job has at most four channels, and the bank of the last word's is known.
--- Used by bookkeeping.LastWordFits, spi_driver: services.ServePart.
+-- From spi_sequences: services.ServeSteps, spi_sequences: bookkeeping.PendingWritesBounds and 2 more.
+-- Used by spi_sending: services.SendRight, spi_driver: services.ServePart, spi_sending: services.SendFuel and 1 more.
 use Rattle.std.proofs.Common.{◌≡◌, ◌≢◌, ◌+◌, ◌/◌, ◌%◌, ◌<◌, ◌≤◌, ◌==◌, ◌&&◌, ◌∙◌, ◌⊎◌, if◌then◌else◌}
 use Rattle.spi_serving.specs.Terms
 use Terms.{ap, arith, Arrived, bank_of, begins_by, Bool, channel_at_place, channel_next, channel_number}
 use Terms.{channel_served, commit_at, commit_more, commit_with, commits_left, false, found_in, free_bank, further_of}
-use Terms.{inl, inr, is_last_place, JobOver, keep_more, keep_of, keeping, Leaving, lets_with, list_of, meets_at, None}
-use Terms.{not, Option, or_none, Over, Placed, placed_by, placed_of, Position, refl, releasing, run_in, Running}
+use Terms.{inl, inr, is_last_place, JobOver, keep_few, keep_more, keep_of, Leaving, lets_with, list_of, meets_at}
+use Terms.{None, not, Option, or_none, Over, Placed, placed_by, placed_of, Position, refl, releasing, run_in, Running}
 use Terms.{same_number, same_or_other, Sent, serve_fuel, serve_more, serve_owes, serve_room, serve_run, serve_takes}
-use Terms.{ServePlace, ServeStep, SetUp, Some, SpiTable, subst, sym, Taker, taker_of, true, unpacked, ℕ}
+use Terms.{ServePlace, ServeStep, SetUp, Some, SpiTable, subst, sym, Taker, taker_of, true, unpacked, whether_as, ℕ}
 use Rattle.spi_sequences.specs.declared.service.serve.ServeStep.TheVariants.{Goes}
 use Rattle.spi_jobs.specs.declared.finding.Find.TheVariants as finds
 use Rattle.spi_jobs.specs.declared.keeping.Keep.TheVariants as keeps
@@ -26,14 +27,12 @@ module _ (d : SpiTable) (l : Leaving) where
   commits_at i = if meets_at d (λ x. x.channel.internal) (channel_number (list_of d l.served.run.job) i) then 1 + commit_more (commit_at d l i) else 0
 
   at_most : (i : ℕ) → commits_at i ≤ 3
-  at_most i = by (meets_at d (λ x. x.channel.internal) (channel_number (list_of d l.served.run.job) i))
+  at_most i = whether_as (meets_at d (λ x. x.channel.internal) (channel_number (list_of d l.served.run.job) i)) (λ q. (if q then 1 + commit_more (commit_at d l i) else 0) ≤ 3)
+      (λ _. omega (arith, few))
+      (λ _. omega arith)
     where
       few : commit_more (commit_at d l i) ≤ 2
       few = commit_few (channel_at_place d l.served.run.job i) (i == l.served.at.channel) l.taker
-
-      by : (q : Bool) → (if q then 1 + commit_more (commit_at d l i) else 0) ≤ 3
-      by true = omega (arith, few)
-      by false = omega arith
 
   pub commits_most : commits_left d l 4 ≤ 12
   commits_most = let a = at_most 0 in let b = at_most 1 in let c = at_most 2 in let e = at_most 3 in omega (arith, a, b, c, e)
@@ -95,25 +94,15 @@ fuel_at d p = if serve_owes p then 1 + serve_more d p else serve_fuel p
 abbrev pub room_at : SpiTable → ServePlace → ℕ
 room_at d p = if serve_owes p then 1 + serve_more d p else serve_room p
 
-pub keep_few : (x : Placed) (i : ℕ) (t : Taker) (w : ℕ) → keep_more (keeping x i t w) ≤ 1
-keep_few x i (takers.Bank b) w =
-    elim (i == 0) as (λ q. keep_more (if q then keeps.Hold x b w else keeps.Fill x i b w) ≤ 1)
-    [ true ↦ omega arith | false ↦ omega arith ]
-keep_few x i (takers.SetUp set_up) w =
-    elim set_up.destination as (λ q. keep_more (if q then keeps.Store x i w else keeps.Drop x) ≤ 1)
-    [ true ↦ omega arith | false ↦ omega arith ]
-
 module _ (d : SpiTable) (u : ℕ) where
   -- after the beginning of a further word
   lets_more : (a : Arrived) (p : Position) (x : Placed) → serve_owes (lets_with d a p x) ≡ true → serve_more d (lets_with d a p x) ≤ 4
-  lets_more a p x e = by (x.channel.internal && is_last_place x p.word)
+  lets_more a p x e = whether_as (x.channel.internal && is_last_place x p.word) (λ q. serve_more d (if q then serve.Let a p (releasing x Sent) else serve.Keep (keep_of d a) p) ≤ 4)
+      (λ _. omega arith)
+      (λ _. omega (arith, few))
     where
       few : keep_more (keep_of d a) ≤ 1
       few = keep_few (channel_served d a.served) a.served.at.word a.taker a.word
-
-      by : (q : Bool) → serve_more d (if q then serve.Let a p (releasing x Sent) else serve.Keep (keep_of d a) p) ≤ 4
-      by true = omega arith
-      by false = omega (arith, few)
 
   lets_bound : (bound : ℕ) → 5 < bound → (a : Arrived) (p : Position) (x : Placed) (other : ServePlace → ℕ) → (if serve_owes (lets_with d a p x) then 1 + serve_more d (lets_with d a p x) else other (lets_with d a p x)) < bound
   lets_bound bound lt a p x other = by (x.channel.internal && is_last_place x p.word)
@@ -164,14 +153,12 @@ module _ (d : SpiTable) (u : ℕ) where
   less_fuel (serve.Begin a p w) v e = lets_bound 7 (omega arith) a p (channel_next d a p) serve_fuel
   less_fuel (serve.Marks a) v e = omega arith
   less_fuel (serve.Nexts a c) v e = omega arith
-  less_fuel (serve.Acknowledge a c) v e = by a.served.failed
+  less_fuel (serve.Acknowledge a c) v e = whether_as a.served.failed (λ q. 1 + (if q then 16 else 10 + commits_left d (record { served = a.served; taker = a.taker; course = c }) 4) < 24)
+      (λ _. omega arith)
+      (λ _. omega (arith, most))
     where
       most : commits_left d (record { served = a.served; taker = a.taker; course = c }) 4 ≤ 12
       most = commits_most d (record { served = a.served; taker = a.taker; course = c })
-
-      by : (q : Bool) → 1 + (if q then 16 else 10 + commits_left d (record { served = a.served; taker = a.taker; course = c }) 4) < 24
-      by true = omega arith
-      by false = omega (arith, most)
   less_fuel _ v e = absurd (cc)
 
   -- the room of a window, where the word's place and bank are those that were loaded
@@ -209,14 +196,12 @@ module _ (d : SpiTable) (u : ℕ) where
   less_room (serve.Begin a p w) v e f n = lets_bound 6 (omega arith) a p (channel_next d a p) serve_room
   less_room (serve.Marks a) v e f n = omega arith
   less_room (serve.Nexts a c) v e f n = omega arith
-  less_room (serve.Acknowledge a c) v e f n = by a.served.failed
+  less_room (serve.Acknowledge a c) v e f n = whether_as a.served.failed (λ q. 1 + (if q then 16 else 10 + commits_left d (record { served = a.served; taker = a.taker; course = c }) 4) < 23)
+      (λ _. omega arith)
+      (λ _. omega (arith, most))
     where
       most : commits_left d (record { served = a.served; taker = a.taker; course = c }) 4 ≤ 11
       most = commits_few d (record { served = a.served; taker = a.taker; course = c }) f.1.0 f.1.1 f.0
-
-      by : (q : Bool) → 1 + (if q then 16 else 10 + commits_left d (record { served = a.served; taker = a.taker; course = c }) 4) < 23
-      by true = omega arith
-      by false = omega (arith, most)
   less_room _ v e f n = absurd (cc)
 
 -- ---- a step without an event resets nothing, and begins no word

@@ -1,6 +1,6 @@
 -- The serving window up to its event: each step leaves the agreement, and comes to a place where what was loaded stands.
--- From bookkeeping.UnderWay, words.FoundWord, hardware.UnitRegisters, words.FacingWords.
--- Used by services.ServeRight, services.ServeMoves, bookkeeping.LastWordFits.
+-- From spi_sequences: services.ServeSteps, bookkeeping.UnderWay, words.FoundWord and 4 more.
+-- Used by services.ServeRight, spi_sending: services.SendSteps, services.ServeMoves, bookkeeping.LastWordFits.
 use Rattle.std.proofs.Common.{◌≡◌, ◌+◌, ◌/◌, ◌%◌, ◌<◌, ◌==◌, ◌&&◌, ◌∙◌, if◌then◌else◌}
 use Rattle.spi_serving.specs.Terms
 use Terms.{after_job, ap, Arrived, asked_word, asking, bank_word, begins_by, begins_of, Bool, cancelled_bit}
@@ -10,8 +10,8 @@ use Terms.{IsArrived, IsDone, IsFinding, IsFurther, IsLast, IsServed, IsTaken, L
 use Terms.{not, Option, Over, pinned_bank, Placed, Position, position_in, position_word, ready, Received, refl}
 use Terms.{Reservations, Run, run_in, Running, running_says, running_word, Sent, SerialWidth, serve_finds, serve_owes}
 use Terms.{serve_run, serve_takes, Served, ServePlace, ServeStep, SetUp, Some, source_word, SpiRepresents, SpiState}
-use Terms.{SpiTable, subst, sym, Taker, true, unit_at, unit_run, unpacked, value_of, word_after, word_of, word_place}
-use Terms.{World, Write, ℕ}
+use Terms.{SpiTable, subst, sym, Taker, true, unit_at, unit_run, unpacked, value_of, whether, whether_as, word_after}
+use Terms.{word_of, word_place, World, Write, ℕ}
 use Rattle.spi_sequences.specs.declared.service.serve.ServeStep.TheVariants.{Goes}
 use Rattle.spi_serving.specs.laws.{words.FacingWords.{next_channel}, words.FoundWord.{found_bank, found_default}}
 use Rattle.spi_serving.specs.laws.{words.FoundWord.{found_source, placed}, hardware.UnitRegisters.{width_agrees}}
@@ -25,11 +25,9 @@ use Rattle.mcal_base.specs.facts.Options.{some_is}
 
 -- the load that is made
 pub asks_load : (x : Placed) (i : ℕ) → asking x i ≡ Load (asked_word x i)
-asks_load x i = by (x.channel.internal && i == 0)
-  where
-    by : (q : Bool) → (if q then Load (control_word x Received) else Load (held_word x)) ≡ Load (if q then control_word x Received else held_word x)
-    by true = refl
-    by false = refl
+asks_load x i = whether_as (x.channel.internal && i == 0) (λ q. (if q then Load (control_word x Received) else Load (held_word x)) ≡ Load (if q then control_word x Received else held_word x))
+    (λ _. refl)
+    (λ _. refl)
 
 -- what the places rest on, of a chip
 abbrev pub footing : Chip → Footing
@@ -119,11 +117,9 @@ module _ (d : SpiTable) (fits : FitsSpi d) (below : Reservations) (chip : Chip) 
     begins_with v e = (h, (i, wide, λ run is. e ∙ ap (λ (z : Run). (word_after z).sent) (some_is i.arrived.taken.served.done.run run (sym i.arrived.taken.served.done.is ∙ is))))
 
     found_at : (x : Placed) → channel_next d a p ≡ x → (v : ℕ) → (by : SetUp) → unpacked (word_of chip (held_word x)) ≡ by → x.channel.internal ≡ false → IsFinding (word_of chip) x p.word (found_in x p.word by)
-    found_at x e v by f external = split by.source refl
-      where
-        split : (q : Bool) → by.source ≡ q → IsFinding (word_of chip) x p.word (if by.source then finds.Source x p.word else finds.Default x)
-        split true g = subst (λ q. IsFinding (word_of chip) x p.word (if q then finds.Source x p.word else finds.Default x)) (sym g) (refl, refl, external, ap (λ z. z.source) f ∙ g)
-        split false g = subst (λ q. IsFinding (word_of chip) x p.word (if q then finds.Source x p.word else finds.Default x)) (sym g) (refl, external, ap (λ z. z.source) f ∙ g)
+    found_at x e v by f external = whether by.source
+        (λ g. subst (λ q. IsFinding (word_of chip) x p.word (if q then finds.Source x p.word else finds.Default x)) (sym g) (refl, refl, external, ap (λ z. z.source) f ∙ g))
+        (λ g. subst (λ q. IsFinding (word_of chip) x p.word (if q then finds.Source x p.word else finds.Default x)) (sym g) (refl, external, ap (λ z. z.source) f ∙ g))
 
     module _ (x : Placed) (at : channel_next d a p ≡ x) where
       here : x ≡ placed d fits below chip w s h u few a p i

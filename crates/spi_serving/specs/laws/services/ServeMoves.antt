@@ -1,13 +1,14 @@
 -- The moves of the serving window are its frame's.
--- From words.FacingWords, words.FoundWord, services.ServeDecisions, words.Positions, words.SidesApart.
+-- From words.FacingWords, spi_sequences: words.WordsOfModule, words.FoundWord and 7 more.
+-- Used by spi_driver: services.ServePart, spi_sending: services.SendAround.
 use Rattle.std.proofs.Common.{◌≡◌, ◌<◌, ◌==◌, ◌&&◌, ◌||◌, ◌∙◌, if◌then◌else◌}
 use Rattle.spi_serving.specs.Terms
-use Terms.{and_parts, arith, Arrived, asked_word, asking, bank_word, Bool, Channel, channel_of, channel_served, Chip}
+use Terms.{and_parts, arith, Arrived, asked_word, asking, bank_word, Channel, channel_of, channel_served, Chip}
 use Terms.{control_word, false, Find, find_move, FitsSpi, has_channel, held_word, is_shared, IsFinding, IsFurther}
 use Terms.{length_by, Load, MARKS, may, may_first, may_store, may_users, Move, nat_lt, nat_tests, NEXTS, of_sixteen}
 use Terms.{own-control, own-word, own_held, Placed, placed_of, Position, position_word, Received, refl, Reservations}
 use Terms.{running_word, Sent, serve_move, serve_owes, ServePlace, Some, source_own, source_word, SpiRepresents}
-use Terms.{SpiState, SpiTable, subst, sym, trio_of, true, word_of, word_place, World, ℕ}
+use Terms.{SpiState, SpiTable, subst, sym, trio_of, true, whether_as, word_of, word_place, World, ℕ}
 use Rattle.spi_serving.specs.laws.{services.ServeDecisions.{asks_load, footing}, words.FacingWords.{next_at}}
 use Rattle.spi_serving.specs.laws.{words.FacingWords.{next_channel, served_by, served_is, standing, way}}
 use Rattle.spi_serving.specs.laws.{words.FoundWord.{bank_small, known, pinned_bank_is, placed}}
@@ -24,11 +25,9 @@ or_may d made e = elim (is_shared made) as (λ q. q || may d made ≡ true) [ tr
 module _ (d : SpiTable) (fits : FitsSpi d) (below : Reservations) (chip : Chip) (w : World) (s : SpiState) (h : SpiRepresents d below chip w s) (u : ℕ) (few : u < 2) where
   -- the load that tells where a word goes
   may_ask : (c : ℕ) (k : Channel) → channel_of d c ≡ Some k → (i : ℕ) → may d (Load (asked_word (placed_of d c) i)) ≡ true
-  may_ask c k e i = by ((placed_of d c).channel.internal && i == 0) refl
-    where
-      by : (q : Bool) → ((placed_of d c).channel.internal && i == 0) ≡ q → may d (Load (if q then control_word (placed_of d c) Received else held_word (placed_of d c))) ≡ true
-      by true f = may_store d fits (control_word (placed_of d c) Received) 0 (banks_own d fits c k e (is_inside d fits c k e (and_parts (placed_of d c).channel.internal (i == 0) f).0) Received (control_word (placed_of d c) Received) (own-control (trio_of (placed_of d c) Received)))
-      by false f = may_store d fits (held_word (placed_of d c)) 0 (own_held d fits c k e)
+  may_ask c k e i = whether_as ((placed_of d c).channel.internal && i == 0) (λ q. may d (Load (if q then control_word (placed_of d c) Received else held_word (placed_of d c))) ≡ true)
+      (λ f. may_store d fits (control_word (placed_of d c) Received) 0 (banks_own d fits c k e (is_inside d fits c k e (and_parts (placed_of d c).channel.internal (i == 0) f).0) Received (control_word (placed_of d c) Received) (own-control (trio_of (placed_of d c) Received))))
+      (λ f. may_store d fits (held_word (placed_of d c)) 0 (own_held d fits c k e))
 
   -- the loads that find a word
   module _ (a : Arrived) (p : Position) (i : IsFurther d (word_of chip) s w.now u a p) where

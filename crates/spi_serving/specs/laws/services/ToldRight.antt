@@ -1,6 +1,6 @@
 -- The last words of a job's end: its result, what its sequence goes on with, and the order of its unit.
--- From service_outline: Words, services.FreedUnit.
--- Used by services.GoesOnRight, services.SequenceOverRight.
+-- From spi_sequences: words.NumbersApart, service_outline: Words, spi_sequences: words.PendingWords and 1 more.
+-- Used by services.GoesOnRight, services.SequenceOverRight, spi_sending: services.SendLast and 1 more.
 use Rattle.std.proofs.Common.{◌≡◌, ◌≢◌, ◌+◌, ◌<◌, ◌≤◌, ◌∙◌}
 use Rattle.spi_serving.specs.Terms
 use Terms.{ap, arith, Bool, Chip, chip_after, DiffersIn, Entry, false, from_order, holds-agree, List, NEXTS, not_order}

@@ -1,13 +1,13 @@
 -- A job has ended well and all that came in is readable: what is left are the words of its sequence.
--- From words.SidesApart, services.FreedUnit, words.AllKept, words.Positions, bookkeeping.Readable and 9 more.
--- Used by services.FailedEnded, services.JobLeft.
+-- From spi_sequences: words.WordsOfModule, words.SidesApart, services.FreedUnit, bookkeeping.Readable and 17 more.
+-- Used by services.FailedEnded, spi_sending: services.SendGoesOn, services.JobLeft.
 use Rattle.std.proofs.Common.{◌≡◌, ◌≢◌, ◌+◌, ◌<◌, ◌≤◌, ◌==◌, ◌&&◌, [], ◌∷◌, ◌∙◌, ◌⊎◌, if◌then◌else◌}
 use Rattle.spi_serving.specs.Terms
-use Terms.{Answer, ap, arith, Banks, banks_held, BanksAgree, Bool, Call, Channel, channel_at, channel_of, Chip}
-use Terms.{committing, Contains, Destination, destination_word, false, first_items, Goes, goes_by, goes_to_array}
-use Terms.{Going, has_channel, held_word, holds_debt, inl, inr, InternalAgrees, IsWordOf, JobWord, KeepsNone, length}
-use Terms.{length_by, List, nat_lt, nat_tests, no_word, None, none_in, none_readied, of_banks, of_held, of_one}
-use Terms.{of_set_up, of_sixteen, Option, Origin, other_number, own_low, own_of, Part, PartBy, past_the_first}
+use Terms.{Answer, ap, arith, Banks, banks_held, BanksAgree, Bool, Call, cases, Channel, channel_at, channel_of, Chip}
+use Terms.{committing, Contains, Destination, destination_word, false, few_places, first_items, Goes, goes_by}
+use Terms.{goes_to_array, Going, has_channel, held_word, holds_debt, inl, inr, InternalAgrees, IsWordOf, JobWord}
+use Terms.{KeepsNone, length, length_by, List, nat_lt, nat_tests, no_word, None, none_in, none_readied, of_banks}
+use Terms.{of_held, of_one, of_set_up, Option, Origin, other_number, own_low, own_of, Part, PartBy, past_the_first}
 use Terms.{place_of, Placed, placed_of, pointwise, prepares, put_held, PutRight, Received, refl, Run, running_word}
 use Terms.{same_number, same_or_other, Sent, set_up_by, set_up_word, SetUp, sides_apart, slice_get, slice_index_or}
 use Terms.{Some, some_is, Source, SOURCES, SpiState, stands-agree, STATE, subst, suc, sym, take_held, ToChannel}
@@ -47,15 +47,13 @@ module _ (st : ToServe) where
 
   -- a channel of the job is in none of another unit
   pub keeps_none : (n : ℕ) (x : Part) → slice_get g.parts n ≡ Some x → (m : ℕ) → m < 2 → KeepsNone (going_left st m) x.channel
-  keeps_none n x there m lt = by_other m lt (same_or_other m u)
+  keeps_none n x there m lt = cases (same_or_other m u)
+      (λ e. subst (λ o. KeepsNone o x.channel) (sym (ap (going_left st) e ∙ going_here h.going u None)) tt)
+      (λ ne. subst (λ o. KeepsNone o x.channel) (sym (going_other h.going u None m ne)) (other m lt ne (h.going m) refl))
     where
       other : (m : ℕ) → m < 2 → m ≢ u → (o : Option Going) → h.going m ≡ o → KeepsNone o x.channel
       other m lt ne None e = tt
       other m lt ne (Some k) e = λ j y part. absurd (ne (one_job d fits below chip w s h on u m g k few lt is e n j x y there part.0 part.1))
-
-      by_other : (m : ℕ) → m < 2 → (m ≡ u) ⊎ (m ≢ u) → KeepsNone (going_left st m) x.channel
-      by_other m lt (inl e) = subst (λ o. KeepsNone o x.channel) (sym (ap (going_left st) e ∙ going_here h.going u None)) tt
-      by_other m lt (inr ne) = subst (λ o. KeepsNone o x.channel) (sym (going_other h.going u None m ne)) (other m lt ne (h.going m) refl)
 
   module _ (at : At st g.at (length g.received)) (last : length g.received + 1 ≡ length (words_of d g.parts))
       (run : Run) (words_are : run.words ≡ words_of d g.parts) (received_are : run.received ≡ g.received) (out : SpiState) (brings : IsStored st run out)
@@ -100,11 +98,9 @@ module _ (st : ToServe) where
     -- words of a channel that are in no bank of what it receives
     module _ (n : ℕ) (k : Channel) (is_channel : channel_of d n ≡ Some k) where
       word_apart : (j : ℕ) → IsWordOf d n k j → ((placed_of d n).channel.internal ≡ true → trio.own_of (trio_of (placed_of d n) Received) j ≡ false) → Apart j
-      word_apart j word own m x there i = by (same_or_other n x.channel)
-        where
-          by : (n ≡ x.channel) ⊎ (n ≢ x.channel) → trio.own_of (trio_of (placed_of d x.channel) Received) j ≡ false
-          by (inl e) = subst (λ z. trio.own_of (trio_of (placed_of d z) Received) j ≡ false) e (own (ap (λ z. (placed_of d z).channel.internal) e ∙ i))
-          by (inr ne) = banks_of_one d fits x.channel (known m x there).0 (known m x there).1 (inner m x there i) Received n k j ne is_channel word
+      word_apart j word own m x there i = cases (same_or_other n x.channel)
+          (λ e. subst (λ z. trio.own_of (trio_of (placed_of d z) Received) j ≡ false) e (own (ap (λ z. (placed_of d z).channel.internal) e ∙ i)))
+          (λ ne. banks_of_one d fits x.channel (known m x there).0 (known m x there).1 (inner m x there i) Received n k j ne is_channel word)
 
       word_low : (j : ℕ) → IsWordOf d n k j → j < SOURCES
       word_low j word = own_low d fits j (own_of d fits n k is_channel j word)
@@ -158,13 +154,6 @@ module _ (st : ToServe) where
         ∙ ap (λ (x : JobWord). if goes_to_array n i x x.goes then v else word_at (channel_at s n).destination i) part_word
         ∙ ap (λ z. if goes_to_array n i (word_of_part st at.part g.at.word) z then v else word_at (channel_at s n).destination i) f
 
-    fewer : (n i : ℕ) → i < length_by (channel_of d n) → (n < 16) × (i < 64)
-    fewer n i lt = by (channel_of d n) refl lt
-      where
-        by : (o : Option Channel) → channel_of d n ≡ o → i < length_by o → (n < 16) × (i < 64)
-        by None e less = absurd (omega (arith, less))
-        by (Some k) e less = (of_sixteen d n k fits e, let most = (fits.channels n k e).few in omega (arith, less, most))
-
     was_there : (n i : ℕ) → i < length_by (channel_of d n) → (its.channel.internal ≡ false → place_of (Destination n) i ≢ destination_word its g.at.word) → word_of c (place_of (Destination n) i) ≡ word_at (channel_at s n).destination i
     was_there n i lt apart = same (place_of (Destination n) i) (users_apart (place_of (Destination n) i) (omega arith)) (λ q e. let low = held_low in omega (arith, low, e)) apart (λ e. omega (arith, e, few)) ∙ (h.arrays n).destination i lt
 
@@ -176,7 +165,7 @@ module _ (st : ToServe) where
         goes_is = a.goes ∙ ap (λ (z : SetUp). goes_by z.destination) (sym (held_back d fits u (word_of chip) g (for_at d fits below chip w s h on u g few is) (agrees_at d fits below chip w s h on u g few is) g.at.channel at.part at.there a))
 
         small : (n < 16) × (i < 64)
-        small = fewer n i lt
+        small = few_places d fits n i lt
 
         -- another word
         other : (to : Bool) → (unpacked (word_of chip (held_word its))).destination ≡ to → (n ≢ at.part.channel) ⊎ (i ≢ g.at.word) → word_of c (place_of (Destination n) i) ≡ word_at (channel_at out n).destination i

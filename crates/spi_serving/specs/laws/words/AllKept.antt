@@ -1,16 +1,16 @@
 -- A job's last word is kept: what its internal channels received becomes readable, one channel after the other.
--- From words.SidesApart, words.JoinedLists, bookkeeping.JobsApart, words.Positions, services.EndsOwed.
--- Used by words.LastKept, words.CommitWords, services.WellEnded, words.ReleasedPins, bookkeeping.Readable and 1 more.
+-- From spi_sequences: services.ServeSteps, words.SidesApart, words.JoinedLists, bookkeeping.JobsApart and 10 more.
+-- Used by words.LastKept, services.JobLeft, services.WellEnded, words.CommitWords and 4 more.
 use Rattle.std.proofs.Common.{◌≡◌, ◌≢◌, ◌+◌, ◌-◌, ◌<◌, ◌≤◌, ◌==◌, [], ◌∷◌, ◌++◌, ◌∙◌, ◌⊎◌, if◌then◌else◌}
 use Rattle.spi_serving.specs.Terms
-use Terms.{Answer, ap, AreThere, arith, bank_of, Banks, Bool, Channel, channel_at_place, channel_of, Chip, commit-ends}
-use Terms.{commit_at, commit_by, commit_last, commit_with, CommitsTo, committing, committing_of, DiffersIn, drop}
-use Terms.{false, first_internal, has_ended, held_word, inl, inr, is_number, is_some, IsPart, Leaving, length, length-append}
-use Terms.{length-take-le, List, may_store, Memory, named_own, nat_lt, nat_tests, next_job, None, Option, own_held}
-use Terms.{own_low, Part, PartBy, PartTo, PendingWrites, placed_of, Put, put_gave, put_left, PutIn, Putting, putting, Received}
-use Terms.{refl, same_or_other, serve_commits, serve_owes, ServePlace, settles_part, slice_get, Some, some_is}
-use Terms.{spi_owing, SpiTable, stands-agree, stands_owed, StandsIn, subst, suc, sym, take, take_held, trio_of}
-use Terms.{TripleBuffer, true, word_of, words_before, words_of, ℕ}
+use Terms.{Answer, ap, AreThere, arith, bank_of, Banks, Bool, Channel, channel_at_place, channel_of, Chip}
+use Terms.{commit-ends, commit_at, commit_by, commit_last, commit_with, CommitsTo, committing, committing_of}
+use Terms.{DiffersIn, drop, false, first_internal, has_ended, held_word, inl, inr, is_number, is_some, IsPart}
+use Terms.{Leaving, length, length-append, length-take-le, List, may_store, Memory, named_own, nat_lt, nat_tests}
+use Terms.{next_job, None, Option, own_held, own_low, Part, PartBy, PartTo, PendingWrites, placed_of, Put, put_gave}
+use Terms.{put_left, PutIn, Putting, putting, Received, refl, same_or_other, serve_commits, serve_owes, ServePlace}
+use Terms.{settles_part, slice_get, Some, some_is, spi_owing, SpiTable, stands-agree, stands_owed, StandsIn, subst}
+use Terms.{suc, sym, take, take_held, trio_of, TripleBuffer, true, whether_as, word_of, words_before, words_of, ℕ}
 use Rattle.spi_serving.specs.laws.{bookkeeping.JobsApart.{agrees_at, for_at, one_part}, services.EndsOwed.{end_to, OwesEnds, OwesPut}}
 use Rattle.spi_serving.specs.laws.{words.JoinedLists.{before-all, before-less, before-next, dropped-count, get_within}}
 use Rattle.spi_serving.specs.laws.{words.Positions.{channel_there, part_known, words_count}}
@@ -200,8 +200,6 @@ module _ (st : ToServe) (v : ℕ) where
           pub commit_one : l.served.run.job ≡ next_job d g.pending → (n ≡ l.served.at.channel → (bank : ℕ) × (l.taker ≡ takers.Bank bank) × (bank ≡ word_of c (held_word (placed_of d x.channel)))) → Owes (serve.Commit l n (commit_at d l n)) c
           commit_one job_is taken =
               subst (λ z. Owes (serve.Commit l n (commit_with z (n == l.served.at.channel) l.taker)) c) (sym (ap (λ j. channel_at_place d j n) job_is ∙ channel_there d fits u (word_of chip) g (for_at d fits below chip w s h on u g few is) (agrees_at d fits below chip w s h on u g few is) n x at))
-              (by (n == l.served.at.channel) refl)
-            where
-              by : (q : Bool) → (n == l.served.at.channel) ≡ q → Owes (serve.Commit l n (commit_with (placed_of d x.channel) q l.taker)) c
-              by true k = let z = taken (is_number n l.served.at.channel k) in subst (λ y. Owes (serve.Commit l n (commit_with (placed_of d x.channel) true y)) c) (sym z.1) (commit_put z.0 (z.2 ∙ r.held))
-              by false k = commit_held
+              (whether_as (n == l.served.at.channel) (λ q. Owes (serve.Commit l n (commit_with (placed_of d x.channel) q l.taker)) c)
+              (λ k. let z = taken (is_number n l.served.at.channel k) in subst (λ y. Owes (serve.Commit l n (commit_with (placed_of d x.channel) true y)) c) (sym z.1) (commit_put z.0 (z.2 ∙ r.held)))
+              (λ k. commit_held))

@@ -1,12 +1,11 @@
 -- A job's last word is kept: the internal channels at its places follow one another, each with its moves.
--- From words.AllKept, bookkeeping.JobsApart, words.Positions, ToServe.
--- Used by words.ReleasedPins, services.FailedEnded, services.WellEnded, words.LastKept, services.JobLeft.
+-- From words.AllKept, spi_sequences: services.ServeSteps, bookkeeping.JobsApart, words.Positions and 2 more.
+-- Used by spi_sending: services.SendKeeps, services.JobLeft, words.ReleasedPins and 5 more.
 use Rattle.std.proofs.Common.{◌≡◌, ◌+◌, ◌-◌, ◌≤◌, [], ◌∷◌, ◌∙◌, if◌then◌else◌}
 use Rattle.spi_serving.specs.Terms
-use Terms.{ap, arith, Bool, channel_number, Chip, CommitsTo, false, first_internal, held_word}
-use Terms.{List, list_of, map, meets_at, nat_lt, nat_tests, next_job, None}
-use Terms.{Option, Part, PendingWrites, placed_of, refl, Served, slice_get, Some, some_is, spi_owing, subst, suc}
-use Terms.{sym, true, word_of, zero, ℕ}
+use Terms.{ap, arith, Bool, channel_number, Chip, CommitsTo, false, first_internal, held_word, List, list_of, map}
+use Terms.{meets_at, nat_lt, nat_tests, next_job, None, Option, Part, PendingWrites, placed_of, refl, Served}
+use Terms.{slice_get, Some, some_is, some_or_none, spi_owing, subst, suc, sym, true, word_of, zero, ℕ}
 use Rattle.spi_serving.specs.laws.{words.AllKept.{AllKept, ReceivedAt, lt_else, unheld}}
 use Rattle.spi_serving.specs.laws.bookkeeping.JobsApart.{agrees_at, for_at}
 use Rattle.spi_serving.specs.laws.{words.Positions.{list_channels, number_there}, ToServe.{ToServe}}
@@ -77,7 +76,9 @@ module _ (st : ToServe) (v : ℕ) (b : Chip) (served : Served) (job_is : served.
 
       pub commits_owed : (m n : ℕ) → n + m ≡ 4 → (c : Chip) → On (upto n) c → Owes (first_internal d served m) c
       commits_owed zero n four c a = onward c (subst (λ k. On (upto k) c) (let same : n ≡ 4 = omega (arith, four) in same) a)
-      commits_owed (suc m) n four c a = by (commits_owed m (suc n) (omega (arith, four))) (slice_get g.parts n) refl
+      commits_owed (suc m) n four c a = some_or_none (slice_get g.parts n)
+          (λ x f. there (commits_owed m (suc n) (omega (arith, four))) x f (is_inside x) refl)
+          (λ f. skip (commits_owed m (suc n) (omega (arith, four))) (meets_none n f) (λ x at. absurd (let k = sym f ∙ at in cc)))
         where
           More : Type 0
           More = (c1 : Chip) → On (upto (suc n)) c1 → Owes (first_internal d served m) c1
@@ -89,7 +90,3 @@ module _ (st : ToServe) (v : ℕ) (b : Chip) (served : Served) (job_is : served.
           there more x at false f = skip more (meets_some n x at ∙ f) (λ z bt. ap is_inside (some_is z x (sym bt ∙ at)) ∙ f)
           there more x at true f = subst (λ o. Owes o c) (sym (first_is m n four true (meets_some n x at ∙ f)))
               (one n x at f c a (λ c1 a1. subst (λ k. Owes (first_internal d served k) c1) (let same : m ≡ 3 - n = omega (arith, four) in same) (more c1 a1)))
-
-          by : More → (o : Option Part) → slice_get g.parts n ≡ o → Owes (first_internal d served (suc m)) c
-          by more None f = skip more (meets_none n f) (λ x at. absurd (let k = sym f ∙ at in cc))
-          by more (Some x) f = there more x f (is_inside x) refl

@@ -1,6 +1,6 @@
 -- The word that is served and the one after it, as the unit's words have their places: they are the machine's.
--- From words.Positions, bookkeeping.UnderWay.
--- Used by services.FurtherRight, services.ServeMoves, services.JobOverRight, words.FoundWord and 3 more.
+-- From words.Positions, spi_sequences: services.ServeSteps, bookkeeping.UnderWay.
+-- Used by services.FurtherRight, services.ServeMoves, words.FoundWord, services.JobLeft and 9 more.
 use Rattle.std.proofs.Common.{◌≡◌, ◌+◌, ◌<◌, ◌≤◌, ◌&&◌, ◌∷◌, [], ◌∙◌, if◌then◌else◌}
 use Rattle.spi_serving.specs.Terms
 use Terms.{after_word, ap, arith, Arrived, asked_word, begins_by, Bool, channel_at_place, channel_next, channel_served}

@@ -1,5 +1,5 @@
 -- The word that is found of a further one is the machine's.
--- From words.Positions, words.FacingWords, bookkeeping.JobsApart, bookkeeping.UnderWay.
+-- From words.Positions, words.FacingWords, spi_sequences: words.WordsOfModule, bookkeeping.JobsApart and 1 more.
 -- Used by services.ServeDecisions, services.ServeMoves, services.FurtherRight.
 use Rattle.std.proofs.Common.{◌≡◌, ◌+◌, ◌*◌, ◌%◌, ◌^◌, ◌<◌, ◌≤◌, ◌∙◌, if◌then◌else◌}
 use Rattle.spi_serving.specs.Terms

@@ -1,5 +1,5 @@
 -- Lists that are joined of parts: what stands where.
--- Used by words.Positions, bookkeeping.MovedOn, words.LastKept, words.AllKept, bookkeeping.Readable and 5 more.
+-- Used by words.Positions, bookkeeping.MovedOn, words.LastKept, words.AllKept, bookkeeping.Readable and 7 more.
 use Rattle.std.proofs.Common.{◌≡◌, ◌+◌, ◌-◌, ◌<◌, ◌≤◌, [], ◌∷◌, ◌++◌, ◌∙◌}
 use Rattle.spi_serving.specs.Terms
 use Terms.{ap, arith, drop, enumerate_from, flat_map, flat_map-cons, get_or-append-add, get_or_append_left, length}

@@ -1,16 +1,16 @@
 -- The words of the channels of a job that moves on: the pin that ends, and the word that is kept.
--- From words.SidesApart, bookkeeping.PinsTurned, bookkeeping.JobsApart, service_outline: Words and 4 more.
--- Used by services.FurtherRight, words.LastKept.
+-- From spi_sequences: words.WordsOfModule, bookkeeping.PinsTurned, words.SidesApart and 10 more.
+-- Used by services.FurtherRight, words.LastKept, spi_sending: services.SendFurther, services.FurtherServed.
 use Rattle.std.proofs.Common.{◌≡◌, ◌≢◌, ◌+◌, ◌%◌, ◌<◌, ◌==◌, [], ◌∷◌, ◌++◌, ◌∙◌, ◌⊎◌, if◌then◌else◌}
 use Rattle.spi_serving.specs.Terms
-use Terms.{ap, arith, bank_of, bank_word, Banks, BanksAgree, Bool, Channel, channel_of, Chip, chip_after, chooses}
-use Terms.{choosing, control_word, destination_word, false, filling, fills, free, free_bank, Going, has_channel}
-use Terms.{held_word, inl, inr, IsWordOf, length, List, nat_lt, None, not, of_held, of_one, of_set_up, Option}
-use Terms.{other_number, own-control, own-word, own_held, own_low, own_of, packed_position, past_the_first, place_of}
-use Terms.{Placed, placed_of, Position, position_word, put_held, PutIn, PutRight, Putting, Received, received_of, refl}
-use Terms.{releases, same_or_other, Sent, set_up_by, set_up_word, sides_apart, Some, Source, SOURCES, stands-agree}
-use Terms.{stands-move, stands_by_store, StandsIn, STATE, Store, stored_other, stored_same, subst, sym, TakeRight}
-use Terms.{trio_of, TripleBuffer, true, used, view, word_of, WORDS, ℕ}
+use Terms.{ap, arith, bank_of, bank_word, Banks, BanksAgree, Bool, cases, Channel, channel_of, Chip, chip_after}
+use Terms.{chooses, choosing, control_word, destination_word, false, filling, fills, free, free_bank, Going}
+use Terms.{has_channel, held_word, inl, inr, IsWordOf, length, List, nat_lt, None, not, of_held, of_one, of_set_up}
+use Terms.{Option, other_number, own-control, own-word, own_held, own_low, own_of, packed_position, past_the_first}
+use Terms.{place_of, Placed, placed_of, Position, position_word, put_held, PutIn, PutRight, Putting, Received}
+use Terms.{received_of, refl, releases, same_or_other, Sent, set_up_by, set_up_word, sides_apart, Some, Source}
+use Terms.{SOURCES, stands-agree, stands-move, stands_by_store, StandsIn, STATE, Store, stored_other, stored_same}
+use Terms.{subst, sym, TakeRight, trio_of, TripleBuffer, true, used, view, word_of, WORDS, ℕ}
 use Rattle.word_shapes.specs.{Banks.{releasing}, Playing.{stored}}
 use Rattle.spi_serving.specs.laws.{bookkeeping.JobsApart.{agrees_at, for_at, is_kept}}
 use Rattle.spi_serving.specs.laws.{services.FurtherBegun.{WordsAfter}, bookkeeping.MovedOn.{received_length}}
@@ -170,11 +170,9 @@ module _ (st : ToServe) (at : At st st.g.at (length st.g.received)) (p : Positio
       own_same j own = l.others j (λ i. by i)
         where
           by : there.channel.internal ≡ true → trio.own_of (trio_of there Sent) j ≡ false
-          by i = split (same_or_other next.part.channel at.part.channel)
-            where
-              split : (next.part.channel ≡ at.part.channel) ⊎ (next.part.channel ≢ at.part.channel) → trio.own_of (trio_of there Sent) j ≡ false
-              split (inl e) = subst (λ n. trio.own_of (trio_of (placed_of d n) Sent) j ≡ false) (sym e) (sides_apart here Sent j own)
-              split (inr ne) = banks_of_one d fits next.part.channel there_known.0 there_known.1 (there_inside i) Sent at.part.channel here_known.0 j (λ f. ne (sym f)) here_known.1 (banks_words d fits at.part.channel here_known.0 here_known.1 (here_inside internal) Received j own)
+          by i = cases (same_or_other next.part.channel at.part.channel)
+              (λ e. subst (λ n. trio.own_of (trio_of (placed_of d n) Sent) j ≡ false) (sym e) (sides_apart here Sent j own))
+              (λ ne. banks_of_one d fits next.part.channel there_known.0 there_known.1 (there_inside i) Sent at.part.channel here_known.0 j (λ f. ne (sym f)) here_known.1 (banks_words d fits at.part.channel here_known.0 here_known.1 (here_inside internal) Received j own))
 
       held_same : word_of c (held_word here) ≡ word_of chip (held_word here)
       held_same = l.others (held_word here) (λ i. banks_unheld d fits next.part.channel there_known.0 there_known.1 (there_inside i) Sent at.part.channel here_known.0 here_known.1)

@@ -1,6 +1,6 @@
 -- The last word of a job is kept, by its channel.
--- From words.AllKept, words.JoinedLists, bookkeeping.JobsApart, words.KeepingWords, words.SidesApart and 7 more.
--- Used by services.WellEnded, services.JobLeft.
+-- From spi_sequences: words.WordsOfModule, words.JoinedLists, words.AllKept, bookkeeping.JobsApart and 13 more.
+-- Used by services.JobLeft, services.WellEnded, spi_sending: bookkeeping.AsFreed, spi_sending: services.SendKeeps.
 use Rattle.std.proofs.Common.{◌≡◌, ◌≢◌, ◌+◌, ◌<◌, ◌≤◌, ◌==◌, [], ◌∷◌, ◌++◌, ◌∙◌, ◌⊎◌, if◌then◌else◌}
 use Rattle.spi_serving.specs.Terms
 use Terms.{ap, arith, bank_of, bank_word, Banks, BanksAgree, Bool, Channel, channel_of, Chip, chip_after, chooses}

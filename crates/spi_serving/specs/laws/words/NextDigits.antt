@@ -1,22 +1,11 @@
 -- The next job of a sequence in its word, with another place: the others' stay.
--- Used by words.NextWords.
+-- From spi_sequences: words.SequenceDigits, spi_sequences: words.ListTests.
+-- Used by spi_sending: services.SendGoesOn, spi_sending: services.SendStarts, words.NextWords.
 use Rattle.std.proofs.Common.{◌≡◌, ◌≢◌, ◌*◌, ◌/◌, ◌%◌, ◌^◌, ◌<◌, ◌==◌, ◌∙◌, if◌then◌else◌}
 use Rattle.spi_serving.specs.Terms
-use Terms.{and_le_l, and_le_r, ap, arith, bit_and, bit_or, first_other, first_same, next_in, or_disjoint, or_mod}
-use Terms.{or_shr, other_number, same_number, suc, sym, with_next_in, zero, zero-div, ℕ}
+use Terms.{and_le_l, and_le_r, ap, arith, bit_and, bit_or, by_eight, first_other, first_same, next_in, or_disjoint}
+use Terms.{or_mod, or_shr, other_number, same_number, sym, with_next_in, zero-div, ℕ}
 use Rattle.mcal_base.specs.Bits.{without}
-
--- one of eight
-by_eight : (P : ℕ → Type 0) → P 0 → P 1 → P 2 → P 3 → P 4 → P 5 → P 6 → P 7 → (k : ℕ) → k < 8 → P k
-by_eight P a b c d e f g h zero lt = a
-by_eight P a b c d e f g h (suc zero) lt = b
-by_eight P a b c d e f g h (suc (suc zero)) lt = c
-by_eight P a b c d e f g h (suc (suc (suc zero))) lt = d
-by_eight P a b c d e f g h (suc (suc (suc (suc zero)))) lt = e
-by_eight P a b c d e f g h (suc (suc (suc (suc (suc zero))))) lt = f
-by_eight P a b c d e f g h (suc (suc (suc (suc (suc (suc zero)))))) lt = g
-by_eight P a b c d e f g h (suc (suc (suc (suc (suc (suc (suc zero))))))) lt = h
-by_eight P a b c d e f g h (suc (suc (suc (suc (suc (suc (suc (suc k)))))))) lt = absurd (omega (arith, lt))
 
 module _ (i : ℕ) (few : i < 16) where
   -- a place among the digits of another sequence, and of its own

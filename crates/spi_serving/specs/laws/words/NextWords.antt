@@ -1,14 +1,14 @@
 -- A sequence that goes on to its next job: the words of sequences and jobs.
--- From bookkeeping.NextJob, words.NextDigits.
--- Used by services.GoesOnRight.
-use Rattle.std.proofs.Common.{◌≡◌, ◌≢◌, ◌+◌, ◌<◌, ◌≤◌, ◌%◌, ◌∙◌, ◌⊎◌}
+-- From bookkeeping.NextJob, words.NextDigits, spi_sequences: words.AllSequences, spi_sequences: words.Cases and 2 more.
+-- Used by spi_sending: services.SendGoesOn, services.GoesOnRight.
+use Rattle.std.proofs.Common.{◌≡◌, ◌≢◌, ◌+◌, ◌<◌, ◌≤◌, ◌%◌, ◌∙◌}
 use Rattle.spi_serving.specs.Terms
-use Terms.{all_of, all_pending, AnswerName, ap, arith, Bool, cancelled_bit, Chip, Contains, entries_of, false, FitsSpi}
-use Terms.{goes_to_next, has_mark, inl, inr, is_left, is_off, is_sync_unit, item-other, item-same, job_code}
-use Terms.{job_result, job_small, job_word, jobs_by, jobs_of, length, length-take-le, list_any, MARKS, Memory, next_in}
-use Terms.{next_job, NEXTS, None, one_place, Option, order_word, Pending, PendingAgrees, refl, Reservations}
-use Terms.{same_or_other, Sequence, sequence_of, sequence_word, SequencesAgree, slice_index_or, Some, SpiJobOk}
-use Terms.{SpiRepresents, SpiState, SpiTable, started_bit, sym, true, view, with_next_in, word_of, World, ℕ}
+use Terms.{all_of, all_pending, AnswerName, ap, arith, Bool, cancelled_bit, cases, Chip, Contains, entries_of, false}
+use Terms.{FitsSpi, goes_to_next, has_mark, is_off, is_sync_unit, item-other, item-same, job_code, job_result}
+use Terms.{job_small, job_word, jobs_by, jobs_of, length, length-take-le, MARKS, Memory, next_in, next_job, NEXTS}
+use Terms.{None, one_place, Option, order_word, Pending, PendingAgrees, refl, Reservations, same_or_other, Sequence}
+use Terms.{sequence_of, sequence_word, SequencesAgree, slice_index_or, Some, SpiJobOk, SpiRepresents, SpiState}
+use Terms.{SpiTable, started_bit, sym, true, view, with_next_in, word_of, World, ℕ}
 use Rattle.spi_sequences.specs.Refinement.{IsLast}
 use Rattle.spi_serving.specs.laws.words.NextDigits.{next_other, next_same}
 use Rattle.spi_serving.specs.laws.bookkeeping.NextJob.{begun_there, each_entry, each_of_all, next_view, none_left, not_of_other}
@@ -64,10 +64,8 @@ module _ (d : SpiTable) (fits : FitsSpi d) (below : Reservations) (chip : Chip) 
     begun = λ u x e. let r = begun_there d fits below chip w s h p there more good running idle over others few calm on result last u x e in
         ap (λ v. next_in v x.sequence) nexts ∙ next_other (p.next + 1) (let most = jobs_few d fits p.sequence in omega (arith, more, most)) (word_of chip NEXTS) p.sequence x.sequence (apart x r.0 r.1) ∙ was.begun u x e;
     had = λ x i at le lt. each_of_all d fits below chip w s h p there more good running idle over others few calm on result last Had had_own had_other x at i le lt;
-    jobs = λ j lt none. job_by j lt none (same_or_other j (next_job d p));
+    jobs = λ j lt none. cases (same_or_other j (next_job d p))
+        (λ e. ap (λ k. m1 (job_word k)) e ∙ told ∙ ap job_code (sym (item-same SpiJobOk s.job_results (next_job d p) result)) ∙ ap (λ k. job_code (job_result (next_view d fits below chip w s h p there more good running idle over others few calm on result last).job_results k)) (sym e))
+        (λ ne. job_words j lt ne ∙ was.jobs j lt (none_left d fits below chip w s h p there more good running idle over others few calm on result last j ne none) ∙ ap job_code (sym (item-other SpiJobOk s.job_results (next_job d p) j result ne)));
     orders = orders;
   }
-    where
-      job_by : (j : ℕ) → j < 16 → list_any (is_left d j) (all_of (next_view d fits below chip w s h p there more good running idle over others few calm on result last)) ≡ false → (j ≡ next_job d p) ⊎ (j ≢ next_job d p) → m1 (job_word j) ≡ job_code (job_result (next_view d fits below chip w s h p there more good running idle over others few calm on result last).job_results j)
-      job_by j lt none (inl e) = ap (λ k. m1 (job_word k)) e ∙ told ∙ ap job_code (sym (item-same SpiJobOk s.job_results (next_job d p) result)) ∙ ap (λ k. job_code (job_result (next_view d fits below chip w s h p there more good running idle over others few calm on result last).job_results k)) (sym e)
-      job_by j lt none (inr ne) = job_words j lt ne ∙ was.jobs j lt (none_left d fits below chip w s h p there more good running idle over others few calm on result last j ne none) ∙ ap job_code (sym (item-other SpiJobOk s.job_results (next_job d p) j result ne))

@@ -1,6 +1,6 @@
 -- Where words of a job under way stand: which is at a place of its parts, and which place comes after it.
--- From words.JoinedLists.
--- Used by words.FacingWords, services.FurtherRight, words.FoundWord, services.WellEnded and 13 more.
+-- From words.JoinedLists, spi_sequences: services.ServeSteps, spi_sequences: words.ListTests and 2 more.
+-- Used by words.FacingWords, services.FurtherRight, words.FoundWord, spi_sending: bookkeeping.HeldWord and 16 more.
 use Rattle.std.proofs.Common.{◌≡◌, ◌+◌, ◌*◌, ◌/◌, ◌%◌, ◌<◌, ◌≤◌, ◌==◌, ◌&&◌, ◌||◌, ◌∙◌, if◌then◌else◌}
 use Rattle.spi_serving.specs.Terms
 use Terms.{after_word, ap, arith, as_words, asked_word, bank_of, Bool, Channel, channel_at_place, channel_number}

@@ -1,17 +1,17 @@
 -- A job has failed: the pins of its channels end, one after the other, where they still stand.
--- From words.SidesApart, bookkeeping.JobsApart, words.Positions, words.AllKept, words.CommitWords and 3 more.
+-- From spi_sequences: services.ServeSteps, words.SidesApart, bookkeeping.JobsApart, words.Positions and 10 more.
 -- Used by services.FailedEnded, services.JobLeft.
 use Rattle.std.proofs.Common.{◌≡◌, ◌≢◌, ◌+◌, ◌-◌, ◌≤◌, ◌==◌, ◌&&◌, ◌||◌, ◌∙◌, ◌⊎◌, [], if◌then◌else◌}
 use Rattle.spi_serving.specs.Terms
-use Terms.{Answer, ap, AreThere, arith, Banks, BanksAgree, Bool, Channel, channel_at_place, channel_number, channel_of}
-use Terms.{Chip, CommitsTo, DiffersIn, false, first_items, first_pinned, Going, has_channel, inl, inr, InternalAgrees}
-use Terms.{is_last_place, is_pinned_at, is_some, is_to_begin, IsPart, Leaving, length, list_of, lt_itself, lt_next}
-use Terms.{meets_at, Memory, named_own, nat_le, nat_lt, nat_tests, next_job, None, not, Option, own_low, Part, PartBy}
-use Terms.{PartTo, PendingWrites, Pins, Placed, placed_of, Position, prepares, put_held, refl, release-ends}
-use Terms.{release_by, release_last, releasing_of, running_word, same_or_other, Sent, serve_owes, serve_releases}
-use Terms.{ServePlace, settles_part, slice_get, Some, some_is, spi_owing, SpiTable, stands-agree, stands_owed}
-use Terms.{StandsIn, subst, suc, sym, Take, take_gave, TakeRight, Taking, taking, trio_of, TripleBuffer, true, view}
-use Terms.{word_of, zero, ℕ}
+use Terms.{Answer, ap, AreThere, arith, Banks, BanksAgree, Bool, Channel, channel_at_place, channel_number}
+use Terms.{channel_of, Chip, CommitsTo, DiffersIn, false, first_items, first_pinned, Going, has_channel, inl, inr}
+use Terms.{InternalAgrees, is_last_place, is_pinned_at, is_some, is_to_begin, IsPart, Leaving, length, list_of}
+use Terms.{lt_itself, lt_next, meets_at, Memory, named_own, nat_le, nat_lt, nat_tests, next_job, None, not, Option}
+use Terms.{own_low, Part, PartBy, PartTo, PendingWrites, Pins, Placed, placed_of, Position, prepares, put_held, refl}
+use Terms.{release-ends, release_by, release_last, releasing_of, running_word, same_or_other, Sent, serve_owes}
+use Terms.{serve_releases, ServePlace, settles_part, slice_get, Some, some_is, some_or_none, spi_owing, SpiTable}
+use Terms.{stands-agree, stands_owed, StandsIn, subst, suc, sym, Take, take_gave, TakeRight, Taking, taking, trio_of}
+use Terms.{TripleBuffer, true, view, word_of, zero, ℕ}
 use Rattle.word_shapes.specs.Banks.{releasing}
 use Rattle.spi_serving.specs.laws.{words.AllKept.{lt_else}, bookkeeping.JobsApart.{agrees_at, for_at}}
 use Rattle.spi_serving.specs.laws.{bookkeeping.JobsApart.{is_same, one_part}, words.CommitWords.{none_mapped, upto}}
@@ -223,7 +223,9 @@ module _ (st : ToServe) (fc : Chip) (freed : IsFree st.d st.w st.chip st.u fc) w
 
       pub releases_owed : (m n : ℕ) → n + m ≡ 4 → (c : Chip) → AllLet (upto n) c → Owes (release_last d l m) c
       releases_owed zero n four c a = onward c (subst (λ k. AllLet (upto k) c) (let same : n ≡ 4 = omega (arith, four) in same) a)
-      releases_owed (suc m) n four c a = by (releases_owed m (suc n) (omega (arith, four))) (slice_get g.parts n) refl
+      releases_owed (suc m) n four c a = some_or_none (slice_get g.parts n)
+          (λ x f. one (releases_owed m (suc n) (omega (arith, four))) x f (pinned_by n x) refl)
+          (λ f. skip (releases_owed m (suc n) (omega (arith, four))) (meets_none n f) (λ x at i. absurd (let k = sym f ∙ at in cc)))
         where
           More : Type 0
           More = (c1 : Chip) → AllLet (upto (suc n)) c1 → Owes (release_last d l m) c1
@@ -236,7 +238,3 @@ module _ (st : ToServe) (fc : Chip) (freed : IsFree st.d st.w st.chip st.u fc) w
           one more x at true f = subst (λ q. Owes q c) (sym (first_is m n four true (meets_some n x at ∙ f)))
               (release_one n x at (and_first (placed_of d x.channel).channel.internal (not (n == g.at.channel && is_last_place (placed_of d x.channel) g.at.word)) f) job_is c a
               (λ c1 a1. subst (λ k. Owes (release_last d l k) c1) (let same : m ≡ 3 - n = omega (arith, four) in same) (more c1 a1)))
-
-          by : More → (o : Option Part) → slice_get g.parts n ≡ o → Owes (release_last d l (suc m)) c
-          by more None f = skip more (meets_none n f) (λ x at i. absurd (let k = sym f ∙ at in cc))
-          by more (Some x) f = one more x f (pinned_by n x) refl

@@ -1,4 +1,5 @@
 -- The words of one side of an internal channel stand apart from others.
+-- From spi_sequences: words.SideWords, spi_sequences: words.WordsOfModule.
 -- Used by words.KeepingWords, services.WellEnded, services.FailedEnded, words.AllKept, words.ReleasedPins and 3 more.
 use Rattle.std.proofs.Common.{◌≡◌, ◌≢◌, ◌+◌, ◌<◌, ◌≤◌, ◌∙◌}
 use Rattle.spi_serving.specs.Terms

@@ -1,5 +1,6 @@
 -- What a start chooses: the pending sequence, the first channel of its next job, and that a look at the order finds it.
--- Used by services.StartRight, services.StartWords, services.ReadyOwed, words.BegunWords.
+-- From spi_sequences: bookkeeping.SequenceEnded, spi_sequences: bookkeeping.NextChosen, spi_sequences: words.SameWords.
+-- Used by services.StartRight, spi_sending: services.SendFree, services.ReadyOwed, services.StartWords and 2 more.
 use Rattle.std.proofs.Common.{◌≡◌, ◌<◌, [], ◌∷◌, ◌∙◌}
 use Rattle.spi_starting.specs.Terms
 use Terms.{ap, arith, best, best_in, Channel, channel_at_place, channel_number, channels_by, channels_of, Contains}

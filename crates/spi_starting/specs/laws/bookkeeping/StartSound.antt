@@ -1,4 +1,5 @@
 -- The job of a pending sequence runs: the state is as sound as it was, and the words of sequences stand for it.
+-- From spi_sequences: words.AllSequences, spi_sequences: words.ListTests and 4 more.
 -- Used by words.UnitWords, bookkeeping.UnitsGoOn.
 use Rattle.std.proofs.Common.{◌≡◌, ◌≢◌, ◌<◌, ◌≤◌, ◌==◌, ◌&&◌, [], ◌∷◌, ◌∙◌, ◌⊎◌, if◌then◌else◌}
 use Rattle.spi_starting.specs.Terms

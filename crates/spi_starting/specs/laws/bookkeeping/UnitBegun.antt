@@ -1,6 +1,6 @@
 -- The unit has the first word of its job in transfer, under its device; the other unit stays.
--- From bookkeeping.RanState, bookkeeping.UnitsGoOn, ToStart.
--- Used by services.StartRight, words.UnitWords, services.StartBegun, services.StartWords.
+-- From bookkeeping.RanState, bookkeeping.UnitsGoOn, spi_sequences: words.FirstParts, ToStart.
+-- Used by words.UnitWords, services.StartRight, services.StartBegun, services.StartWords.
 use Rattle.std.proofs.Common.{◌≡◌, ◌≢◌, ◌%◌, ◌^◌, ◌<◌, ◌≤◌, [], ◌∙◌, ◌⊎◌}
 use Rattle.spi_starting.specs.Terms
 use Terms.{ap, arith, carried_at, CarriesAgrees, Chip, false, first_word, get_or-set_other, get_or-set_same, Going}

@@ -1,16 +1,16 @@
 -- A free unit selects a device and takes a width, and a frame that owes it a start owes it no more: the agreement
 -- stays.
--- From bookkeeping.RanState.
--- Used by services.StartRight.
+-- From spi_sequences: words.PendingWords, spi_sequences: bookkeeping.ClearedUnit and 5 more.
+-- Used by services.StartRight, spi_sending: services.SendSteps.
 use Rattle.std.proofs.Common.{◌≡◌, ◌≢◌, ◌+◌, ◌<◌, ◌||◌, ◌∷◌, ◌∙◌, ◌⊎◌}
 use Rattle.spi_starting.specs.Terms
-use Terms.{Answer, ap, AreOwed, arith, Call, carried_at, CarriesAgrees, Chip, chip_after, cleared_of, clears, Contains}
-use Terms.{Destination, false, FitsSpi, get_or-set_other, get_or-set_same, Going, going_run, has_bit, held_word}
-use Terms.{holds_back, holds_changed, holds_debt, idle, inl, inr, is_for, is_owed, is_sync_unit, length, length-set}
-use Terms.{None, Option, Origin, other_number, Pending, place_of, placed_of, refl, Reservations, run_at, run_carried}
-use Terms.{same_or_other, sends_as, Serial, SerialSelect, SerialWidth, set_up_word, slice_index, slice_index_or}
-use Terms.{slice_set, Some, Source, SpiRepresents, SpiState, SpiTable, stands-move, StandsIn, subst, sym, true}
-use Terms.{unit_at, UnitAgrees, view, WordsAgree, World, Write, ℕ}
+use Terms.{Answer, ap, AreOwed, arith, Call, carried_at, CarriesAgrees, cases, Chip, chip_after, cleared_of, clears}
+use Terms.{Contains, Destination, false, FitsSpi, get_or-set_other, get_or-set_same, Going, going_run, has_bit}
+use Terms.{held_word, holds_back, holds_changed, holds_debt, idle, inl, inr, is_for, is_owed, is_sync_unit, length}
+use Terms.{length-set, None, Option, Origin, other_number, Pending, place_of, placed_of, refl, Reservations, run_at}
+use Terms.{run_carried, same_or_other, sends_as, Serial, SerialSelect, SerialWidth, set_up_word, slice_index}
+use Terms.{slice_index_or, slice_set, Some, Source, SpiRepresents, SpiState, SpiTable, stands-move, StandsIn, subst}
+use Terms.{sym, true, unit_at, UnitAgrees, view, WordsAgree, World, Write, ℕ}
 use Rattle.spi_starting.specs.laws.bookkeeping.RanState.{debt_of}
 
 module _ (d : SpiTable) (held : Reservations) (chip : Chip) (w : World) (s : SpiState) (h : SpiRepresents d held chip w s) (u : ℕ) (free : h.going u ≡ None) (x : Serial) (word : x.word ≡ (unit_at chip.serials u).word) where
@@ -83,11 +83,9 @@ module _ (d : SpiTable) (fits : FitsSpi d) (below : Reservations) (owner : Origi
   paid none = clears d below chip w s u owner acted fits (holds_changed d held below chip w s h (holds_back d below held (holds_debt d (debt_of u owner acted) u below refl)) h.right.1 h.sending.1 h.carriers owed) (λ q free there for. none q (goes_none free) there for)
     where
       owed : AreOwed d below h.going s
-      owed n q lt free there for = by (same_or_other n u)
-        where
-          by : (n ≡ u) ⊎ (n ≢ u) → is_owed n below ≡ true
-          by (inl e) = absurd (none q (ap h.going (sym e) ∙ free) there (subst (λ k. is_for d k q ≡ true) e for))
-          by (inr ne) = ap (λ b. b || is_owed n below) (sym (other_number u n (λ e. ne (sym e)))) ∙ h.owed n q lt free there for
+      owed n q lt free there for = cases (same_or_other n u)
+          (λ e. absurd (none q (ap h.going (sym e) ∙ free) there (subst (λ k. is_for d k q ≡ true) e for)))
+          (λ ne. ap (λ b. b || is_owed n below) (sym (other_number u n (λ e. ne (sym e)))) ∙ h.owed n q lt free there for)
 
   module _ (free : h.going u ≡ None) (v received : ℕ) where
     pub selects_agrees : SpiRepresents d held (chip_after chip (Write (SerialSelect u) v) received) w s

@@ -1,15 +1,15 @@
 -- What the units do once a free one has begun its next job: the state, and how each stands in it.
--- From bookkeeping.RanState, bookkeeping.StartSound, ToStart.
+-- From spi_sequences: words.WordsToState, spi_sequences: words.ListTests, bookkeeping.RanState and 8 more.
 -- Used by words.UnitWords, bookkeeping.UnitBegun, services.StartWords.
-use Rattle.std.proofs.Common.{◌≡◌, ◌≢◌, ◌<◌, ◌≤◌, ◌==◌, ◌∷◌, ◌∙◌, ◌⊎◌, if◌then◌else◌}
+use Rattle.std.proofs.Common.{◌≡◌, ◌≢◌, ◌<◌, ◌≤◌, ◌==◌, ◌∷◌, ◌∙◌, if◌then◌else◌}
 use Rattle.spi_starting.specs.Terms
-use Terms.{all_carried, all_of, all_pending, any_changed, any_in, ap, arith, aside_pending, at_contained, Bool, changed}
-use Terms.{Contains, Contains-get_or, contains_map, false, Going, going_free, going_next, going_runs, has_job, inl}
-use Terms.{inr, is_for, is_of, is_running, is_some, is_sync_unit, IsSoundState, item, item-other, item-same, jobs_of}
-use Terms.{Keeps, length, next_job, next_there, None, not, not_true, one_by_job, one_pending, one_unit, Option}
-use Terms.{other_number, Pending, refl, Reservations, Run, run_at, runs_on, runs_sequence, RunsBy, RunsNext, RunsOn}
-use Terms.{same_number, same_or_other, shares_job, slice_index_or, Some, some_at, sound_changed, SpiState, starts}
-use Terms.{subst, sym, true, View, view, ℕ}
+use Terms.{all_carried, all_of, all_pending, any_changed, any_in, ap, arith, aside_pending, at_contained, Bool, cases}
+use Terms.{changed, Contains, Contains-get_or, contains_map, false, Going, going_free, going_next, going_runs}
+use Terms.{has_job, is_for, is_of, is_running, is_some, is_sync_unit, IsSoundState, item, item-other, item-same}
+use Terms.{jobs_of, Keeps, length, next_job, next_there, None, not, not_true, one_by_job, one_pending, one_unit}
+use Terms.{Option, other_number, Pending, refl, Reservations, Run, run_at, runs_on, runs_sequence, RunsBy, RunsNext}
+use Terms.{RunsOn, same_number, same_or_other, shares_job, slice_index_or, Some, some_at, sound_changed, SpiState}
+use Terms.{starts, subst, sym, true, View, view, ℕ}
 use Rattle.spi_starting.specs.laws.{bookkeeping.RanState.{debt_of, first_going, first_run, ran_state}}
 use Rattle.spi_starting.specs.laws.{bookkeeping.StartSound.{run_sound, run_view}, ToStart.{ToStart}}
 
@@ -134,8 +134,6 @@ module _ (st : ToStart) where
             (all_pending (view after) g.pending is, subst (λ q. RunsBy q (view after) n g.pending) (sym i) (is, asked.1), r.2)
 
     pub nexts_now : (n : ℕ) → n < 2 → RunsNext d (view after) n (going_now n)
-    nexts_now n lt = by (same_or_other n u)
-      where
-        by : (n ≡ u) ⊎ (n ≢ u) → RunsNext d (view after) n (going_now n)
-        by (inl e) = subst (λ k. RunsNext d (view after) k (going_now k)) (sym e) (subst (λ g. RunsNext d (view after) u g) (sym going_here) (all_pending (view after) (starts p) started_there, subst (λ q. RunsBy q (view after) u (starts p)) (sym async) (started_there, refl), for))
-        by (inr ne) = subst (λ g. RunsNext d (view after) n g) (sym (going_else n ne)) (next_else n lt (h.going n) refl (h.nexts n lt))
+    nexts_now n lt = cases (same_or_other n u)
+        (λ e. subst (λ k. RunsNext d (view after) k (going_now k)) (sym e) (subst (λ g. RunsNext d (view after) u g) (sym going_here) (all_pending (view after) (starts p) started_there, subst (λ q. RunsBy q (view after) u (starts p)) (sym async) (started_there, refl), for)))
+        (λ ne. subst (λ g. RunsNext d (view after) n g) (sym (going_else n ne)) (next_else n lt (h.going n) refl (h.nexts n lt)))

@@ -1,17 +1,17 @@
 -- What a window owes to make the channels of a job ready that has begun, whichever frame owes it.
--- From words.ReadyWords, words.QuietWords, bookkeeping.RanState, bookkeeping.ChosenNext.
--- Used by services.StartWords.
+-- From words.ReadyWords, spi_sequences: words.WordsOfModule, spi_sequences: words.Cases and 11 more.
+-- Used by spi_sending: services.SendReady, services.StartWords.
 use Rattle.std.proofs.Common.{◌≡◌, ◌≢◌, ◌+◌, ◌<◌, ◌≤◌, ◌==◌, ◌&&◌, [], ◌∷◌, ◌∙◌, if◌then◌else◌}
 use Rattle.spi_starting.specs.Terms
 use Terms.{Answer, ap, AreThere, arith, as_read, Bool, Channel, channel_at, channel_number, channel_of, channels_of}
-use Terms.{Chip, chip_after, CommitsAfter, control_word, differs_by_store, DiffersIn, false, FitsSpi}
-use Terms.{get_contained, has_channel, held_word, is_past, is_some, IsPart, Job, job_of, length, List, list_of}
-use Terms.{lt_itself, lt_next, may_store, named_own, nat_le, nat_lt, nat_tests, None, one_owed, Option}
-use Terms.{or_none, own_banks, own_held, own_low, own_set_up, owed_left, owed_move, owes_move, packed, PartTo, PendingWrites}
-use Terms.{pin-ends, pinning, pinning_of, placed_of, Prepare, prepare_ends, prepare_left, prepare_move, preparing, refl}
-use Terms.{Reservations, same_number, Sent, set_up_or, set_up_word, settles_part, SetUp}
-use Terms.{slice_get, slice_get_within, Some, spi_owing, SpiState, SpiTable, Store, stored_same, subst, suc, sym}
-use Terms.{Take, take_gave, take_left, taking, trio_fits, trio_of, TripleBuffer, true, value_of, word_of, WORDS, zero, ℕ}
+use Terms.{Chip, chip_after, CommitsAfter, control_word, differs_by_store, DiffersIn, false, FitsSpi, get_contained}
+use Terms.{has_channel, held_word, is_past, is_some, IsPart, Job, job_of, length, List, list_of, lt_itself, lt_next}
+use Terms.{may_store, named_own, nat_le, nat_lt, nat_tests, None, one_owed, Option, or_none, owed_left, owed_move}
+use Terms.{owes_move, own_banks, own_held, own_low, own_set_up, packed, PartTo, PendingWrites, pin-ends, pinning}
+use Terms.{pinning_of, placed_of, Prepare, prepare_ends, prepare_left, prepare_move, preparing, refl, Reservations}
+use Terms.{same_number, Sent, set_up_or, set_up_word, settles_part, SetUp, slice_get, slice_get_within, Some}
+use Terms.{spi_owing, SpiState, SpiTable, Store, stored_same, subst, suc, sym, Take, take_gave, take_left, taking}
+use Terms.{trio_fits, trio_of, TripleBuffer, true, value_of, whether, whether_as, word_of, WORDS, zero, ℕ}
 use Rattle.spi_starting.specs.laws.{words.ReadyWords.{before, beside_quiet, lt_else, Ready, ready_held, ready_sent, upto}}
 use Rattle.spi_starting.specs.laws.{bookkeeping.ChosenNext.{count_is, number_at}, words.QuietWords.{channel_there, quiet_set_up}}
 use Rattle.spi_starting.specs.laws.{bookkeeping.RanState.{SentAt, sent_by}}
@@ -147,11 +147,9 @@ module _ (d : SpiTable) (fits : FitsSpi d) (u : ℕ) (few : u < 2) (number : ℕ
   none_past (x ∷ xs) (suc i) le = none_past xs i (omega (arith, le))
 
   next_is : (n m : ℕ) → n + suc m ≡ 4 → from (suc n) ≡ next n
-  next_is n m four = by (nat_lt n 3) refl
-    where
-      by : (q : Bool) → nat_lt n 3 ≡ q → from (suc n) ≡ (if q then from (n + 1) else last)
-      by true e = ap from (omega arith)
-      by false e = ap (λ o. ready_by d number at last (suc n) o) (number_at d number job is_job (suc n) ∙ none_past cs (suc n) (let le = is_past n 3 e in let most = four_at_most in omega (arith, le, most)))
+  next_is n m four = whether_as (nat_lt n 3) (λ q. from (suc n) ≡ (if q then from (n + 1) else last))
+      (λ e. ap from (omega arith))
+      (λ e. ap (λ o. ready_by d number at last (suc n) o) (number_at d number job is_job (suc n) ∙ none_past cs (suc n) (let le = is_past n 3 e in let most = four_at_most in omega (arith, le, most))))
 
   abbrev All : ℕ → Type 0
   All n = (i b : ℕ) → slice_get cs i ≡ Some b → nat_lt i n ≡ true
@@ -168,11 +166,9 @@ module _ (d : SpiTable) (fits : FitsSpi d) (u : ℕ) (few : u < 2) (number : ℕ
         none_there (x ∷ xs) (suc i) (suc n) b le e f = none_there xs i n b (omega (arith, le)) e f
 
         all_before : slice_get cs n ≡ None → All n
-        all_before none i b is = split (nat_lt i n) refl
-          where
-            split : (q : Bool) → nat_lt i n ≡ q → nat_lt i n ≡ true
-            split true e = e
-            split false e = absurd (none_there cs i n b (is_past i n e) none is)
+        all_before none i b is = whether (nat_lt i n)
+            (λ e. e)
+            (λ e. absurd (none_there cs i n b (is_past i n e) none is))
 
         by : (o : Option ℕ) → slice_get cs n ≡ o → Settling (from n) c
         by None e = subst (λ o. Settling (ready_by d number at last n o) c) (sym (number_at d number job is_job n ∙ e)) (over n c a (all_before e))

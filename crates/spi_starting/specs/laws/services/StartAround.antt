@@ -1,7 +1,7 @@
 -- Around the steps of the start window: its frame may make them, they leave fewer, the hardware leaves the places as
 -- they are, and what follows a step at a place that owes moves.
--- From services.StartWords.
--- Used by spi_driver: services.StartPart.
+-- From spi_sequences: words.WordsOfModule, spi_sequences: services.StartSteps and 5 more.
+-- Used by spi_driver: services.StartPart, spi_sending: services.SendAround.
 use Rattle.std.proofs.Common.{◌≡◌, ◌≢◌, ◌+◌, ◌*◌, ◌<◌, ◌≤◌, ◌==◌, ◌||◌, [], ◌∷◌, ◌∙◌, ◌⊎◌, if◌then◌else◌}
 use Rattle.spi_starting.specs.Terms
 use Terms.{and_parts, Answer, ap, arith, bank_word, banked, begins_word, block_of, Bool, Channel, channel_at_place}

@@ -1,5 +1,5 @@
 -- The first word of a job begins: what its window owes after that.
--- From bookkeeping.RanState, service_outline: Words, services.StartWords, words.PinnedBanks and 3 more.
+-- From bookkeeping.RanState, service_outline: Words, spi_sequences: services.CancelRight and 16 more.
 -- Used by services.StartRight.
 use Rattle.std.proofs.Common.{◌≡◌, ◌≢◌, ◌<◌, [], ◌∷◌, ◌∙◌, if◌then◌else◌}
 use Rattle.spi_starting.specs.Terms

@@ -1,24 +1,23 @@
 -- The start window is right at each of its places up to the start, and as it starts.
--- From bookkeeping.ChosenNext, bookkeeping.UnitTurned, words.FirstWord, services.StartBegun and 3 more.
+-- From spi_sequences: services.StartSteps, bookkeeping.ChosenNext, bookkeeping.UnitTurned, words.FirstWord and 15 more.
 -- Used by spi_driver: services.StartPart.
 use Rattle.std.proofs.Common.{◌≡◌, ◌%◌, ◌^◌, ◌<◌, ◌≤◌, ◌==◌, [], ◌∷◌, ◌∙◌, if◌then◌else◌}
 use Rattle.spi_starting.specs.Terms
-use Terms.{is_sync_unit, sent_by, sent_word, start_of}
 use Terms.{all_pending, Answer, ap, apart_agrees, arith, as_begun, Begun, Bool, by_two, Call, Channel}
 use Terms.{channel_at_place, channel_of, Chip, chip_after, choice, choice_next, choosing_front, Chosen, chosen_by}
 use Terms.{cleared_of, CommitsAfter, Contains, control_word, Ends, ends-then, entries_of, Entry, Event, false, Find}
 use Terms.{find_gave, find_move, finding_first, first_word, FitsSpi, FrameRole, Front, front-ends, front_gave}
 use Terms.{front_left, front_move, gave, get_or-set_same, Going, going_free, happens, has_channel, has_ended, idle}
-use Terms.{is_for, is_off, is_some, IsChosen, IsFirst, IsFree, job_at_place, job_of, job_place, length, List, Load}
-use Terms.{LooksAt, MARKS, Mask, masked, masked_by, Memory, min, Move, nat_lt, nat_tests, next_at, next_by, next_job}
-use Terms.{next_on, NEXTS, None, number_in, number_of, Option, or_none, order_word, Origin, other_number, outcome_with}
-use Terms.{outgoing, part_at, Pending, placed_of, ranks_in, refl, Reservations, run_at, RunAgrees, running_word}
-use Terms.{Search, search_move, search_of, Seen, select_by, select_of, selects, SendsRight, Sent, SerialData}
-use Terms.{SerialSelect, SerialWidth, set_up_word, slice_index_or, Some, source_word, spi_bare, spi_owing}
-use Terms.{SpiRepresents, SpiState, SpiTable, StandsAt, Start, start_by, start_finds, start_found, start_looks}
-use Terms.{start_move, start_owes, start_place, start_takes, Started, StartPlace, Starts, subst, suc, sym, Taken}
-use Terms.{tells_nothing, true, unit_at, unit_named, unit_number, Units, value_of, view, will_give, word_of, World}
-use Terms.{Write, zero, ℕ}
+use Terms.{is_for, is_off, is_some, is_sync_unit, IsChosen, IsFirst, IsFree, job_at_place, job_of, job_place, length}
+use Terms.{List, Load, LooksAt, MARKS, Mask, masked, masked_by, Memory, min, Move, nat_lt, nat_tests, next_at}
+use Terms.{next_by, next_job, next_on, NEXTS, None, number_in, number_of, Option, or_none, order_word, Origin}
+use Terms.{other_number, outcome_with, outgoing, part_at, Pending, placed_of, ranks_in, refl, Reservations, run_at}
+use Terms.{RunAgrees, running_word, Search, search_move, search_of, Seen, select_by, select_of, selects, SendsRight}
+use Terms.{Sent, sent_by, sent_word, SerialData, SerialSelect, SerialWidth, set_up_word, slice_index_or, Some}
+use Terms.{source_word, spi_bare, spi_owing, SpiRepresents, SpiState, SpiTable, StandsAt, Start, start_by}
+use Terms.{start_finds, start_found, start_looks, start_move, start_of, start_owes, start_place, start_takes, Started}
+use Terms.{StartPlace, Starts, subst, suc, sym, Taken, tells_nothing, true, unit_at, unit_named, unit_number, Units}
+use Terms.{value_of, view, whether_as, will_give, word_of, World, Write, zero, ℕ}
 use Rattle.spi_starting.specs.laws.{services.StartBegun.{begun_owes, choosing}, services.StartWords.{starting}}
 use Rattle.spi_starting.specs.laws.{bookkeeping.ChosenNext.{first_placed, first_there, next_there, none_for}}
 use Rattle.spi_starting.specs.laws.{words.FirstWord.{first_is, found, mod_again}, bookkeeping.RanState.{debt_of}}
@@ -132,11 +131,9 @@ module _ (d : SpiTable) (fits : FitsSpi d) (errand : FrameRole) (below : Reserva
       place = ap (λ j. channel_at_place d j 0) job ∙ first_placed d u q there.1 first.0 first.2.at
 
       looks_first : (b : ℕ) (k : Channel) → channel_of d b ≡ Some k → LooksAt d b k (finding_first (placed_of d b))
-      looks_first b k known = split (placed_of d b).channel.internal refl
-        where
-          split : (i : Bool) → (placed_of d b).channel.internal ≡ i → LooksAt d b k (if i then finds.Newest (placed_of d b) else finds.SetUp (placed_of d b))
-          split true e = (refl, sym (ap (λ z. z.internal) (has_channel d fits b k known)) ∙ e)
-          split false e = refl
+      looks_first b k known = whether_as (placed_of d b).channel.internal (λ i. LooksAt d b k (if i then finds.Newest (placed_of d b) else finds.SetUp (placed_of d b)))
+          (λ e. (refl, sym (ap (λ z. z.internal) (has_channel d fits b k known)) ∙ e))
+          (λ e. refl)
 
       will : will_give (word_of chip) (finding_first (channel_at_place d found_so.run.job 0)) ≡ (first_word d s q).sent
       will = ap (λ z. will_give (word_of chip) (finding_first z)) place ∙ found d fits held chip w s h on first.0 first.1 first.2.known ∙ sym (ap (λ z. z.sent) (first_is d fits held chip w s h on first.0 first.1 first.2.known q first.2.at))

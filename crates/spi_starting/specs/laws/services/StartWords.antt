@@ -1,20 +1,20 @@
 -- What a start owes its window after its first word has begun, and the agreement after that.
--- From bookkeeping.RanState, words.ReadyWords, services.ReadyOwed, bookkeeping.ChosenNext and 6 more.
+-- From words.ReadyWords, bookkeeping.RanState, spi_sequences: services.StartSteps, services.ReadyOwed and 19 more.
 -- Used by services.StartBegun, services.StartAround, services.StartRight.
 use Rattle.std.proofs.Common.{◌≡◌, ◌≢◌, ◌+◌, ◌<◌, ◌&&◌, [], ◌∷◌, ◌∙◌, ◌⊎◌, if◌then◌else◌}
 use Rattle.spi_starting.specs.Terms
 use Terms.{after_start, Answer, ap, AreThere, arith, as_read, Bool, Channel, channel_at, channel_at_place}
 use Terms.{channel_number, channel_of, channels_of, Chip, chip_after, cleared_of, clears, CommitsAfter, control_word}
-use Terms.{false, FrameRole, from_order, has_channel, held_is, holds-agree, in_order, inl, inr, is_some}
-use Terms.{is_sync_unit, is_to_begin, IsPart, Job, job_of, length, List, list_of, Main, main_over, MARKS, may_store}
-use Terms.{named_own, nat_le, nat_lt, nat_tests, next_job, None, one_owed, Option, or_none, order_word, own_banks}
-use Terms.{own_first, own_low, packed, packed_run, PartTo, PendingWrites, pinning, Placed, placed_by, placed_of}
-use Terms.{position_word, Prepare, prepare_at, prepare_by, prepare_ends, prepare_left, prepared, prepared_with, refl}
-use Terms.{release-ends, releasing, releasing_of, Reservations, Running, running_word, Sent, set_up_or}
-use Terms.{set_up_word, settles_part, slice_get, Some, some_is, spi_owing, SpiRepresents, SpiState, SpiTable}
-use Terms.{start_owes, start_prepares, start_releases, Started, StartPlace, Store, stored_other, stored_same, subst}
-use Terms.{suc, sym, Take, take_gave, taking, trio_fits, trio_of, TripleBuffer, true, unit_over, unit_owed}
-use Terms.{UnitBody, UnitPlace, Units, unless_done, where_owed, word_of, zero, ℕ}
+use Terms.{false, FrameRole, from_order, has_channel, held_is, holds-agree, in_order, inl, inr, is_some, is_sync_unit}
+use Terms.{is_to_begin, IsPart, Job, job_of, length, List, list_of, Main, main_over, MARKS, may_store, named_own}
+use Terms.{nat_le, nat_lt, nat_tests, next_job, None, one_owed, Option, or_none, order_word, own_banks, own_first}
+use Terms.{own_low, packed, packed_run, PartTo, PendingWrites, pinning, Placed, placed_by, placed_of, position_word}
+use Terms.{Prepare, prepare_at, prepare_by, prepare_ends, prepare_left, prepared, prepared_with, refl, release-ends}
+use Terms.{releasing, releasing_of, Reservations, Running, running_word, Sent, set_up_or, set_up_word, settles_part}
+use Terms.{slice_get, Some, some_is, spi_owing, SpiRepresents, SpiState, SpiTable, start_owes, start_prepares}
+use Terms.{start_releases, Started, StartPlace, Store, stored_other, stored_same, subst, suc, sym, Take, take_gave}
+use Terms.{taking, trio_fits, trio_of, TripleBuffer, true, unit_over, unit_owed, UnitBody, UnitPlace, Units}
+use Terms.{unless_done, where_owed, whether_as, word_of, zero, ℕ}
 use Rattle.spi_starting.specs.laws.{words.UnitWords.{ran_agrees}, bookkeeping.ChosenNext.{first_there, number_at}}
 use Rattle.spi_starting.specs.laws.{words.ReadyWords.{before, beside_first, beside_quiet, from_none, Ready, ready_first}}
 use Rattle.spi_starting.specs.laws.{words.ReadyWords.{ready_sent, upto}, bookkeeping.UnitsGoOn.{run_here}, words.PinnedBanks.{the_job}}
@@ -43,11 +43,9 @@ over_owes k x Main zero =
 over_owes k x _ _ = refl
 
 prepared_owes : (r : Running) (x : Placed) → start_owes (prepared_with r x) ≡ true
-prepared_owes r x = by (x.channel.internal && nat_le x.channel.length 1)
-  where
-    by : (q : Bool) → start_owes (if q then start.Release r (releasing_of x Sent) else start.Run r) ≡ true
-    by true = refl
-    by false = refl
+prepared_owes r x = whether_as (x.channel.internal && nat_le x.channel.length 1) (λ q. start_owes (if q then start.Release r (releasing_of x Sent) else start.Run r) ≡ true)
+    (λ _. refl)
+    (λ _. refl)
 
 pub prepare_owes : (d : SpiTable) (r : Running) (i : ℕ) → start_owes (prepare_at d r i) ≡ true
 prepare_owes d r i =
@@ -251,11 +249,9 @@ module _ (st : ToStart) (word received : ℕ) (turned : IsTurned st.d st.chip st
   place_is i (Some c) = refl
 
   next_is : (i : ℕ) → at (next_place d r i) ≡ ready_next d (next_job d p) each last i
-  next_is i = by (nat_lt i 3)
-    where
-      by : (q : Bool) → at (if q then prepare_at d r (i + 1) else prepared d r) ≡ (if q then ready_at d (next_job d p) each last (i + 1) else last)
-      by true = place_is (i + 1) (channel_number (list_of d r.job) (i + 1))
-      by false = refl
+  next_is i = whether_as (nat_lt i 3) (λ q. at (if q then prepare_at d r (i + 1) else prepared d r) ≡ (if q then ready_at d (next_job d p) each last (i + 1) else last))
+      (λ _. place_is (i + 1) (channel_number (list_of d r.job) (i + 1)))
+      (λ _. refl)
 
   owes : OwesReady d (next_job d p) each last
   owes = record { moves = λ i y. refl; lefts = λ i y v. lefts i y v (prepare_ends y v) }

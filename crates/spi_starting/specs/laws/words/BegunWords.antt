@@ -1,13 +1,14 @@
 -- The words of what the units run once a job has begun, whichever frame begins it.
--- From words.PinnedBanks, words.QuietWords, bookkeeping.ChosenNext, ToBegin.
--- Used by words.UnitWords.
-use Rattle.std.proofs.Common.{◌≡◌, ◌≢◌, ◌+◌, ◌*◌, ◌<◌, ◌≤◌, ◌∙◌, ◌⊎◌, if◌then◌else◌}
+-- From words.PinnedBanks, words.QuietWords, spi_sequences: words.FirstParts and 10 more.
+-- Used by words.UnitWords, spi_sending: services.SendBegun.
+use Rattle.std.proofs.Common.{◌≡◌, ◌≢◌, ◌+◌, ◌*◌, ◌<◌, ◌≤◌, ◌∙◌, if◌then◌else◌}
 use Rattle.spi_starting.specs.Terms
-use Terms.{ap, arith, as_read, Bool, Channel, channel_at, channel_of, channels_are, channels_of, false, get_back}
-use Terms.{get_contained, Going, GoingAgrees, has_channel, held_word, inl, inr, Job, job_of, length, length-map, Memory}
-use Terms.{next_job, NEXTS, None, not_order, not_true, of_held, Option, packed, packed_run, Part, part_at, part_there}
-use Terms.{PartAgrees, PartBy, past_the_first, Placed, placed_of, position_word, refl, RunAgrees, running_word}
-use Terms.{same_or_other, set_up_or, slice_get, Some, source_word, STATE, subst, sym, true, uses_channel, ℕ}
+use Terms.{ap, arith, as_read, Bool, cases, Channel, channel_at, channel_of, channels_are, channels_of, false}
+use Terms.{get_back, get_contained, Going, GoingAgrees, has_channel, held_word, Job, job_of, length, length-map}
+use Terms.{Memory, next_job, NEXTS, None, not_order, not_true, of_held, Option, packed, packed_run, Part, part_at}
+use Terms.{part_there, PartAgrees, PartBy, past_the_first, Placed, placed_of, position_word, refl, RunAgrees}
+use Terms.{running_word, same_or_other, set_up_or, slice_get, Some, source_word, STATE, subst, sym, true}
+use Terms.{uses_channel, ℕ}
 use Rattle.spi_starting.specs.laws.{words.PinnedBanks.{channel_is, else_now, here_now, none_runs, the_job}}
 use Rattle.spi_starting.specs.laws.{words.QuietWords.{channel_there, IsQuiet, quiet_away, quiet_first, quiet_users}}
 use Rattle.spi_starting.specs.laws.{bookkeeping.ChosenNext.{some_channels}, bookkeeping.RanState.{first_place}}
@@ -110,8 +111,6 @@ module _ (t : ToBegin) (m1 : Memory) (quiet : (i : ℕ) → IsQuiet t.d t.u (nex
     }
 
     pub begun_runs : (n : ℕ) → n < 2 → RunAgrees d m1 n (going_begun t n)
-    begun_runs n lt = by (same_or_other n u)
-      where
-        by : (n ≡ u) ⊎ (n ≢ u) → RunAgrees d m1 n (going_begun t n)
-        by (inl e) = subst (λ k. RunAgrees d m1 k (going_begun t k)) (sym e) (subst (λ g. RunAgrees d m1 u g) (sym (here_now t)) run_now)
-        by (inr ne) = subst (λ g. RunAgrees d m1 n g) (sym (else_now t n ne)) (run_else n lt ne (going n) refl (runs n lt ne))
+    begun_runs n lt = cases (same_or_other n u)
+        (λ e. subst (λ k. RunAgrees d m1 k (going_begun t k)) (sym e) (subst (λ g. RunAgrees d m1 u g) (sym (here_now t)) run_now))
+        (λ ne. subst (λ g. RunAgrees d m1 n g) (sym (else_now t n ne)) (run_else n lt ne (going n) refl (runs n lt ne)))

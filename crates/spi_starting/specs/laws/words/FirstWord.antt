@@ -1,6 +1,6 @@
 -- The first word of a job, and that a look at the words gives it.
--- From words.PinnedBanks.
--- Used by services.StartRight.
+-- From spi_sequences: words.FirstParts, words.PinnedBanks, spi_sequences: services.WriteRight and 2 more.
+-- Used by services.StartRight, spi_sending: services.SendFree.
 use Rattle.std.proofs.Common.{◌≡◌, ◌%◌, ◌^◌, ◌<◌, ◌≤◌, [], ◌∷◌, ◌++◌, ◌∙◌, if◌then◌else◌}
 use Rattle.spi_starting.specs.Terms
 use Terms.{ap, arith, as_read, as_words, bank_of, bank_word, BanksAgree, Bool, Channel, channel_at, channel_of}

@@ -1,16 +1,16 @@
 -- The banks of channels once a job has begun: what its unit is still to send of them is pinned.
--- From bookkeeping.RanState, words.QuietWords, ToBegin.
--- Used by words.BegunWords, words.UnitWords, services.StartBegun, words.FirstWord, services.StartWords.
+-- From spi_sequences: words.ListTests, spi_sequences: words.FirstParts, spi_sequences: words.WordsOfModule and 10 more.
+-- Used by spi_sending: services.SendBegun, words.BegunWords, services.StartBegun, words.FirstWord and 2 more.
 use Rattle.std.proofs.Common.{◌≡◌, ◌≢◌, ◌+◌, ◌<◌, ◌≤◌, ◌==◌, [], ◌∷◌, ◌∙◌, ◌⊎◌, if◌then◌else◌}
 use Rattle.spi_starting.specs.Terms
-use Terms.{any_in, any_some, ap, arith, at_contained, Banks, BanksAgree, Bool, Channel, channel_at, channel_of}
-use Terms.{channels_are, channels_of, Contains, contains_map, false, first_items, get_back}
-use Terms.{get_contained, Going, HasPart, held_word, inl, inr, is_number, is_on_unit, is_to_begin}
-use Terms.{Job, job_of, job_there, KeepsNone, length, List, map_get, Memory, nat_tests, next_job, NEXTS, None, none_in, none_readied}
-use Terms.{not_true, of_banks, of_held, Option, other_number, Part, part_at, part_by, part_for, past_the_first, pinning, Pins, PinsNone, placed_of}
-use Terms.{prepares, put_held, PutRight, Putting, readied_in, Received, refl, RunAgrees}
-use Terms.{same_number, same_or_other, same_Some, Sent, slice_get, Some, SpiState, SpiTable, stands-agree, STATE, subst, sym}
-use Terms.{taken_of, TakeRight, Taking, ToChannel, trio_of, true, uses_channel, view, ℕ}
+use Terms.{any_in, any_some, ap, arith, at_contained, Banks, BanksAgree, Bool, cases, Channel, channel_at, channel_of}
+use Terms.{channels_are, channels_of, Contains, contains_map, false, first_items, get_back, get_contained, Going}
+use Terms.{HasPart, held_word, inl, inr, is_number, is_on_unit, is_to_begin, Job, job_of, job_there, KeepsNone}
+use Terms.{length, List, map_get, Memory, nat_tests, next_job, NEXTS, None, none_in, none_readied, not_true, of_banks}
+use Terms.{of_held, Option, other_number, Part, part_at, part_by, part_for, past_the_first, pinning, Pins, PinsNone}
+use Terms.{placed_of, prepares, put_held, PutRight, Putting, readied_in, Received, refl, RunAgrees, same_number}
+use Terms.{same_or_other, same_Some, Sent, slice_get, Some, SpiState, SpiTable, stands-agree, STATE, subst, sym}
+use Terms.{taken_of, TakeRight, Taking, ToChannel, trio_of, true, uses_channel, view, whether, ℕ}
 use Rattle.spi_sequences.specs.Refinement.{Keeps}
 use Rattle.spi_starting.specs.laws.words.QuietWords.{IsQuiet, quiet_away, quiet_received}
 use Rattle.spi_starting.specs.laws.bookkeeping.RanState.{SentAt, first_place}
@@ -209,7 +209,9 @@ module _ (t : ToBegin) where
         count = ap (λ z. length z.values) (internal_values d s b k known internal) ∙ sent_count
     banks_here n at false e (x, is, stands) =
         with_sent x stands is.newest is.put
-        (subst (λ o. TakeRight now b o) (sym is.free) (λ m lt. nothing m (subst (λ o. TakeRight going b o) none was.pinned m lt) (same_or_other m u)))
+        (subst (λ o. TakeRight now b o) (sym is.free) (λ m lt. cases (same_or_other m u)
+        (λ f. subst (λ i. PinsNone (now i) b) (sym f) (subst (λ g. PinsNone g b) (sym here_now) not_begun))
+        (λ ne. subst (λ g. PinsNone g b) (sym (else_now m ne)) (subst (λ o. TakeRight going b o) none was.pinned m lt))))
       where
         none : was.sent.take ≡ None
         none = none_pinned b k known internal (uses_at n at)
@@ -217,16 +219,10 @@ module _ (t : ToBegin) where
         not_begun : (m : ℕ) (x : Part) → HasPart (Some (begun_going t)) b m x → is_to_begin first_place m (length x.values) ≡ false
         not_begun m x has = ap (λ i. is_to_begin first_place i (length x.values)) (one_at m n (part_has m x has) at) ∙ ap (is_to_begin first_place n) (ap length (values m x has) ∙ sent_count) ∙ e
 
-        nothing : (m : ℕ) → PinsNone (going m) b → (m ≡ u) ⊎ (m ≢ u) → PinsNone (now m) b
-        nothing m kept (inl f) = subst (λ i. PinsNone (now i) b) (sym f) (subst (λ g. PinsNone g b) (sym here_now) not_begun)
-        nothing m kept (inr ne) = subst (λ g. PinsNone g b) (sym (else_now m ne)) kept
-
     pub banks_now : BanksAgree d held now m1 (view s) b k
-    banks_now = by (uses_channel d b (next_job d p)) refl
+    banks_now = whether (uses_channel d b (next_job d p))
+        (λ e. let place = at_place (any_some (λ c. c == b) cs e) in banks_here place.0 place.1 (is_to_begin first_place place.0 k.length) refl (sends place.0 b k place.1 known internal))
+        (λ e. banks_away e)
       where
         at_place : (x : ℕ) × Contains cs x × ((x == b) ≡ true) → (n : ℕ) × (slice_get cs n ≡ Some b)
         at_place (x, (n, lt, at), is) = (n, at_contained cs n x lt at ∙ ap (λ z. Some z) (is_number x b is))
-
-        by : (q : Bool) → uses_channel d b (next_job d p) ≡ q → BanksAgree d held now m1 (view s) b k
-        by true e = let place = at_place (any_some (λ c. c == b) cs e) in banks_here place.0 place.1 (is_to_begin first_place place.0 k.length) refl (sends place.0 b k place.1 known internal)
-        by false e = banks_away e

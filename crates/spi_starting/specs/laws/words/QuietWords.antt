@@ -1,5 +1,6 @@
 -- The words that the start of a job may change, and that all others stand apart from them.
--- Used by words.UnitWords, services.StartWords, words.PinnedBanks, bookkeeping.RanState, words.ReadyWords.
+-- From spi_sequences: words.WordsOfModule, spi_sequences: words.SideWords, spi_sequences: words.ListTests and 2 more.
+-- Used by words.BegunWords, words.UnitWords, spi_sending: services.SendBegun, words.PinnedBanks and 4 more.
 use Rattle.std.proofs.Common.{◌≡◌, ◌≢◌, ◌+◌, ◌<◌, ◌≤◌, ◌==◌, ◌∙◌, ◌⊎◌}
 use Rattle.spi_starting.specs.Terms
 use Terms.{any_in, ap, arith, Channel, channel_of, channels_of, Contains, false, FitsSpi, held_word, inl, inr, IsWordOf}

@@ -1,11 +1,11 @@
 -- The channels of a job are made ready, move by move: what each move leaves of the words on the way, whichever frame makes it.
--- From words.QuietWords, bookkeeping.RanState.
--- Used by services.ReadyOwed, services.StartWords, services.StartBegun.
+-- From spi_sequences: words.SideWords, spi_sequences: words.WordsOfModule, spi_sequences: words.ListTests and 5 more.
+-- Used by services.StartWords, services.ReadyOwed, spi_sending: services.SendReady and 2 more.
 use Rattle.std.proofs.Common.{◌≡◌, ◌≢◌, ◌+◌, ◌<◌, ◌==◌, ◌&&◌, ◌∙◌, ◌⊎◌}
 use Rattle.spi_starting.specs.Terms
-use Terms.{ap, arith, as_read, Bool, Channel, channel_at, channel_of, channels_of, Chip, chip_after, Contains}
-use Terms.{differs_by_store, DiffersIn, false, FitsSpi, get_contained, HasWords, held_word, inl, inr, Job}
-use Terms.{job_of, List, nat_le, nat_lt, nat_tests, not_first, not_held, not_of_other, of_banks, of_held, of_one}
+use Terms.{ap, arith, as_read, Bool, cases, Channel, channel_at, channel_of, channels_of, Chip, chip_after, Contains}
+use Terms.{differs_by_store, DiffersIn, false, FitsSpi, get_contained, HasWords, held_word, inl, inr, Job, job_of}
+use Terms.{List, nat_le, nat_lt, nat_tests, not_first, not_held, not_of_other, of_banks, of_held, of_one}
 use Terms.{other_number, packed, past_the_first, placed_of, position_word, Reservations, running_word, same_number}
 use Terms.{same_or_other, Sent, set_up_or, slice_get, Some, some_is, SpiState, SpiTable, stands-agree, STATE, Store}
 use Terms.{subst, suc, sym, trio_of, true, word_of, ℕ}
@@ -123,11 +123,9 @@ module _ (d : SpiTable) (fits : FitsSpi d) (u : ℕ) (few : u < 2) (number : ℕ
                 (sent_kept (trio.own_of (trio_of (placed_of d b) Sent)) c c1 differs a1 x (f i x.length) (trio_apart internal a1 x is inner (apart_at i a1 here ne)) (a.sends i a1 x here is inner))
 
         holds : (i a : ℕ) (x : Channel) → slice_get cs i ≡ Some a → channel_of d a ≡ Some x → x.internal ≡ false → g1 i ≡ true → word_of c1 (held_word (placed_of d a)) ≡ packed (as_read (set_up_or x (channel_at s a).set_up))
-        holds i a1 x here is outer now = by (same_or_other i n)
-          where
-            by : (i ≡ n) ⊎ (i ≢ n) → word_of c1 (held_word (placed_of d a1)) ≡ packed (as_read (set_up_or x (channel_at s a1).set_up))
-            by (inl e) = absurd (let same = same_channel i a1 x e here is in let f = sym outer ∙ ap (λ z. z.internal) same.1 ∙ internal in cc)
-            by (inr ne) = differs.others (held_word (placed_of d a1)) (not_held d fits b k known internal Sent a1 x is) ∙ a.holds i a1 x here is outer (ready i a1 here ne now)
+        holds i a1 x here is outer now = cases (same_or_other i n)
+            (λ e. absurd (let same = same_channel i a1 x e here is in let f = sym outer ∙ ap (λ z. z.internal) same.1 ∙ internal in cc))
+            (λ ne. differs.others (held_word (placed_of d a1)) (not_held d fits b k known internal Sent a1 x is) ∙ a.holds i a1 x here is outer (ready i a1 here ne now))
 
     -- its set-up is held
     pub ready_held : (f f1 : (place length : ℕ) → Bool) (g g1 : ℕ → Bool) → k.internal ≡ false → DiffersIn (λ i. i == held_word (placed_of d b)) c c1 → Ready f g c → word_of c1 (held_word (placed_of d b)) ≡ packed (as_read (set_up_or k (channel_at s b).set_up))

@@ -1,20 +1,19 @@
 -- The words of a unit that has begun its next job agree with the machine's state.
--- From bookkeeping.UnitsGoOn, bookkeeping.RanState, words.BegunWords, words.PinnedBanks and 5 more.
+-- From bookkeeping.UnitsGoOn, spi_sequences: words.ListTests, bookkeeping.RanState, bookkeeping.UnitBegun and 17 more.
 -- Used by services.StartWords.
 use Rattle.std.proofs.Common.{◌≡◌, ◌≢◌, ◌+◌, ◌%◌, ◌<◌, ◌≤◌, ◌==◌, ◌||◌, ◌∷◌, ◌∙◌, ◌⊎◌, if◌then◌else◌}
 use Rattle.spi_starting.specs.Terms
-use Terms.{all_pending, ap, AreOwed, arith, aside_pending, banks_held, banks_view, BanksAgree, Bool, cancelled_bit, carried_at, CarriesAgrees, Channel}
-use Terms.{channel_of, Chip, Contains, contains_back, Destination, entries_of}
-use Terms.{false, from_order, Going, has_bit}
-use Terms.{has_mark, holds-agree, holds_back, holds_debt, inl, inr, is_for, is_number, is_of, is_off}
-use Terms.{is_owed, is_running, item, item_for, Job, job_of, job_small, job_word, length, length-set}
-use Terms.{marked_other, marked_same, MARKS, Memory, next_job, NEXTS, None, none_in, none_stored, not_order, not_true}
-use Terms.{one_unit, Option, order_word, other_number, Pending}
-use Terms.{place_of, placed_of, position_word, refl, Reservations, run_at, run_carried, RunAgrees}
-use Terms.{running_word, same_number, same_or_other, sends_as, sequence_word, sequences_after, SequencesAgree}
-use Terms.{SerialData, set_up_word, slice_index, Some, Source, SpiRepresents}
-use Terms.{SpiState, stands-move, stands_owed, started_bit, starts, STATE, stored, stored-other, stored-same, subst}
-use Terms.{sym, to_order, true, unit_at, UnitAgrees, view, waiting, word_of, Write, ℕ}
+use Terms.{all_pending, ap, AreOwed, arith, aside_pending, banks_held, banks_view, BanksAgree, Bool, cancelled_bit}
+use Terms.{carried_at, CarriesAgrees, cases, Channel, channel_of, Chip, Contains, contains_back, Destination}
+use Terms.{entries_of, false, from_order, Going, has_bit, has_mark, holds-agree, holds_back, holds_debt, inl, inr}
+use Terms.{is_for, is_number, is_of, is_off, is_owed, is_running, item, item_for, Job, job_of, job_small, job_word}
+use Terms.{length, length-set, marked_other, marked_same, MARKS, Memory, next_job, NEXTS, None, none_in, none_stored}
+use Terms.{not_order, not_true, one_unit, Option, order_word, other_number, Pending, place_of, placed_of}
+use Terms.{position_word, refl, Reservations, run_at, run_carried, RunAgrees, running_word, same_number}
+use Terms.{same_or_other, sends_as, sequence_word, sequences_after, SequencesAgree, SerialData, set_up_word}
+use Terms.{slice_index, Some, Source, SpiRepresents, SpiState, stands-move, stands_owed, started_bit, starts, STATE}
+use Terms.{stored, stored-other, stored-same, subst, sym, to_order, true, unit_at, UnitAgrees, view, waiting, word_of}
+use Terms.{Write, ℕ}
 use Rattle.spi_starting.specs.laws.bookkeeping.UnitsGoOn.{going_else, going_here, going_now, half_view, job_apart}
 use Rattle.spi_starting.specs.laws.bookkeeping.UnitsGoOn.{nexts_now, one_entry, ran_sound, rests, runs_else, runs_now}
 use Rattle.spi_starting.specs.laws.bookkeeping.UnitsGoOn.{starts_keep}
@@ -151,17 +150,15 @@ module _ (st : ToStart) (word received : ℕ) (c : Chip)
   -- ---- what is owed
 
   owed_now : AreOwed d below now after
-  owed_now n x lt none also for_x = by (same_or_other n u)
+  owed_now n x lt none also for_x = cases (same_or_other n u)
+      (λ e. let f : None ≡ Some going = sym none ∙ ap now e ∙ going_here st word received in absurd (cc))
+      (λ ne. elsewhere ne (back ne (contains_back (item q starts) s.pending x also)))
     where
       elsewhere : n ≢ u → is_owed n held ≡ true → is_owed n below ≡ true
       elsewhere ne e = ap (λ b. b || is_owed n below) (sym (other_number u n (λ f. ne (sym f)))) ∙ e
 
       back : n ≢ u → (z : Pending) × Contains s.pending z × (x ≡ item q starts z) → is_owed n held ≡ true
       back ne (z, is, same) = h.owed n z lt (sym (going_else st word received n ne) ∙ none) is (sym (item_for q starts d (starts_keep q) n z) ∙ sym (ap (is_for d n) same) ∙ for_x)
-
-      by : (n ≡ u) ⊎ (n ≢ u) → is_owed n below ≡ true
-      by (inl e) = let f : None ≡ Some going = sym none ∙ ap now e ∙ going_here st word received in absurd (cc)
-      by (inr ne) = elsewhere ne (back ne (contains_back (item q starts) s.pending x also))
 
   -- ---- all of it
 

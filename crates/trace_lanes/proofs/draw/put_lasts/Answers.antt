@@ -3,7 +3,7 @@ use Rattle.std.specs.Prelude.{flat_map}
 use Rattle.std.proofs.lemmas.List.{take_all}
 use Rattle.trace_lanes.specs.Board.{put_all}
 use Rattle.trace_lanes.specs.Drawn.{last}
-use Rattle.trace_lanes.specs.declared.course.Level.{Level}
+use Rattle.trace_lanes.specs.declared.page_state.Level.{Level}
 use Rattle.trace_lanes.proofs.Steps.{put_more}
 use Rattle.trace_lanes.proofs.draw.put_lasts.Goals as goal
 

@@ -1,16 +1,10 @@
-use Rattle.std.proofs.Common.{sym}
+use Rattle.std.proofs.Common.{ap, take, ℕ}
 use Rattle.std.specs.Char.{is_ascii_digit}
-use Rattle.trace_reader.proofs.Cuts.{front_here, rest_here, front_nowhere, rest_nowhere}
+use Rattle.trace_reader.proofs.Cuts.{rest_from}
 use Rattle.trace_reader.proofs.numbers.before_digit.Goals as goal
 
-pub returns-in-Some-clause-front : goal.returns-in-Some-clause-front
-returns-in-Some-clause-front c = front_here is_ascii_digit c.args.word.now c.in-Some.place (sym c.in-Some.ensures.place)
+pub returns-clause-front : goal.returns-clause-front
+returns-clause-front c = ap (λ (n : ℕ). take n c.args.word.now) c.digit_place-place.ensures.place
 
-pub returns-in-Some-clause-rest : goal.returns-in-Some-clause-rest
-returns-in-Some-clause-rest c = rest_here is_ascii_digit c.args.word.now c.in-Some.place (sym c.in-Some.ensures.place)
-
-pub returns-in-None-clause-front : goal.returns-in-None-clause-front
-returns-in-None-clause-front c = front_nowhere is_ascii_digit c.args.word.now (sym c.in-None.ensures.place)
-
-pub returns-in-None-clause-rest : goal.returns-in-None-clause-rest
-returns-in-None-clause-rest c = rest_nowhere is_ascii_digit c.args.word.now (sym c.in-None.ensures.place)
+pub returns-clause-rest : goal.returns-clause-rest
+returns-clause-rest c = rest_from is_ascii_digit c.args.word.now c.digit_place-place.result c.digit_place-place.ensures.place

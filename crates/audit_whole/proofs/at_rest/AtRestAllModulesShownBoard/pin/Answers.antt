@@ -1,5 +1,5 @@
 use Rattle.std.proofs.Common.{◌∙◌, ap}
-use Rattle.mcal_drivers.specs.Shows.{level_at}
+use Rattle.shown_rows.specs.Shows.{level_at}
 use Rattle.audit_whole.specs.Resting.{Resting}
 use Rattle.audit_whole.proofs.AtRestLaws.{pin_same}
 use Rattle.audit_whole.proofs.at_rest.AtRestAllModulesShownBoard.pin.Goals as goal

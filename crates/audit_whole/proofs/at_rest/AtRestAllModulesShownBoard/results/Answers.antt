@@ -6,7 +6,7 @@ use Rattle.adc_machine.specs.declared.call.ResultBuffer.{ResultBuffer}
 use Rattle.adc_machine.specs.declared.table.AdcTable.{AdcTable}
 use Rattle.mcal_base.specs.Layout.{length_of}
 use Rattle.mcal_base.specs.declared.layout.Array.TheVariants.{Round}
-use Rattle.mcal_drivers.specs.Shows.{results_at}
+use Rattle.shown_rows.specs.Shows.{results_at}
 use Rattle.audit_whole.specs.Resting.{Resting}
 use Rattle.audit_whole.proofs.AtRestLaws.{results_few}
 use Rattle.audit_whole.proofs.at_rest.AtRestAllModulesShownBoard.results.Goals as goal

@@ -2,8 +2,8 @@ use Rattle.std.proofs.Common.{◌≡◌, Option, ◌∙◌, ap, refl, subst, sym
 use Rattle.std.specs.Option.{IfSome}
 use Rattle.mcal_base.specs.Layout.{length_of}
 use Rattle.mcal_base.specs.declared.layout.Array.TheVariants.{Source}
-use Rattle.mcal_drivers.specs.Shows.{serial_channel}
-use Rattle.mcal_drivers.proofs.SoundSerial.{channel_words}
+use Rattle.shown_rows.specs.Shows.{serial_channel}
+use Rattle.shown_rows.proofs.SoundSerial.{channel_words}
 use Rattle.spi_jobs.specs.declared.channel.Channel.{Channel}
 use Rattle.spi_machine.specs.Table.{channel_of, table_of}
 use Rattle.spi_machine.specs.declared.table.SpiTable.{SpiTable}

@@ -19,7 +19,7 @@ invariant_of-result c =
     let told = legal e made (seen e) refl c.journal.result.now.entries c.journal.ensures.legal in
     let rests = resting_there e made (seen e) refl c.bus-bus.ensures.stands none c.self.invariant.valid c.journal.result.now.entries (ap (λ w. w.entries) c.journal.ensures.journal) told in
     let drivers_are = c.driver-drivers.ensures.driver ∙ made ∙ ap drivers_of (sym c.config.ensures) in (
-      parts_of e c.config.ensures c.self.invariant.runs c.self.invariant.hung c.journal.ensures.journal (λ k ds n w. IsResting k ds n w.entries c.bus-bus.result.now) (subst (λ (x : Chip). IsResting e.config e.script e.devices e.journal.entries x) (sym c.bus-bus.ensures.chip) rests),
+      parts_of e c.config.ensures c.script.ensures c.devices.ensures c.journal.ensures.journal (λ k ds n w. IsResting k ds n w.entries c.bus-bus.result.now) (subst (λ (x : Chip). IsResting e.config e.script e.devices e.journal.entries x) (sym c.bus-bus.ensures.chip) rests),
       record {
         captures_are = c.captures-2.ensures ∙ ap (λ (u : Drivers). u.captures) drivers_are;
         converters_are = c.converters.ensures ∙ ap (λ (u : Drivers). u.converters) drivers_are;
@@ -28,7 +28,7 @@ invariant_of-result c =
     )
 
 pub returns-clause-is : goal.returns-clause-is
-returns-clause-is c = parts_of c.self.inside.engine c.config.ensures c.self.invariant.runs c.self.invariant.hung c.journal.ensures.journal (λ k ds n w. run_at n k ds w.entries ≡ resting c.args.self.now) (ap resting c.self.view_is)
+returns-clause-is c = parts_of c.self.inside.engine c.config.ensures c.script.ensures c.devices.ensures c.journal.ensures.journal (λ k ds n w. run_at n k ds w.entries ≡ resting c.args.self.now) (ap resting c.self.view_is)
 
 pub returns-clause-alone : goal.returns-clause-alone
 returns-clause-alone c = alone c.self.inside.engine c.self.invariant.made c.args.self.now c.self.view_is c.if-not-is_at_rest.ensures.quiet
