@@ -46,9 +46,9 @@ pub use Rattle.step_runner.proofs.Whose.{not-unless}
 pub use Rattle.step_runner.specs.{Driver.{IsFree, IsLawful, most_steps}, Whose.{EnablesOthers, EnablesWithin}}
 pub use Rattle.step_runner.specs.{Whose.{is_line_of, KeepsTo, module_of_line, module_of_register, module_of_unit}}
 pub use Rattle.step_runner.specs.{Whose.{module_of_word, NamesOthers, NamesWithin, only, WritesOthers, WritesWithin}}
-pub use Rattle.word_shapes.proofs.PriorityQueueLaws.{empty, holds-agree, holds-below}
+pub use Rattle.word_shapes.proofs.PriorityQueueLaws.{empty, holds-below}
 pub use Rattle.word_shapes.proofs.RoomLaws.{front-lowers, put-lowers, take-lowers}
-pub use Rattle.word_shapes.proofs.TripleBufferLaws.{own-control, own-word, stands-agree}
+pub use Rattle.word_shapes.proofs.TripleBufferLaws.{own-control, own-word}
 pub use Rattle.word_shapes.specs.{Order.{choice, Entry}, Playing.{Memory, NamesOwn}, PriorityQueue.{choosing_front}}
 pub use Rattle.word_shapes.specs.{PriorityQueue.{front_gave, front_left, front_move, front_start, Holds as HoldsOrder}}
 pub use Rattle.word_shapes.specs.{PriorityQueue.{own_of as order_own, search_move}, Room.{front_room, LowersTo}}
@@ -94,13 +94,13 @@ pub use Rattle.adc_machine.specs.{Bounds.{inputs_on, is_used, level_of, most_inp
 pub use Rattle.adc_machine.specs.{Bounds.{steps_of}, Checks.{answer_refused, Circumstances, error_by, has_notification}}
 pub use Rattle.adc_machine.specs.{Checks.{is_triggered}, Configured.{first_from, is_of, next_of, ranks_of, unit_of}}
 pub use Rattle.adc_machine.specs.{Groups.{finish_of, inputs_of, is_continuous, is_finished, is_full, Request, Round}}
-pub use Rattle.adc_machine.specs.{Groups.{samples_of, suspends, trigger_input, values_of}, Machine.{acts_by}}
+pub use Rattle.adc_machine.specs.{Groups.{samples_of, suspends, trigger_input}, Machine.{acts_by}}
 pub use Rattle.adc_machine.specs.{Machine.{adc_machine, circumstances, fresh, is_done, is_trigger_line, is_unit_line}}
 pub use Rattle.adc_machine.specs.{Machine.{line_waits, moved, startable_on, starting, starts_on, takes_one}}
 pub use Rattle.adc_machine.specs.{Table.{all_groups, configured_input, found_in, group_of, groups_of, input_by}}
 pub use Rattle.adc_machine.specs.{Table.{level_in, object_count, start_in, table_of, taken, unit_level, words_for}}
 pub use Rattle.adc_machine.specs.{Triggers.{has_input, listener, mark_at, with_mark}, Turns.{aborts, aborts_by}}
-pub use Rattle.adc_machine.specs.{Turns.{AdcState, first_of, group_at, has_turn, is_on, is_outranked, next_among}}
+pub use Rattle.adc_machine.specs.{Turns.{AdcState, first_of, group_at, is_on, is_outranked, next_among}}
 pub use Rattle.adc_machine.specs.{Turns.{next_group, number_of, rank_of, round_at, started, starts, starts_by}}
 pub use Rattle.adc_machine.specs.{Turns.{waits_for}, Words.{buffer_number, input_count, is_converter, is_for_lines}}
 pub use Rattle.adc_machine.specs.{Words.{is_in_buffer, is_own_word, is_result_word, is_word, may, may_name, may_write}}
@@ -150,15 +150,16 @@ pub use Rattle.adc_groups.specs.{declared.service.read.Stage.{Stage}, declared.s
 pub use Rattle.adc_groups.specs.{declared.service.stop.StopSeen.{StopSeen}, declared.window.Window.{Window}}
 pub use Rattle.adc_groups.specs.{declared.words.Phase.{Phase}, declared.words.TheConstants.{LINES, STATE}}
 pub use Rattle.adc_groups.specs.{declared.words.Word.{Word}, declared.words.Word.TheVariants.{Chosen, Notified, Turn}}
+pub use Rattle.adc_groups.specs.laws.bookkeeping.HeldAnew.{banks_stay, claim_tells, holds_anew}
 pub use Rattle.adc_groups.specs.laws.{bookkeeping.PendingWritesRight.{adc_basis_right, owed_right}}
 pub use Rattle.adc_groups.specs.laws.{bookkeeping.PromisesKept.{no_unit}, bookkeeping.RefinementRight.{bare_right}}
 pub use Rattle.adc_groups.specs.laws.{bookkeeping.TurnsOfUnit.{named_of}, hardware.HardwareCommutes.{block_after}}
 pub use Rattle.adc_groups.specs.laws.{hardware.HardwareCommutes.{happened_block}, hardware.OtherModules.{by_line}}
 pub use Rattle.adc_groups.specs.laws.{hardware.OtherModules.{plain}, hardware.PendingWritesStable.{shape_lowers}}
 pub use Rattle.adc_groups.specs.laws.{hardware.PendingWritesStable.{shape_simple, some_room}}
-pub use Rattle.adc_groups.specs.laws.{hardware.StableUnderHardware.{kept_within, listed_agree, value_within}}
+pub use Rattle.adc_groups.specs.laws.{hardware.StableUnderHardware.{kept_within}}
 pub use Rattle.adc_groups.specs.laws.{services.BeginDecisions.{Begins, Begins_enable, Begins_start, bit_none}}
-pub use Rattle.adc_groups.specs.laws.{services.BeginDecisions.{from_found, none_found}}
+pub use Rattle.adc_groups.specs.laws.{services.BeginDecisions.{from_found}}
 pub use Rattle.adc_groups.specs.laws.{services.BodySteps.{after_copies, after_making, all_kept, body_ends, body_takes}}
 pub use Rattle.adc_groups.specs.laws.{services.BodySteps.{body_work, choose_takes, copies_on, follows, given}}
 pub use Rattle.adc_groups.specs.laws.{services.BodySteps.{keeps_some, look_move, look_takes, making_takes, opened}}
@@ -179,8 +180,9 @@ pub use Rattle.adc_groups.specs.laws.{services.Decisions.{serving, set_up, sough
 pub use Rattle.adc_groups.specs.laws.{services.Decisions.{stop_service, stop_turn, stopping, stores, survey, survey_by}}
 pub use Rattle.adc_groups.specs.laws.{services.Decisions.{surveyed, take_by, taken_away, trigger_bit, turn_shape}}
 pub use Rattle.adc_groups.specs.laws.{services.Decisions.{unit_in, unit_named, word_seen, yields_by}}
-pub use Rattle.adc_groups.specs.laws.{services.InitSteps.{clear_at, clear_count, cleared_word, few, group_clear}}
-pub use Rattle.adc_groups.specs.laws.{services.InitSteps.{init_takes, init_work, setup_after, setup_count, setup_move}}
+pub use Rattle.adc_groups.specs.laws.{services.InitSteps.{clear_at, clear_count, cleared_group, cleared_word, few}}
+pub use Rattle.adc_groups.specs.laws.{services.InitSteps.{group_clear, init_takes, init_work, many_from, nth_from}}
+pub use Rattle.adc_groups.specs.laws.{services.InitSteps.{setup_after, setup_count, setup_move}}
 pub use Rattle.adc_groups.specs.laws.{services.InitSteps.{unit_word}, services.LookRight.{some_within}}
 pub use Rattle.adc_groups.specs.laws.{services.LookSteps.{adc_looked, any_ends, AnyBody, begun_by, is_wrong, looked_by}}
 pub use Rattle.adc_groups.specs.laws.{services.LookSteps.{place_for, set_up_at, small}}
@@ -196,7 +198,7 @@ pub use Rattle.adc_groups.specs.laws.{services.WriteBatchSteps.{making_move, mak
 pub use Rattle.adc_groups.specs.laws.{services.WriteBatchSteps.{shape_after, shape_move}}
 pub use Rattle.adc_groups.specs.laws.{services.YieldRight.{unclaimed}, words.DisjointWords.{place_apart, start_from}}
 pub use Rattle.adc_groups.specs.laws.{words.DisjointWords.{trio_apart}, words.FirstRequest.{choice_next}}
-pub use Rattle.adc_groups.specs.laws.{words.StructureParts.{stands_words, word_there}, words.WindowWords.{word_at}}
+pub use Rattle.adc_groups.specs.laws.{words.StructureParts.{word_there}, words.WindowWords.{word_at}}
 pub use Rattle.adc_groups.specs.laws.{words.WindowWords.{words_of}, words.WordsAtRest.{IsQuiet, rests_agree}}
 pub use Rattle.adc_groups.specs.laws.{words.WordsAtRest.{result_past, trio_past}, words.WordsOfModule.{all_small}}
 pub use Rattle.adc_groups.specs.laws.{words.WordsOfModule.{AllSmall, bank_below, bank_words, claim_words, clear_words}}
@@ -204,6 +206,9 @@ pub use Rattle.adc_groups.specs.laws.{words.WordsOfModule.{few_inputs, first_wor
 pub use Rattle.adc_groups.specs.laws.{words.WordsOfModule.{on_there, order_words, place_words, running_words, unit_is}}
 pub use Rattle.adc_groups.specs.laws.{words.WordsOfModule.{unit_small, unit_within, within, words_below}}
 pub use Rattle.adc_groups.specs.laws.words.Cases.{cases, some_or_none, whether, whether_as}
+pub use Rattle.adc_groups.specs.laws.words.OrderBetweenWrites.{order_within}
+pub use Rattle.adc_groups.specs.laws.words.WordsChange.{all_stay, AllStay, BankStays, CoreStays, HoldStays, KeptStays}
+pub use Rattle.adc_groups.specs.laws.words.WordsChange.{ranges_apart, stays_agree, trio_place}
 pub use Rattle.adc_turns.specs.laws.services.ClaimEndRight.{quit_right}
 pub use Rattle.adc_turns.specs.laws.services.ClaimEndSteps.{keep_looks, leave_seeks}
 pub use Rattle.adc_turns.specs.laws.services.StartLastStep.{asks_for, convert_looks, starting_right}
@@ -218,5 +223,5 @@ pub use Rattle.adc_serving.specs.laws.{services.OpenMaskSteps.{tells_step_any}, 
 pub use Rattle.adc_serving.specs.laws.{services.PinRight.{pins_from}, services.ReadRight.{read_step, reads_begin}}
 pub use Rattle.adc_serving.specs.laws.{services.ServeRight.{serve_makes}, services.TakeRoundSteps.{chooses_step}}
 pub use Rattle.adc_serving.specs.laws.{services.TakeRoundSteps.{take_flag, take_looks}, services.TellRight.{column_is}}
-pub use Rattle.adc_serving.specs.laws.{services.TellRight.{place_within}, words.WordsChange.{ranges_apart, trio_place}}
+pub use Rattle.adc_serving.specs.laws.services.TellRight.{place_within}
 pub use Rattle.adc_driver.specs.Handlers.{first_on, group_on, handled_body, handled_by}

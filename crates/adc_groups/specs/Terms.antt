@@ -160,7 +160,7 @@ pub use Rattle.adc_groups.specs.laws.services.Decisions.{pulse_by, quieted, read
 pub use Rattle.adc_groups.specs.laws.services.Decisions.{start, status, stop, stop_by, stop_service, stopping, survey}
 pub use Rattle.adc_groups.specs.laws.services.Decisions.{survey_by, surveyed, taken_away, trigger_bit, unit_in}
 pub use Rattle.adc_groups.specs.laws.services.Decisions.{unit_named, yields, yields_by}
-pub use Rattle.adc_groups.specs.laws.services.InitSteps.{clear_at, cleared_word, group_clear, unit_word}
+pub use Rattle.adc_groups.specs.laws.services.InitSteps.{clear_at, cleared_group, cleared_word, group_clear, unit_word}
 pub use Rattle.adc_groups.specs.laws.services.WriteBatchSteps.{deed_move, making, shape_after, shape_move}
 pub use Rattle.adc_groups.specs.laws.words.WindowWords.{words_of}
 pub use Rattle.adc_groups.specs.laws.words.Cases.{cases, whether, whether_as}

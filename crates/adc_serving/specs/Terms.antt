@@ -4,7 +4,7 @@ pub use Rattle.std.proofs.Common.{nat_le, nat_lt, None, not, Option, refl, slice
 pub use Rattle.std.proofs.Common.{subst, suc, sym, take, true, zero, ℕ}
 pub use Rattle.std.proofs.Math.Nat.{mod-add-div, mod-eq_of_lt, mod-le, mod-lt, mod_self, mul-le-mul, mul-le-mul_right}
 pub use Rattle.std.proofs.Math.Nat.{mul_comm, suc-mod}
-pub use Rattle.std.proofs.lemmas.Bool.{cases_lt, or_from, or_left, or_parts, or_right}
+pub use Rattle.std.proofs.lemmas.Bool.{or_from, or_left, or_parts, or_right}
 pub use Rattle.std.proofs.lemmas.Bool.Decides.{nat_tests}
 pub use Rattle.std.proofs.lemmas.List.{length-drop, length_push, take_all}
 pub use Rattle.std.proofs.lemmas.Nat.{mod-mul-add}
@@ -30,7 +30,7 @@ pub use Rattle.word_shapes.proofs.TripleBufferLaws.{releases, stands-agree}
 pub use Rattle.word_shapes.specs.{Banks.{abandoning, Banks, choosing, committing, filling, pinning, Putting, releasing}}
 pub use Rattle.word_shapes.specs.{Banks.{Taking}, Order.{Entry, is_there, waiting, without as left_of}}
 pub use Rattle.word_shapes.specs.{Playing.{stored}, PriorityQueue.{again_start, drop_start, dropping}}
-pub use Rattle.word_shapes.specs.{PriorityQueue.{Holds as HoldsOrder, own_of as order_own, waiting_again}}
+pub use Rattle.word_shapes.specs.{PriorityQueue.{Holds as HoldsOrder, waiting_again}}
 pub use Rattle.word_shapes.specs.{TripleBuffer.{Fits, free, IsBank, listed, own_of, pin_of, put_start, PutIn}}
 pub use Rattle.word_shapes.specs.{TripleBuffer.{PutStands, Stands, word_at}, declared.put.Put.{Put}}
 pub use Rattle.word_shapes.specs.{declared.take.Take.{Take}, declared.triple_buffer.TripleBuffer.{TripleBuffer}}
@@ -68,17 +68,18 @@ pub use Rattle.adc_groups.specs.{Places.{adc_bodies, AdcGround, counted, Has_ser
 pub use Rattle.adc_groups.specs.{Places.{InWindow, IsAlone, IsAtUnit, IsCalling, IsChosen, IsOnlyReader, IsPinning}}
 pub use Rattle.adc_groups.specs.{Places.{IsReading, IsReleasing, IsServing, IsTaken, MayCall, MayCopy, MayPin}}
 pub use Rattle.adc_groups.specs.{Places.{MayServe, owes_note, place_out, round_words}, Refinement.{Agrees, AllRight}}
-pub use Rattle.adc_groups.specs.{Refinement.{Backed, BanksAgree, buffer_by, buffer_in, chosen_of, claim_fits}}
-pub use Rattle.adc_groups.specs.{Refinement.{claim_right, Claims, claims_on, Clears, Copies, CopiesRight, end_of}}
-pub use Rattle.adc_groups.specs.{Refinement.{Fills, FillsRight, first_held, FitsAdc, foot_of, Full, GroupAgrees}}
+pub use Rattle.adc_groups.specs.{Refinement.{BanksAgree, buffer_by, buffer_in, chosen_of, claim_fits}}
+pub use Rattle.adc_groups.specs.{Refinement.{claim_right, Claims, claims_on, Copies, CopiesRight}}
+pub use Rattle.adc_groups.specs.{Refinement.{Fills, FillsRight, first_held, FitsAdc, foot_of, Full, FullRight}}
+pub use Rattle.adc_groups.specs.{Refinement.{GroupAgrees}}
 pub use Rattle.adc_groups.specs.{Refinement.{HeldRight, is_handler, is_owed, IsBlock, IsNext, IsOrder, IsOver, IsRound}}
-pub use Rattle.adc_groups.specs.{Refinement.{IsSoundGroup, IsSoundRequest, Keeps, KeepsRight, kept_by, kept_in}}
-pub use Rattle.adc_groups.specs.{Refinement.{kept_of_round, number_at, number_by, or_else, phase_of, PlacesAgree}}
+pub use Rattle.adc_groups.specs.{Refinement.{IsSoundGroup, IsSoundRequest, Keeps, kept_by, kept_in}}
+pub use Rattle.adc_groups.specs.{Refinement.{kept_of_round, number_at, number_by, or_else, phase_of}}
 pub use Rattle.adc_groups.specs.{Refinement.{Promised, put_of, Reads, Reservation, Reservations, result_of}}
 pub use Rattle.adc_groups.specs.{Refinement.{RoundAgrees, running_of, some_hold, SoundGroup, Starts, starts_on}}
-pub use Rattle.adc_groups.specs.{Refinement.{take_of, TriggersAgree, UnitAgrees, Whole, WholeRight, will_yield, Yields}}
+pub use Rattle.adc_groups.specs.{Refinement.{take_of, TriggersAgree, UnitAgrees, Whole, will_yield, Yields}}
 pub use Rattle.adc_groups.specs.{Stored.{entry, group_in, group_word, order_of, phase_in, phase_number, rounds_of}}
-pub use Rattle.adc_groups.specs.{Stored.{start_of, word_number}, declared.body.AdcBody.{AdcBody}}
+pub use Rattle.adc_groups.specs.{Stored.{word_number}, declared.body.AdcBody.{AdcBody}}
 pub use Rattle.adc_groups.specs.{declared.body.Decided.TheVariants.{Goes}, declared.body.Place.{Place}}
 pub use Rattle.adc_groups.specs.{declared.body.Place.TheVariants.{Chooses, Flag, Looks, Makes, Out, Pins}}
 pub use Rattle.adc_groups.specs.{declared.body.Place.TheVariants.{Reads as ReadsPlace}}
@@ -88,6 +89,7 @@ pub use Rattle.adc_groups.specs.{declared.outside.Copied.{Copied}, declared.outs
 pub use Rattle.adc_groups.specs.{declared.outside.Taken.{Taken}, declared.service.read.Stage.{Stage}}
 pub use Rattle.adc_groups.specs.{declared.service.serve.RoundSeen.{RoundSeen}, declared.words.Phase.{Phase}}
 pub use Rattle.adc_groups.specs.{declared.words.TheConstants.{STATE}}
+pub use Rattle.adc_groups.specs.laws.bookkeeping.HeldAnew.{banks_stay, claimed_parts, holds_anew}
 pub use Rattle.adc_groups.specs.laws.{bookkeeping.FrameRule.{all_changed, AllSpare, changed, claim_stays, Fresh}}
 pub use Rattle.adc_groups.specs.laws.{bookkeeping.FrameRule.{place_stays, Stays}}
 pub use Rattle.adc_groups.specs.laws.{bookkeeping.PromisesKept.{promised_same, waits_other}}
@@ -97,7 +99,7 @@ pub use Rattle.adc_groups.specs.laws.{bookkeeping.TurnsOfUnit.{none_past, off_un
 pub use Rattle.adc_groups.specs.laws.{bookkeeping.TurnsOfUnit.{turn_round, unit_of_round}}
 pub use Rattle.adc_groups.specs.laws.{hardware.HardwareCommutes.{unit_block, unit_other, unit_set}}
 pub use Rattle.adc_groups.specs.laws.{hardware.PendingWritesStable.{acknowledged_list, acknowledged_over}}
-pub use Rattle.adc_groups.specs.laws.{hardware.StableUnderHardware.{kept_within, listed_agree, value_within}}
+pub use Rattle.adc_groups.specs.laws.{hardware.StableUnderHardware.{kept_within, value_within}}
 pub use Rattle.adc_groups.specs.laws.{services.BodySteps.{body_ends, body_work, copies_on, place_ends, step}}
 pub use Rattle.adc_groups.specs.laws.{services.CallSteps.{decides_so, held}, services.Decisions.{chosen, claim}}
 pub use Rattle.adc_groups.specs.laws.{services.Decisions.{column_of, copies_or, flagged, is_streamed, leaves, looking}}
@@ -111,16 +113,22 @@ pub use Rattle.adc_groups.specs.laws.{services.SingleWordCalls.{read_phase, read
 pub use Rattle.adc_groups.specs.laws.{services.StatusCalls.{Touches, turn_same}, services.StopWords.{bits_few}}
 pub use Rattle.adc_groups.specs.laws.{services.StopWords.{off_block, off_time, off_unit}}
 pub use Rattle.adc_groups.specs.laws.{services.WriteBatchSteps.{deed_move, making}, services.YieldRight.{none_aborted}}
-pub use Rattle.adc_groups.specs.laws.{services.YieldRight.{unclaimed}, words.DisjointWords.{place_apart, start_from}}
+pub use Rattle.adc_groups.specs.laws.{services.YieldRight.{unclaimed}, words.DisjointWords.{start_from}}
 pub use Rattle.adc_groups.specs.laws.{words.DisjointWords.{trio_apart}, words.OrderBetweenWrites.{differs_none}}
 pub use Rattle.adc_groups.specs.laws.{words.OrderBetweenWrites.{low_last, order_first, other_last, stands_last}}
 pub use Rattle.adc_groups.specs.laws.{words.OrderWords.{order_waiting, order_without}, words.StoreOneWord.{group_with}}
 pub use Rattle.adc_groups.specs.laws.{words.StoreOneWord.{others_here, stored_here, touched}}
 pub use Rattle.adc_groups.specs.laws.{words.StructureParts.{again_part, AllOf, deeds_listed, deeds_low, deeds_other}}
 pub use Rattle.adc_groups.specs.laws.{words.StructureParts.{deeds_unit, drop_part, lows_set, own_named, set_at}}
-pub use Rattle.adc_groups.specs.laws.{words.StructureParts.{stands_list, stands_words, units_set, word_there}}
+pub use Rattle.adc_groups.specs.laws.{words.StructureParts.{stands_list, units_set, word_there}}
 pub use Rattle.adc_groups.specs.laws.{words.WordsOfModule.{bank_below, claim_words, few_inputs, low_words, on_there}}
 pub use Rattle.adc_groups.specs.laws.{words.WordsOfModule.{order_words, place_words, running_words, some_inputs}}
 pub use Rattle.adc_groups.specs.laws.{words.WordsOfModule.{some_samples, trio_words, unit_is, unit_small, unit_within}}
 pub use Rattle.adc_groups.specs.laws.{words.WordsOfModule.{within}}
 pub use Rattle.adc_groups.specs.laws.words.Cases.{cases, whether, whether_as}
+pub use Rattle.adc_groups.specs.laws.words.OrderBetweenWrites.{order_within}
+pub use Rattle.adc_groups.specs.laws.words.WordsChange.{all_stay, AllStay, BankStays, claim_now, claim_other}
+pub use Rattle.adc_groups.specs.laws.words.WordsChange.{claim_stays_below, core_claim, core_place, core_trio}
+pub use Rattle.adc_groups.specs.laws.words.WordsChange.{CoreStays, HoldStays, kept_claimed, kept_place, kept_trio}
+pub use Rattle.adc_groups.specs.laws.words.WordsChange.{KeptStays, place_claimed, stays_agree, trio_claim}
+pub use Rattle.adc_groups.specs.laws.words.WordsChange.{trio_claimed, trio_far, trio_other, trio_result}

@@ -4,13 +4,13 @@ pub use Rattle.std.proofs.Common.{is_some, length, length-append, length-drop, l
 pub use Rattle.std.proofs.Common.{nat_lt, None, not, Option, refl, slice_get, slice_index, slice_index_or, slice_set}
 pub use Rattle.std.proofs.Common.{Some, subst, suc, sym, take, true, zero, ℕ}
 pub use Rattle.std.proofs.Math.Nat.{mod-eq_of_lt}
-pub use Rattle.std.proofs.lemmas.Bool.{and_parts, or_parts}
+pub use Rattle.std.proofs.lemmas.Bool.{and_parts}
 pub use Rattle.std.proofs.lemmas.Bool.Decides.{nat_tests}
 pub use Rattle.std.proofs.lemmas.List.{get_or-map, length-map}
 pub use Rattle.std.proofs.lemmas.List.FromFn.{length-range_with_len}
 pub use Rattle.std.proofs.lemmas.Option.{slice_get_within}
 pub use Rattle.std.specs.List.{list_any, range_with_len}
-pub use Rattle.mcal_base.specs.facts.{Numbers.{eq_is, eq_isnt, eq_other, eq_self, same_or_other}, Truths.{and_second}}
+pub use Rattle.mcal_base.specs.facts.{Numbers.{eq_is, eq_isnt, eq_other, eq_self, same_or_other}}
 pub use Rattle.mcal_base.specs.{Bits.{bit_of, has_bit}, declared.answer.Answer.{Answer}, declared.moves.Event.{Event}}
 pub use Rattle.mcal_base.specs.{declared.moves.Move.{Move}, declared.moves.Move.TheVariants.{Load, Mask, Note, Read}}
 pub use Rattle.mcal_base.specs.{declared.moves.Move.TheVariants.{Report, Store, Unmask, Write}}
@@ -32,12 +32,12 @@ pub use Rattle.word_shapes.specs.{PriorityQueue.{next_move, next_start, own_of, 
 pub use Rattle.word_shapes.specs.{declared.choosing.Front.{Front}, declared.choosing.Next.{Next}}
 pub use Rattle.service_outline.specs.{DeferredWrites.{CommitsTo, spot_or}, FrameHistory.{FrameHistory, fresh_history}}
 pub use Rattle.service_outline.specs.{FrameHistory.{Is_this_frame}, Services.{AssertedAt, ended_at, gap_at, holds_at}}
-pub use Rattle.service_outline.specs.{Services.{MakesTo, MayStop, place_at, PointAssertion, ReservedBy, RightOr}}
+pub use Rattle.service_outline.specs.{Services.{MakesTo, MayStop, place_at, PointAssertion, RightOr}}
 pub use Rattle.service_outline.specs.{Services.{with_holds}, Short.{ended_by}}
 pub use Rattle.service_outline.specs.laws.Words.{length_after, stored_other, stored_same}
 pub use Rattle.shapes_on_chip.proofs.{PartLaws.{memories, settles_list, settles_part, words-after}, Steps.{value-same}}
 pub use Rattle.shapes_on_chip.specs.{OnChip.{HasWords}, Parts.{after_list, CommitsAfter, DiffersIn}}
-pub use Rattle.adc_stream.specs.{Rounds.{bank_number, bank_word, kept_word, trio_of}, declared.rounds.Bank.{Bank}}
+pub use Rattle.adc_stream.specs.{Rounds.{kept_word, trio_of}}
 pub use Rattle.adc_machine.proofs.{Next.{next_is}, Parts.{group_same, round_same}, Rounds.{values_so_far}}
 pub use Rattle.adc_machine.specs.{Configured.{four_from, input_at, ranks_of, unit_of}, Groups.{ended_values}}
 pub use Rattle.adc_machine.specs.{Groups.{GroupState, inputs_left, inputs_of, is_finished, levels_from, newest}}
@@ -46,7 +46,7 @@ pub use Rattle.adc_machine.specs.{Machine.{aborting, aborts_on, adc_machine, is_
 pub use Rattle.adc_machine.specs.{Table.{group_of}, Triggers.{listener}, Turns.{aborted, aborts, aborts_by, AdcState}}
 pub use Rattle.adc_machine.specs.{Turns.{begun, group_at, has_turn, is_on, is_outranked, is_round_of, kept_of}}
 pub use Rattle.adc_machine.specs.{Turns.{next_group, number_of, rank_of, round_at, started, starts, starts_by}}
-pub use Rattle.adc_machine.specs.{Turns.{waits_for, with_waiting}, Words.{is_word, result_word}}
+pub use Rattle.adc_machine.specs.{Turns.{waits_for, with_waiting}, Words.{is_word}}
 pub use Rattle.adc_machine.specs.{declared.call.Call.{Call}, declared.call.ResultBuffer.{ResultBuffer}}
 pub use Rattle.adc_machine.specs.{declared.table.AdcTable.{AdcTable}}
 pub use Rattle.adc_groups.specs.{PendingWrites.{making_owed, owed_of, owed_own}, Places.{acted, adc_bodies}}
@@ -54,13 +54,13 @@ pub use Rattle.adc_groups.specs.{Places.{adc_windows, AdcGround, ends_claim, Has
 pub use Rattle.adc_groups.specs.{Places.{HasDone, HasMade, hold_in, hold_then, InWindow, IsFirst, IsSeeking, IsStart}}
 pub use Rattle.adc_groups.specs.{Places.{IsStarting, MaySeek, of_driver, Orders, Prepares, spot_start}}
 pub use Rattle.adc_groups.specs.{Refinement.{AdcRepresents, Agrees, AllRight, Backed, BanksAgree, chosen_of}}
-pub use Rattle.adc_groups.specs.{Refinement.{claim_fits, claim_right, Claims, claims_on, Clears, Copies, Fills}}
-pub use Rattle.adc_groups.specs.{Refinement.{first_held, FitsAdc, foot_of, Full, GroupAgrees, HeldRight, is_ahead}}
+pub use Rattle.adc_groups.specs.{Refinement.{claim_fits, claim_right, Claims, claims_on}}
+pub use Rattle.adc_groups.specs.{Refinement.{first_held, FitsAdc, foot_of, GroupAgrees, is_ahead}}
 pub use Rattle.adc_groups.specs.{Refinement.{is_handler, is_owed, IsBlock, IsOrder, IsOver, IsRound, IsSound}}
-pub use Rattle.adc_groups.specs.{Refinement.{IsSoundGroup, IsSoundRequest, Keeps, KeepsRight, kept_by, kept_in}}
-pub use Rattle.adc_groups.specs.{Refinement.{kept_of_round, number_at, number_by, phase_of, Promised, put_of, Reads}}
-pub use Rattle.adc_groups.specs.{Refinement.{Reservation, Reservations, result_of, RoundAgrees, running_of, some_hold}}
-pub use Rattle.adc_groups.specs.{Refinement.{SoundGroup, Starts, starts_on, take_of, TriggersAgree, UnitAgrees, Whole}}
+pub use Rattle.adc_groups.specs.{Refinement.{IsSoundGroup, IsSoundRequest, KeepsRight, kept_by, kept_in}}
+pub use Rattle.adc_groups.specs.{Refinement.{kept_of_round, number_at, number_by, phase_of, Promised, put_of}}
+pub use Rattle.adc_groups.specs.{Refinement.{Reservations, result_of, RoundAgrees, running_of, some_hold}}
+pub use Rattle.adc_groups.specs.{Refinement.{SoundGroup, Starts, starts_on, take_of, TriggersAgree, UnitAgrees}}
 pub use Rattle.adc_groups.specs.{Refinement.{will_yield, Yields}, Stored.{entry, group_word, order_of, rounds_of}}
 pub use Rattle.adc_groups.specs.{Stored.{word_number}, declared.body.AdcBody.{AdcBody}, declared.body.Decided.{Decided}}
 pub use Rattle.adc_groups.specs.{declared.body.Decided.TheVariants.{Goes}, declared.body.Place.{Place}}
@@ -71,6 +71,7 @@ pub use Rattle.adc_groups.specs.{declared.making.WindowWrite.TheVariants.{Abort,
 pub use Rattle.adc_groups.specs.{declared.making.WriteBatch.{WriteBatch}, declared.outside.Outside.TheVariants.{Closes}}
 pub use Rattle.adc_groups.specs.{declared.outside.Outside.TheVariants.{Counts}, declared.outside.Suspended.{Suspended}}
 pub use Rattle.adc_groups.specs.{declared.window.Window.{Window}, declared.words.TheConstants.{STATE}}
+pub use Rattle.adc_groups.specs.laws.bookkeeping.HeldAnew.{banks_stay, claim_tells, claimed_parts}
 pub use Rattle.adc_groups.specs.laws.{bookkeeping.FrameRule.{all_changed, AllSpare, changed, claim_stays, Fresh}}
 pub use Rattle.adc_groups.specs.laws.{bookkeeping.FrameRule.{place_stays, Stays, trio_group, turn_same}}
 pub use Rattle.adc_groups.specs.laws.{bookkeeping.PromisesKept.{promised_same, waits_other, yields_below}}
@@ -81,7 +82,7 @@ pub use Rattle.adc_groups.specs.laws.{bookkeeping.TurnsOfUnit.{turn_round, waits
 pub use Rattle.adc_groups.specs.laws.{hardware.HardwareCommutes.{unit_block, unit_other, unit_set}}
 pub use Rattle.adc_groups.specs.laws.{hardware.PendingWritesStable.{aborted_list}}
 pub use Rattle.adc_groups.specs.laws.{services.SingleWordCalls.{waiting_sound}}
-pub use Rattle.adc_groups.specs.laws.{hardware.StableUnderHardware.{Goes_on, listed_agree, now_here, Onward}}
+pub use Rattle.adc_groups.specs.laws.{hardware.StableUnderHardware.{Goes_on, kept_within, now_here, Onward}}
 pub use Rattle.adc_groups.specs.laws.{hardware.StableUnderHardware.{onward_agrees, UnitGoes}}
 pub use Rattle.adc_groups.specs.laws.{services.BeginDecisions.{any_off}, services.BodySteps.{after_making, body_ends}}
 pub use Rattle.adc_groups.specs.laws.{services.BodySteps.{body_takes, body_work, making_takes, place_ends, step}}
@@ -106,3 +107,7 @@ pub use Rattle.adc_groups.specs.laws.{words.StructureParts.{units_set, word_ther
 pub use Rattle.adc_groups.specs.laws.{words.WordsOfModule.{claim_words, few_inputs, get_dropped, low_words, on_there}}
 pub use Rattle.adc_groups.specs.laws.{words.WordsOfModule.{order_words, running_words, unit_is, within}}
 pub use Rattle.adc_groups.specs.laws.words.Cases.{cases, whether, whether_as}
+pub use Rattle.adc_groups.specs.laws.words.OrderBetweenWrites.{order_within}
+pub use Rattle.adc_groups.specs.laws.words.WordsChange.{all_stay, claim_now, claim_other, claim_stays_below}
+pub use Rattle.adc_groups.specs.laws.words.WordsChange.{core_claim, CoreStays, kept_claimed, place_claimed}
+pub use Rattle.adc_groups.specs.laws.words.WordsChange.{stays_agree, trio_claimed}

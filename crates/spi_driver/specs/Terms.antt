@@ -2,14 +2,14 @@
 pub use Rattle.std.proofs.Common.{All, ap, arith, Bool, cond, Contains, count_by, false, inl, inr, is_some, IsSome}
 pub use Rattle.std.proofs.Common.{length, List, nat_le, nat_lt, None, not, Option, refl, slice_get, slice_index_or}
 pub use Rattle.std.proofs.Common.{Some, subst, suc, sum_by, sym, take, true, zero, ℕ}
-pub use Rattle.std.proofs.lemmas.Bool.{and_parts}
+pub use Rattle.std.proofs.lemmas.Bool.{and_parts, or_right}
 pub use Rattle.std.proofs.lemmas.Bool.Decides.{nat_tests}
 pub use Rattle.std.proofs.lemmas.List.{get_or_default, length-take-le}
 pub use Rattle.std.proofs.lemmas.List.Concat.{flat_map-cons}
 pub use Rattle.std.proofs.lemmas.List.Elements.{Contains-get_or}
 pub use Rattle.std.proofs.lemmas.List.Sums.{count_by-le-length, sum_by-cons, sum_by-le}
 pub use Rattle.std.specs.List.{enumerate_from, list_all, list_any}
-pub use Rattle.mcal_base.specs.facts.{Options.{some_is}, Truths.{and_false, and_first}}
+pub use Rattle.mcal_base.specs.facts.{Numbers.{lt_from}, Options.{some_is}, Truths.{and_false, and_first}}
 pub use Rattle.mcal_base.specs.{Bits.{has_bit}, Layout.{is_within, start_of, words_of}, declared.TheConstants.{WORDS}}
 pub use Rattle.mcal_base.specs.{declared.answer.Answer.{Answer}, declared.answer_name.AnswerName.TheVariants.{ENotOk}}
 pub use Rattle.mcal_base.specs.{declared.answer_name.AnswerName.TheVariants.{EOk, SpiUninit}}
@@ -34,8 +34,8 @@ pub use Rattle.chip_model.specs.Chip.{Chip, chip_after, happened, is_masked, val
 pub use Rattle.run_model.specs.{Causes.{blocks}, Frame.{asks_reset, begins_word, Brought, brought_by, Called}}
 pub use Rattle.run_model.specs.{Frame.{caller_of, Entered, happening_at, happening_of, is_shared, missed_after, Open}}
 pub use Rattle.run_model.specs.{Frame.{Origin, outcome_of, Owing, owing, polled_by, resets_chip, served_by, state_by}}
-pub use Rattle.run_model.specs.{Legal.{has_line, is_left_waiting, IsNext, LeavesNone, ReceivedRight, SendsRight}}
-pub use Rattle.run_model.specs.{Legal.{StandsAt, StartsUncalled}, Machine.{Begun, no_answer, Outcome, outcome, outcome_with, Serves}}
+pub use Rattle.run_model.specs.{Legal.{has_line, is_left_waiting, IsNext, LeavesNone, ReceivedRight}}
+pub use Rattle.run_model.specs.{Legal.{StandsAt, StartsUncalled}, Machine.{no_answer, Outcome, outcome, outcome_with, Serves}}
 pub use Rattle.run_model.specs.{Machine.{Starts, tells_nothing, Told}, World.{World, world_after}}
 pub use Rattle.step_runner.proofs.Whose.{not-unless}
 pub use Rattle.step_runner.specs.Driver.{AllOutside, IsFree, IsLawful}
@@ -69,8 +69,8 @@ pub use Rattle.service_outline.specs.laws.{Both.{both_ending, both_right}, Dutie
 pub use Rattle.service_outline.specs.laws.{Lawful.{services_lawful}, Owing.{not_filled, windows_right}}
 pub use Rattle.service_outline.specs.laws.{Reports.{error_told}, Seen.{waiting_windows}, ShortServices.{plain_makes}}
 pub use Rattle.service_outline.specs.laws.{ShortServices.{plain_turns}, StepKinds.{asks_no, same_line}}
-pub use Rattle.spi_jobs.specs.{Parts.{asking, commit_ends, find_gave, find_move, gave, has_ended, keep_ends}}
-pub use Rattle.spi_jobs.specs.{Parts.{prepare_ends, releasing}, Placing.{bank_of, bank_word, control_word, held_word}}
+pub use Rattle.spi_jobs.specs.{Parts.{commit_ends, find_gave, gave, has_ended, keep_ends}}
+pub use Rattle.spi_jobs.specs.{Parts.{prepare_ends, releasing}, Placing.{bank_of, bank_word, control_word}}
 pub use Rattle.spi_jobs.specs.{Placing.{trio_of}, declared.channel.Channel.{Channel}, declared.channel.Placed.{Placed}}
 pub use Rattle.spi_jobs.specs.{declared.channel.Side.{Side}, declared.channel.Side.TheVariants.{Received, Sent}}
 pub use Rattle.spi_jobs.specs.{declared.finding.Find.{Find}}
@@ -169,6 +169,7 @@ pub use Rattle.spi_sequences.specs.laws.{services.UnitSteps.{passes, requested_b
 pub use Rattle.spi_sequences.specs.laws.{services.UnitSteps.{unit_move, unit_over, unit_takes, unit_work}}
 pub use Rattle.spi_sequences.specs.laws.{services.WriteRight.{first-at, write_bodies, write_right}}
 pub use Rattle.spi_sequences.specs.laws.{words.ConfigurationFits.{job_row, rows, sequence_row, so_at, some_of}}
+pub use Rattle.spi_sequences.specs.laws.words.ListTests.{last_below}
 pub use Rattle.spi_sequences.specs.laws.{words.JobPlaces.{listed, number_there, place_found, place_missing, unit_few}}
 pub use Rattle.spi_sequences.specs.laws.{words.PendingWords.{holds_back, holds_changed, HoldsLike}}
 pub use Rattle.spi_sequences.specs.laws.{words.SideWords.{trio_fits}, words.WordsOfModule.{has_channel, in_list}}
@@ -193,15 +194,17 @@ pub use Rattle.spi_sequences.specs.laws.{words.WordsToState.{pending_word}}
 pub use Rattle.spi_sequences.specs.laws.words.Cases.{whether, whether_as}
 pub use Rattle.spi_machine.specs.State.{carries_channel}
 pub use Rattle.spi_starting.specs.Starting.{start_left, start_place}
+pub use Rattle.spi_starting.specs.laws.bookkeeping.RanState.{debt_of}
 pub use Rattle.spi_starting.specs.laws.services.StartAround.{none_owed, owed_left_is, start_calm, start_later}
 pub use Rattle.spi_starting.specs.laws.services.StartAround.{start_may, start_shorter}
-pub use Rattle.spi_starting.specs.laws.services.StartRight.{start_right}
-pub use Rattle.spi_serving.specs.Serving.{serve_fuel, serve_place, serve_room}
+pub use Rattle.spi_starting.specs.laws.services.StartRight.{start_right, StartBegins}
+pub use Rattle.spi_serving.specs.Serving.{notices_by, serve_ahead, serve_fuel, serve_place, serve_room}
 pub use Rattle.spi_serving.specs.laws.{bookkeeping.LastWordFits.{place_fits}, services.ServeAround.{NotServing}}
-pub use Rattle.spi_serving.specs.laws.{services.ServeAround.{serve_calm, serve_later}, services.ServeBounds.{less_fuel}}
-pub use Rattle.spi_serving.specs.laws.{services.ServeBounds.{less_room}, services.ServeMoves.{serve_may}}
-pub use Rattle.spi_serving.specs.laws.{services.ServeRight.{steps_right}}
+pub use Rattle.spi_serving.specs.laws.{services.ServeAround.{serve_calm, serve_later}}
+pub use Rattle.spi_serving.specs.laws.services.ServeBounds.{Fewer as ServeLess, less_fuel, less_room}
+pub use Rattle.spi_serving.specs.laws.{services.ServeMoves.{serve_may}}
+pub use Rattle.spi_serving.specs.laws.{services.ServeRight.{ServeHappens, ServeOwes, steps_right}}
 pub use Rattle.spi_sending.specs.Sending.{about_sent, SendAbout, SendAhead, ToEnd, ToWait}
 pub use Rattle.spi_sending.specs.Sending.{StandsAbout, StandsAhead, sync_bodies, sync_spot, sync_windows}
 pub use Rattle.spi_sending.specs.laws.services.{SendBegins.{begins_at, begins_few}, SendRight.{sender, sync_opens, sync_right}}
-pub use Rattle.spi_sending.specs.laws.services.{SendWindows.{AreWindowsRight}}
+pub use Rattle.spi_sending.specs.laws.services.{SendAround.{asking_plain, find_plain}, SendWindows.{AreWindowsRight}}

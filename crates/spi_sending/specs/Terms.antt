@@ -19,7 +19,7 @@ pub use Rattle.mcal_base.specs.declared.moves.Move.{Move}
 pub use Rattle.mcal_base.specs.declared.moves.Move.TheVariants.{Load, Mask, Read, Store, Unmask, Write}
 pub use Rattle.mcal_base.specs.declared.register.Reg.TheVariants.{SerialData, SerialSelect, SerialWait}
 pub use Rattle.mcal_base.specs.declared.service.Service.TheVariants.{SpiSyncTransmit}
-pub use Rattle.mcal_base.specs.facts.Numbers.{lt_itself, lt_next, same_or_other}
+pub use Rattle.mcal_base.specs.facts.Numbers.{lt_from, lt_itself, lt_next, positive, same_or_other}
 pub use Rattle.mcal_base.specs.facts.Options.{some_is}
 pub use Rattle.run_model.proofs.OutsideLaws.{stands-move}
 pub use Rattle.run_model.specs.Causes.{blocks}
@@ -116,14 +116,14 @@ pub use Rattle.spi_sequences.specs.declared.service.sync.SyncPlace.{SyncPlace}
 pub use Rattle.spi_sequences.specs.declared.words.Position.{Position}
 pub use Rattle.spi_sequences.specs.declared.words.Running.{Running}
 pub use Rattle.spi_sequences.specs.declared.words.TheConstants.{FAILED, MARKS, NEXTS, PENDING, STATE}
-pub use Rattle.spi_sequences.specs.laws.bookkeeping.AcceptedState.{map_get}
+pub use Rattle.spi_sequences.specs.laws.bookkeeping.AcceptedState.{map_at, map_get}
 pub use Rattle.spi_sequences.specs.laws.bookkeeping.PendingWritesBounds.{owed_right}
 pub use Rattle.spi_sequences.specs.laws.bookkeeping.RefinementRight.{apart_agrees}
 pub use Rattle.spi_sequences.specs.laws.bookkeeping.SequenceEnded.{ended_sound, ended_view, ended_words, get_contained}
 pub use Rattle.spi_sequences.specs.laws.bookkeeping.SequenceEnded.{jobs_once, Leaves, leaves_begun}
 pub use Rattle.spi_sequences.specs.laws.hardware.AfterReset.{by_two, none_in}
-pub use Rattle.spi_sequences.specs.laws.hardware.StableUnderHardware.{mode_later, pointwise}
-pub use Rattle.spi_sequences.specs.laws.services.CancelRight.{from_order, not_order, to_order}
+pub use Rattle.spi_sequences.specs.laws.hardware.StableUnderHardware.{mode_later, pointwise, set_unit, words_kept}
+pub use Rattle.spi_sequences.specs.laws.services.CancelRight.{not_order}
 pub use Rattle.spi_sequences.specs.laws.services.QueryRight.{may_first}
 pub use Rattle.spi_sequences.specs.laws.services.ServeSteps.{after_word, begins_by, begins_of, channel_next}
 pub use Rattle.spi_sequences.specs.laws.services.ServeSteps.{channel_served, commit_by, commit_last, ends_of}
@@ -147,12 +147,12 @@ pub use Rattle.spi_sequences.specs.laws.words.ConfigurationFits.{some_of}
 pub use Rattle.spi_sequences.specs.laws.words.FirstParts.{as_read, external_part, internal_part, part_at, part_by}
 pub use Rattle.spi_sequences.specs.laws.words.FirstParts.{part_for, read_set_up, some_words, words_are}
 pub use Rattle.spi_sequences.specs.laws.words.JobPlaces.{at_left, job_place, job_unit, left_at, LeftAt, one_place}
-pub use Rattle.spi_sequences.specs.laws.words.JobPlaces.{unit_few}
+pub use Rattle.spi_sequences.specs.laws.words.JobPlaces.{is_behind, is_next, next_ahead, next_left, unit_few}
 pub use Rattle.spi_sequences.specs.laws.words.KeptWords.{banks_view, next_view, sequences_as, sound_as}
 pub use Rattle.spi_sequences.specs.laws.words.ListTests.{any_in, any_none, any_some, none_any, one_unit}
 pub use Rattle.spi_sequences.specs.laws.words.PendingWords.{banks_held, holds_changed, holds_debt, HoldsLike}
 pub use Rattle.spi_sequences.specs.laws.words.PendingWords.{stands_owed}
-pub use Rattle.spi_sequences.specs.laws.words.SameWords.{banks_words, going_words, job_small}
+pub use Rattle.spi_sequences.specs.laws.words.SameWords.{banks_words, going_words, job_small, order_stays}
 pub use Rattle.spi_sequences.specs.laws.words.SendsKept.{sends_as}
 pub use Rattle.spi_sequences.specs.laws.words.WordsOfModule.{has_channel, of_banks, of_held, of_one, of_set_up}
 pub use Rattle.spi_sequences.specs.laws.words.WordsOfModule.{few_places, of_sixteen, own_first, past_the_first}
@@ -198,10 +198,10 @@ pub use Rattle.spi_starting.specs.laws.bookkeeping.ChosenNext.{first_placed, fir
 pub use Rattle.spi_starting.specs.laws.bookkeeping.RanState.{SentAt}
 pub use Rattle.spi_starting.specs.laws.bookkeeping.UnitTurned.{turned_agrees}
 pub use Rattle.spi_starting.specs.laws.services.ReadyOwed.{OwesReady, ready_at, ready_by, ready_from, ready_next}
-pub use Rattle.spi_starting.specs.laws.services.StartAround.{below_two, may_find, or_may, turns_kept, words_kept}
+pub use Rattle.spi_starting.specs.laws.services.StartAround.{may_find, or_may, turns_kept}
 pub use Rattle.spi_starting.specs.laws.words.FirstWord.{first_is, found}
 pub use Rattle.spi_starting.specs.laws.words.ReadyWords.{Ready, ready_first}
-pub use Rattle.std.proofs.Common.{ap, arith, Bool, Contains, drop, false, flat_map, get_or-set_other, get_or-set_same}
+pub use Rattle.std.proofs.Common.{ap, arith, Bool, Contains, false, flat_map, get_or-set_other, get_or-set_same}
 pub use Rattle.std.proofs.Common.{inl, inr, is_some, length, length-set, List, map, max, min, nat_le, nat_lt, None, not}
 pub use Rattle.std.proofs.Common.{Option, refl, slice_get, slice_index, slice_index_or, slice_set, Some, subst, suc}
 pub use Rattle.std.proofs.Common.{sym, take, true, zero, ℕ}
@@ -213,7 +213,6 @@ pub use Rattle.std.proofs.lemmas.List.Concat.{flat_map-cons}
 pub use Rattle.std.proofs.lemmas.List.Elements.{Contains-get_or}
 pub use Rattle.std.proofs.lemmas.Option.{same_Some}
 pub use Rattle.std.specs.List.{list_any}
-pub use Rattle.word_shapes.proofs.PriorityQueueLaws.{holds-agree}
 pub use Rattle.word_shapes.proofs.TripleBufferLaws.{stands-agree}
 pub use Rattle.word_shapes.specs.Banks.{committing as committing_banks, Putting}
 pub use Rattle.word_shapes.specs.Playing.{Memory}

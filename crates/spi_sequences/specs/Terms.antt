@@ -1,8 +1,9 @@
 -- The vocabulary of this crate's laws: what its law files take from elsewhere.
-pub use Rattle.std.proofs.Common.{ap, arith, bit_and, bit_or, Bool, cond, Contains, count_by, drop, false, filter, find}
-pub use Rattle.std.proofs.Common.{flat_map, get_or-set_other, get_or-set_same, inl, inr, is_some, length, length-set}
-pub use Rattle.std.proofs.Common.{List, map, nat_eq, nat_le, nat_lt, None, not, Option, refl, replicate, slice_get}
-pub use Rattle.std.proofs.Common.{slice_index, slice_index_or, Some, subst, suc, sum_by, sym, take, true, zero, ℕ}
+pub use Rattle.std.proofs.Common.{ap, arith, bit_and, bit_or, Bool, cond, Contains, count_by, drop, false, filter}
+pub use Rattle.std.proofs.Common.{find, flat_map, get_or-set_other, get_or-set_same, inl, inr, is_some, length}
+pub use Rattle.std.proofs.Common.{length-set, List, map, nat_eq, nat_le, nat_lt, None, not, Option, refl, replicate}
+pub use Rattle.std.proofs.Common.{slice_get, slice_index, slice_index_or, slice_set, Some, subst, suc, sum_by, sym}
+pub use Rattle.std.proofs.Common.{take, true, zero, ℕ}
 pub use Rattle.std.proofs.lemmas.Bool.{and_parts, or_left, or_parts, or_right}
 pub use Rattle.std.proofs.lemmas.Bool.Decides.{nat_tests}
 pub use Rattle.std.proofs.lemmas.Grind.{common_steps}
@@ -20,7 +21,8 @@ pub use Rattle.std.proofs.lemmas.Nat.{or_disjoint, pow_apart}
 pub use Rattle.std.proofs.lemmas.Option.{same_Some, slice_get-map}
 pub use Rattle.std.specs.List.{enumerate_from, list_any}
 pub use Rattle.std.specs.Option.{option_map}
-pub use Rattle.mcal_base.specs.facts.{Numbers.{eq_isnt, same_or_other}, Options.{some_is}, Truths.{and_false, clear_apart, set_apart}}
+pub use Rattle.mcal_base.specs.facts.{Numbers.{eq_is, eq_isnt, lt_from, lt_since, same_or_other}, Options.{some_is}}
+pub use Rattle.mcal_base.specs.facts.Truths.{and_false, clear_apart, set_apart}
 pub use Rattle.mcal_base.proofs.BitLaws.{has_bit-or, has_bit-pow_other, has_bit-without, has_bit-zero}
 pub use Rattle.mcal_base.specs.{Bits.{has_bit}, Layout.{is_within, place_of, start_of}, declared.TheConstants.{WORDS}}
 pub use Rattle.mcal_base.specs.{declared.answer.Answer.{Answer}, declared.answer_name.AnswerName.{AnswerName}}
@@ -72,7 +74,7 @@ pub use Rattle.word_shapes.specs.{declared.search.Search.{Search}, declared.sear
 pub use Rattle.word_shapes.specs.{declared.search.Sought.TheVariants.{All, More}, declared.take.Take.{Take}}
 pub use Rattle.word_shapes.specs.{declared.triple_buffer.TripleBuffer.{TripleBuffer}}
 pub use Rattle.service_outline.specs.{Acts.{Cleans}, DeferredWrites.{agrees_after, AreFree, AreWindows, CommitsTo}}
-pub use Rattle.service_outline.specs.{DeferredWrites.{GoesFree, GoesOwing, is_simple, same_chip, Under, Windows}}
+pub use Rattle.service_outline.specs.{DeferredWrites.{GoesFree, GoesOwing, is_fill, is_simple, same_chip, Under, Windows}}
 pub use Rattle.run_model.specs.{Machine.{answers, named, named_with}}
 pub use Rattle.service_outline.specs.{DeferredWrites.{windows}, Done.{acts, ends, goes}}
 pub use Rattle.service_outline.specs.{Done.{owed_error}, FrameHistory.{FrameHistory, fresh_history, Is_this_frame}}
@@ -140,7 +142,7 @@ pub use Rattle.spi_machine.specs.{Wiring.{is_sync_sequence, served_lines}}
 pub use Rattle.spi_machine.specs.{declared.table.Job.{Job}, declared.table.Sequence.{Sequence}}
 pub use Rattle.spi_machine.specs.{declared.table.SpiTable.{SpiTable}, declared.table.TheConstants.{NO_CHANNEL}}
 pub use Rattle.spi_sequences.specs.{Going.{ExternalAgrees, goes_by, Going, GoingAgrees, InternalAgrees, InTransfer}}
-pub use Rattle.spi_sequences.specs.{Going.{Part, PartBy, run_of, UnitAgrees, width_by, WordAgrees, words_of}}
+pub use Rattle.spi_sequences.specs.{Going.{is_ahead, Part, PartBy, run_of, UnitAgrees, width_by, WordAgrees, words_of}}
 pub use Rattle.spi_sequences.specs.{Going.{CarriesAgrees}, Refinement.{all_of, AllSend, CarriesRight, entries_begun}}
 pub use Rattle.spi_sequences.specs.{Refinement.{AreCarried, entry_carried, is_sent, IsSending, KnowsEnd, run_carried, RunsBy, Sending}}
 pub use Rattle.spi_sequences.specs.{Refinement.{SendingRight}, PendingWrites.{cancel_owed_at, Cancels, commit_more, commits_left, drop_more}}

@@ -13,7 +13,8 @@ pub use Rattle.std.proofs.lemmas.List.Elements.{Contains-get_or}
 pub use Rattle.std.proofs.lemmas.List.Sums.{sum_by-cons}
 pub use Rattle.std.proofs.lemmas.Nat.{and_le_l, and_le_r, or_disjoint, or_mod, or_shr}
 pub use Rattle.std.specs.List.{enumerate_from, list_any}
-pub use Rattle.mcal_base.specs.facts.{Numbers.{lt_itself, lt_next, lt_zero, same_or_other}, Options.{some_is}}
+pub use Rattle.mcal_base.specs.facts.Numbers.{le_since, lt_from, lt_itself, lt_next, lt_since, lt_zero, positive, same_or_other}
+pub use Rattle.mcal_base.specs.facts.Options.{some_is}
 pub use Rattle.mcal_base.specs.{Bits.{bit_of, has_bit}, Layout.{place_of}, declared.TheConstants.{WORDS}}
 pub use Rattle.mcal_base.specs.{declared.answer.Answer.{Answer}, declared.answer_name.AnswerName.{AnswerName}}
 pub use Rattle.mcal_base.specs.{declared.answer_name.AnswerName.TheVariants.{SpiJobOk, SpiJobPending, SpiJobQueued}}
@@ -27,8 +28,8 @@ pub use Rattle.mcal_base.specs.{declared.moves.Move.{Move}, declared.moves.Move.
 pub use Rattle.mcal_base.specs.{declared.notice.Notice.{Notice}, declared.register.Reg.TheVariants.{SerialAck}}
 pub use Rattle.mcal_base.specs.{declared.register.Reg.TheVariants.{SerialData, SerialWidth}}
 pub use Rattle.chip_units.specs.{Serials.{idle, unit_at}, declared.serial.Serial.{Serial}, declared.serial.Word.{Word}}
-pub use Rattle.chip_model.proofs.HistoryLaws.{level_leaves, word-left}
-pub use Rattle.chip_model.specs.{Chip.{Chip, chip_after, happened, value_of, word_of}, Histories.{Hardware}}
+pub use Rattle.chip_model.proofs.HistoryLaws.{level_leaves}
+pub use Rattle.chip_model.specs.{Chip.{Chip, chip_after, happened, value_of, word_of}}
 pub use Rattle.run_model.proofs.OutsideLaws.{stands-move}
 pub use Rattle.run_model.specs.{Frame.{begins_word, is_shared, Origin, resets_chip}, Legal.{SendsRight}}
 pub use Rattle.run_model.specs.{Machine.{Begun, Outcome, outcome_with, select_of, Serves}, Outside.{StandsIn}}
@@ -44,7 +45,7 @@ pub use Rattle.word_shapes.specs.{declared.dropped.Dropped.{Dropped}, declared.p
 pub use Rattle.word_shapes.specs.{declared.triple_buffer.TripleBuffer.{TripleBuffer}}
 pub use Rattle.service_outline.specs.{DeferredWrites.{CommitsTo, is_fill}, Services.{ReservedBy}}
 pub use Rattle.service_outline.specs.laws.Words.{stored_other, stored_same}
-pub use Rattle.shapes_on_chip.proofs.PartLaws.{memories, one_owed, settles_part}
+pub use Rattle.shapes_on_chip.proofs.PartLaws.{one_owed, settles_part}
 pub use Rattle.shapes_on_chip.specs.{OnChip.{AreThere}, Parts.{DiffersIn, IsPart, PartTo}}
 pub use Rattle.spi_jobs.specs.{Parts.{asking, committing as committing_of, find_gave, find_left, find_move, finding}}
 pub use Rattle.spi_jobs.specs.{Parts.{found_in, free_bank, keeping, releasing, releasing as releasing_of, taker_of}}
@@ -112,7 +113,7 @@ pub use Rattle.spi_sequences.specs.laws.{bookkeeping.SequenceEnded.{ended_sound,
 pub use Rattle.spi_sequences.specs.laws.{bookkeeping.SequenceEnded.{filter_keeps, left_order, stay, there_back}}
 pub use Rattle.spi_sequences.specs.laws.{bookkeeping.SequenceEnded.{there_by}, hardware.AfterReset.{by_two, none_in}}
 pub use Rattle.spi_sequences.specs.laws.{hardware.SourceFilled.{any_in, own_low}}
-pub use Rattle.spi_sequences.specs.laws.{hardware.StableUnderHardware.{done_same, pointwise}}
+pub use Rattle.spi_sequences.specs.laws.hardware.StableUnderHardware.{any_changed, done_same, pointwise, set_unit, words_kept}
 pub use Rattle.spi_sequences.specs.laws.{services.CancelRight.{found_entry, from_order, IsFound, named_own, not_order}}
 pub use Rattle.spi_sequences.specs.laws.{services.CancelRight.{order_there, own_order, to_order}}
 pub use Rattle.spi_sequences.specs.laws.{services.QueryRight.{may_first}, services.ReadRight.{length-first}}
@@ -126,10 +127,12 @@ pub use Rattle.spi_sequences.specs.laws.{services.ServeSteps.{serve_commits, ser
 pub use Rattle.spi_sequences.specs.laws.{services.ServeSteps.{serve_releases, serve_run, serve_takes}}
 pub use Rattle.spi_sequences.specs.laws.{services.SetUpRight.{may_store, may_users, none_stored}}
 pub use Rattle.spi_sequences.specs.laws.{services.UnitSteps.{after_serve, unit_over}, services.WriteRight.{first-at}}
-pub use Rattle.spi_sequences.specs.laws.{words.JobPlaces.{at_left, job_unit, left_at, LeftAt, one_place}}
+pub use Rattle.spi_sequences.specs.laws.words.JobPlaces.{is_behind, is_next, job_unit, next_ahead, next_left}
+pub use Rattle.spi_sequences.specs.laws.words.JobPlaces.{one_place}
 pub use Rattle.spi_sequences.specs.laws.{words.KeptWords.{banks_view, sequences_as, sound_as}}
 pub use Rattle.spi_sequences.specs.laws.{words.PendingWords.{banks_held, holds_debt, stands_owed}}
-pub use Rattle.spi_sequences.specs.laws.{words.SameWords.{banks_words, contains_map, job_small, job_there, part_there}}
+pub use Rattle.spi_sequences.specs.laws.words.SameWords.{banks_words, contains_map, going_words, job_small, job_there}
+pub use Rattle.spi_sequences.specs.laws.words.SameWords.{order_stays, part_there, part_words, sequences_stay}
 pub use Rattle.spi_sequences.specs.laws.{words.SequenceDigits.{first_other, first_same}, words.SideWords.{none_readied}}
 pub use Rattle.spi_sequences.specs.laws.{words.SideWords.{not_first, not_held, not_of_other, not_users, set_up_by}}
 pub use Rattle.spi_sequences.specs.laws.{words.SideWords.{sides_apart, stands_by_store, trio_fits}}

@@ -10,7 +10,7 @@ pub use Rattle.std.proofs.lemmas.List.Concat.{flat_map-cons}
 pub use Rattle.std.proofs.lemmas.List.Elements.{Contains-get_or}
 pub use Rattle.std.proofs.lemmas.Option.{same_Some, slice_get_within}
 pub use Rattle.std.specs.List.{list_any}
-pub use Rattle.mcal_base.specs.facts.{Numbers.{lt_itself, lt_next, same_or_other}, Options.{some_is}}
+pub use Rattle.mcal_base.specs.facts.{Numbers.{lt_from, lt_itself, lt_next, same_or_other}, Options.{some_is}}
 pub use Rattle.mcal_base.specs.{Bits.{has_bit}, Layout.{place_of}, declared.TheConstants.{WORDS}}
 pub use Rattle.mcal_base.specs.{declared.answer.Answer.{Answer}, declared.answer_name.AnswerName.TheVariants.{SpiJobOk}}
 pub use Rattle.mcal_base.specs.{declared.answer_name.AnswerName.TheVariants.{SpiJobPending, SpiJobQueued}}
@@ -24,8 +24,8 @@ pub use Rattle.mcal_base.specs.{declared.register.Reg.TheVariants.{SerialData, S
 pub use Rattle.mcal_base.specs.{declared.routine.Taken.{Taken}}
 pub use Rattle.chip_units.specs.{Serials.{idle, outgoing, unit_at}, declared.serial.Serial.{Serial}}
 pub use Rattle.chip_units.specs.{declared.serial.Word.{Word}}
-pub use Rattle.chip_model.proofs.HistoryLaws.{level_leaves, word-left}
-pub use Rattle.chip_model.specs.{Chip.{Chip, chip_after, happened, value_of, word_of}, Histories.{Hardware}}
+pub use Rattle.chip_model.proofs.HistoryLaws.{level_leaves}
+pub use Rattle.chip_model.specs.{Chip.{Chip, chip_after, happened, value_of, word_of}}
 pub use Rattle.run_model.proofs.OutsideLaws.{stands-move}
 pub use Rattle.run_model.specs.{Frame.{begins_word, is_shared, Origin, resets_chip}, Legal.{SendsRight, StandsAt}}
 pub use Rattle.run_model.specs.{Machine.{Begun, outcome_with, select_of, Starts, tells_nothing}, Outside.{StandsIn}}
@@ -43,7 +43,7 @@ pub use Rattle.word_shapes.specs.{declared.choosing.Next.{Next}, declared.search
 pub use Rattle.word_shapes.specs.{declared.take.Take.{Take}, declared.triple_buffer.TripleBuffer.{TripleBuffer}}
 pub use Rattle.service_outline.specs.{DeferredWrites.{is_fill, is_simple}, Services.{ReservedBy}}
 pub use Rattle.service_outline.specs.laws.Words.{length_after, stored_other, stored_same}
-pub use Rattle.shapes_on_chip.proofs.PartLaws.{memories, one_owed, settles_part}
+pub use Rattle.shapes_on_chip.proofs.PartLaws.{one_owed, settles_part}
 pub use Rattle.shapes_on_chip.specs.{OnChip.{AreThere, HasWords}, Parts.{CommitsAfter, DiffersIn, IsPart, PartTo}}
 pub use Rattle.spi_jobs.specs.{Parts.{find_gave, find_move, finding_first, gave, has_ended, number_in}}
 pub use Rattle.spi_jobs.specs.{Parts.{pinning as pinning_of, prepare_ends, preparing, releasing as releasing_of}}
@@ -93,11 +93,12 @@ pub use Rattle.spi_sequences.specs.laws.{bookkeeping.ClearedUnit.{clears}, bookk
 pub use Rattle.spi_sequences.specs.laws.{bookkeeping.FrameRule.{get_back, item, item_for, Keeps, sequences_after}}
 pub use Rattle.spi_sequences.specs.laws.{bookkeeping.FrameRule.{sound_changed}, bookkeeping.MarkedState.{marked_other}}
 pub use Rattle.spi_sequences.specs.laws.{bookkeeping.MarkedState.{marked_same}, bookkeeping.NextChosen.{best_in}}
-pub use Rattle.spi_sequences.specs.laws.{bookkeeping.NextChosen.{choice_next, number_of}}
+pub use Rattle.spi_sequences.specs.laws.{bookkeeping.NextChosen.{choice_next, free_rests, number_of}}
 pub use Rattle.spi_sequences.specs.laws.{bookkeeping.RefinementRight.{apart_agrees}}
 pub use Rattle.spi_sequences.specs.laws.{bookkeeping.SequenceEnded.{filter_back, filter_keeps, get_contained}}
 pub use Rattle.spi_sequences.specs.laws.{hardware.AfterReset.{by_two, none_in}, hardware.SourceFilled.{any_in, own_low}}
-pub use Rattle.spi_sequences.specs.laws.{hardware.StableUnderHardware.{any_changed}, services.CancelRight.{from_order}}
+pub use Rattle.spi_sequences.specs.laws.{hardware.StableUnderHardware.{any_changed, set_unit, words_kept}}
+pub use Rattle.spi_sequences.specs.laws.services.CancelRight.{from_order}
 pub use Rattle.spi_sequences.specs.laws.{services.CancelRight.{named_own, not_order, order_there, own_order, to_order}}
 pub use Rattle.spi_sequences.specs.laws.{services.InitPrepared.{in_first, in_later}, services.QueryRight.{may_first}}
 pub use Rattle.spi_sequences.specs.laws.{services.SetUpRight.{may_store, may_users, none_stored}}
@@ -111,7 +112,7 @@ pub use Rattle.spi_sequences.specs.laws.{words.FirstParts.{internal_part, part_a
 pub use Rattle.spi_sequences.specs.laws.{words.FirstParts.{set_up_fits, some_words, words_are}}
 pub use Rattle.spi_sequences.specs.laws.{words.JobPlaces.{job_place, left_at, one_place}}
 pub use Rattle.spi_sequences.specs.laws.{words.PendingWords.{holds_back, holds_changed, holds_debt, stands_owed}}
-pub use Rattle.spi_sequences.specs.laws.{words.SameWords.{contains_map, job_small, job_there, part_there}}
+pub use Rattle.spi_sequences.specs.laws.words.SameWords.{contains_map, going_words, job_small, job_there, order_stays}
 pub use Rattle.spi_sequences.specs.laws.{words.SideWords.{differs_by_store, none_readied, not_first, not_held}}
 pub use Rattle.spi_sequences.specs.laws.{words.SideWords.{not_of_other, not_users, set_up_by, sides_apart, trio_fits}}
 pub use Rattle.spi_sequences.specs.laws.{words.WordsOfModule.{has_channel, in_order, internal_words, IsWordOf}}
@@ -121,7 +122,7 @@ pub use Rattle.spi_sequences.specs.laws.{words.WordsOfModule.{own_set_up, past_t
 pub use Rattle.spi_sequences.specs.laws.{words.WordsOfModule.{starts_at}, words.WordsToState.{any_some, at_contained}}
 pub use Rattle.spi_sequences.specs.laws.{words.WordsToState.{going_free, going_next, going_run, going_runs, is_number}}
 pub use Rattle.spi_sequences.specs.laws.{words.WordsToState.{is_past, next_there, not_true, one_by_job, one_pending}}
-pub use Rattle.spi_sequences.specs.laws.{words.WordsToState.{one_unit, other_number, runs_on, RunsOn, same_number}}
+pub use Rattle.spi_sequences.specs.laws.{words.WordsToState.{one_unit, other_number, same_number}}
 pub use Rattle.spi_starting.specs.Starting.{find_more, first_word, IsChosen, IsFirst, IsFree, LooksAt, Seen, start_left}
 pub use Rattle.spi_starting.specs.Starting.{start_place, will_give, will_read}
 pub use Rattle.spi_machine.specs.Machine.{sent_by, sent_word, start_of}

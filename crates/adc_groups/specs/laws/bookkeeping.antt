@@ -1,4 +1,5 @@
 pub mod FrameRule
+pub mod HeldAnew
 pub mod NoTurnKeepsNothing
 pub mod PendingWritesRight
 pub mod PromisesKept

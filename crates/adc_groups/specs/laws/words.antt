@@ -9,4 +9,5 @@ pub mod StreamPlaces
 pub mod StructureParts
 pub mod WindowWords
 pub mod WordsAtRest
+pub mod WordsChange
 pub mod WordsOfModule

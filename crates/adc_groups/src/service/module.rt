@@ -1,4 +1,4 @@
-ghost use Rattle.std.specs.Prelude.{◌≡◌};
+ghost use Rattle.std.specs.Prelude.{◌≡◌, ◌-◌, ◌≤◌};
 ghost use Rattle.adc_groups.specs.laws.services.InitSteps as spec;
 
 use crate::words::{LINES, STATE, Word, order_of, word_number};
@@ -6,7 +6,7 @@ use adc_machine::AdcTable;
 use mcal_base::{Move, Reg};
 use service_outline::{Body, BodyTaken, Epilogue, Objects, acts_with, goes, nothing};
 
-/// The words that `Adc_Init` clears, with the mask open: three of each unit, and where groups are configured four of each.
+/// The words that `Adc_Init` clears, with the mask open: three of each unit, and four of each configured group.
 #[derive(Drop)]
 pub struct Setup {
     /// The driver.
@@ -25,28 +25,11 @@ impl Objects for Setup {
     ghost after_of = { setup_after };
 
     fn count(&self) -> u16 {
-        if self.table.next_of(None, 0).is_some() {
-            70
-        } else {
-            6
-        }
+        6 + 4 * (self.many_from(0) as u16)
     }
 
     fn at(&self, object: u16) -> Move {
-        let object = if object < 70 { object as u8 } else { 70 };
-        if object < 6 {
-            Move::Store(self.unit_word(object / 3, object % 3), 0)
-        } else {
-            let group = (object - 6) / 4;
-            if self.table.at(group).is_some() {
-                Move::Store(
-                    word_number(&self.table, group_word(group, (object - 6) % 4)),
-                    0,
-                )
-            } else {
-                Move::Load(STATE)
-            }
-        }
+        self.clear_at(few(object))
     }
 
     fn after(&self) -> InitBody {
@@ -55,6 +38,64 @@ impl Objects for Setup {
 }
 
 impl Setup {
+    /// How many groups from this one on are configured.
+    fn many_from(&self, from: u8) -> u8
+        ensures is { result ≡ spec.many_from self.now.table (16 - from) from }
+        ensures few { result ≤ 16 - from }
+    {
+        if from > 15 {
+            0
+        } else if self.table.at(from).is_some() {
+            1 + self.many_from(from + 1)
+        } else {
+            self.many_from(from + 1)
+        }
+    }
+
+    /// The group at a place among those from this one on that are configured, 16 where there is none.
+    fn nth_from(&self, from: u8, place: u8) -> u8
+        ensures { result ≡ spec.nth_from self.now.table (16 - from) from place }
+    {
+        if from > 15 {
+            16
+        } else if self.table.at(from).is_none() {
+            self.nth_from(from + 1, place)
+        } else if place == 0 {
+            from
+        } else {
+            self.nth_from(from + 1, place - 1)
+        }
+    }
+
+    /// The group whose words are cleared at a place, 16 past the last one.
+    fn cleared_group(&self, place: u8) -> u8
+        ensures { result ≡ spec.cleared_group self.now.table place }
+    {
+        self.nth_from(0, place)
+    }
+
+    /// What clears a word of a group; past the last one nothing does.
+    fn group_clear(&self, group: u8, word: u8) -> Move
+        ensures { result ≡ spec.group_clear self.now.table group word }
+    {
+        if self.table.at(group).is_some() {
+            Move::Store(word_number(&self.table, group_word(group, word)), 0)
+        } else {
+            Move::Load(STATE)
+        }
+    }
+
+    /// What clears the word at a place.
+    fn clear_at(&self, place: u8) -> Move
+        ensures { result ≡ spec.clear_at self.now.table place }
+    {
+        if place < 6 {
+            Move::Store(self.unit_word(place / 3, place % 3), 0)
+        } else {
+            self.group_clear(self.cleared_group((place - 6) / 4), (place - 6) % 4)
+        }
+    }
+
     /// A word of a unit that is cleared.
     fn unit_word(&self, unit: u8, at: u8) -> u32
         ensures { result ≡ spec.unit_word self.now.table unit at }
@@ -67,6 +108,13 @@ impl Setup {
             order_of(unit).at + 2
         }
     }
+}
+
+/// A place of the words that are cleared, 70 past them all.
+fn few(place: u16) -> u8
+    ensures { result ≡ spec.few place }
+{
+    if place < 70 { place as u8 } else { 70 }
 }
 
 /// A word of a group that is cleared.

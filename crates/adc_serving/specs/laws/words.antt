@@ -2,4 +2,3 @@ pub mod CommittedWords
 pub mod ControlWord
 pub mod PlainFacts
 pub mod StreamNumbers
-pub mod WordsChange

@@ -68,11 +68,11 @@ seen_length seen x n few lt = by (nat_lt (length seen) 6) refl lt
     by false e lt = let past : 6 ≤ length seen = grind (arith, nat_tests, e) in absurd (omega (arith, past, lt, few))
 
 looks_lower : (q : Bool) (d : AdcTable) (w : Window) (seen : List ℕ) (x : ℕ) → Lowers q d (look_cost q d w (length seen)) (place_takes d (Looks w seen) x)
-looks_lower q d w seen x = by (word_at w (length (seen_more seen x))) refl
+looks_lower q d w seen x = more_or_decided (word_at w (length (seen_more seen x))) refl
   where
-    by : (o : Option Word) → word_at w (length (seen_more seen x)) ≡ o → Lowers q d (look_cost q d w (length seen)) (look_takes d w (seen_more seen x) o)
-    by None e = follows_lower q d (Looks w (seen_more seen x)) (look_cost q d w (length seen)) (decided_cost q d w) (decided d w (seen_more seen x)) (decided_covers q d w (seen_more seen x)) (omega arith)
-    by (Some k) e =
+    more_or_decided : (o : Option Word) → word_at w (length (seen_more seen x)) ≡ o → Lowers q d (look_cost q d w (length seen)) (look_takes d w (seen_more seen x) o)
+    more_or_decided None e = follows_lower q d (Looks w (seen_more seen x)) (look_cost q d w (length seen)) (decided_cost q d w) (decided d w (seen_more seen x)) (decided_covers q d w (seen_more seen x)) (omega arith)
+    more_or_decided (Some k) e =
         let lt = some_within (words_of w) (length (seen_more seen x)) k e in
         let more = seen_length seen x (length (words_of w)) (words_few w) lt in
         omega (arith, lt, more)
@@ -94,13 +94,13 @@ chooses_lower q d u g r x = by (put_gave r x).ended (put-lowers r x)
     by (Some a) lt = let less = lt in omega (arith, less)
 
 releases_lower : (q : Bool) (d : AdcTable) (r : Reading) (t : Take) (x : ℕ) → let s = stage_by (take_left t x) (take_gave t x).ended in stage_cost q r s < stage_cost q r (stages.Releases t)
-releases_lower q d r t x = by q (take_gave t x).ended (take-lowers t x)
+releases_lower q d r t x = stage_lowers q (take_gave t x).ended (take-lowers t x)
   where
-    by : (q : Bool) (o : Option Answer) → LowersTo (take_room t) (take_room (take_left t x)) o → stage_cost q r (stage_by (take_left t x) o) < stage_cost q r (stages.Releases t)
-    by true None lt = let less = lt in omega (arith, less)
-    by true (Some a) lt = let less = lt in omega (arith, less)
-    by false None lt = let less = lt in omega (arith, less)
-    by false (Some a) lt = let less = lt in omega (arith, less)
+    stage_lowers : (q : Bool) (o : Option Answer) → LowersTo (take_room t) (take_room (take_left t x)) o → stage_cost q r (stage_by (take_left t x) o) < stage_cost q r (stages.Releases t)
+    stage_lowers true None lt = let less = lt in omega (arith, less)
+    stage_lowers true (Some a) lt = let less = lt in omega (arith, less)
+    stage_lowers false None lt = let less = lt in omega (arith, less)
+    stage_lowers false (Some a) lt = let less = lt in omega (arith, less)
 
 pins_lower : (q : Bool) (d : AdcTable) (g : ℕ) (p : Phase) (x : ℕ) → Lowers q d (cost q d (Pins g p)) (place_takes d (Pins g p) x)
 pins_lower true d g p x = omega arith
@@ -162,7 +162,7 @@ made_less m x = whether_as (is_first m) (λ q. MakesLess m (if q then one_made m
     by_order None i = by_banks i m.banks refl
 
 makes_lower : (q : Bool) (d : AdcTable) (m : WriteBatch) (x : ℕ) → Lowers q d (making_cost q d m) (place_takes d (Makes m) x)
-makes_lower q d m x = by (making_over n) refl
+makes_lower q d m x = over_or_next (making_over n) refl
   where
     n : WriteBatch
     n = making_left m x
@@ -174,9 +174,9 @@ makes_lower q d m x = by (making_over n) refl
     over (thens.Ends z) e = omega arith
     over (thens.Goes o) e = let same : then_cost q d (thens.Goes o) ≡ then_cost q d m.after = ap (then_cost q d) e in omega (arith, same)
 
-    by : (b : Bool) → making_over n ≡ b → Lowers q d (making_cost q d m) (if b then after_making (making_event m) n n.after else (Makes n, step (making_event m)))
-    by true e = over n.after less.0
-    by false e =
+    over_or_next : (b : Bool) → making_over n ≡ b → Lowers q d (making_cost q d m) (if b then after_making (making_event m) n n.after else (Makes n, step (making_event m)))
+    over_or_next true e = over n.after less.0
+    over_or_next false e =
         let lt = less.1 e in
         let some = goes_some n.order n.banks n.deeds n.made e in
         let same : then_cost q d n.after ≡ then_cost q d m.after = ap (then_cost q d) less.0 in

@@ -3,8 +3,8 @@
 -- Used by services.AbortCountSteps, services.KeepCopySteps.
 use Rattle.std.proofs.Common.{◌≡◌, ◌+◌, ◌<◌, ◌≤◌, [], ◌∷◌, if◌then◌else◌}
 use Rattle.adc_driver.specs.Terms
-use Terms.{AdcState, AdcTable, Agrees, Answer, arith, Call, Chip, KeepsRight, length, limited, List, nat_lt}
-use Terms.{nat_tests, Option, Origin, refl, Reservations, slice_get, Some, suc, whether_as, Whole, WholeRight}
+use Terms.{AdcState, AdcTable, Agrees, Answer, arith, Call, Chip, holds_anew, KeepsRight, length, limited, List}
+use Terms.{nat_lt, nat_tests, Option, Origin, refl, Reservations, slice_get, Some, suc, whether_as, Whole, WholeRight}
 use Terms.{word_number, word_of, World, zero, ℕ}
 use Rattle.adc_groups.specs.Refinement.{Keeps}
 use Rattle.adc_driver.specs.laws.words.KeptWords.{keeper}
@@ -28,34 +28,10 @@ few_places (x ∷ xs) (suc m) within = let le = few_places xs m (λ j v e. (let 
 module _ (d : AdcTable) (below : Reservations) (chip : Chip) (w : World) (s : AdcState) (o : Origin Call) (a : Option Answer) (u g e : ℕ) (n : Option ℕ) (i : ℕ) (v : Option ℕ) (h : Agrees d (keeper o a u (Keeps u g e n i v) below) chip w s) where
   -- more is known
   pub keeps_more : (k : Option ℕ) (j : ℕ) (x : Option ℕ) → (word_of chip (word_number d (words.Claim u)) ≡ 2 + g → KeepsRight d chip s u g e n i v → KeepsRight d chip s u g e k j x) → Agrees d (keeper o a u (Keeps u g e k j x) below) chip w s
-  keeps_more k j x more = record {
-    sound = h.sound;
-    outside = h.outside;
-    state = h.state;
-    right = ((h.right.0.0, h.right.0.1, h.right.0.2, λ f. more f (h.right.0.3 f), h.right.0.4), h.right.1);
-    banks = λ c there. (let q = h.banks c there in record { banks = q.banks; stands = q.stands; newest = q.newest; put = q.put; take = q.take });
-    block = h.block;
-    rounds = h.rounds;
-    triggers = h.triggers;
-    places = λ c b p lt free. h.places c b p lt free;
-    backed = (h.backed.0, h.backed.1);
-    left = λ off. absurd (let on = h.right.0.0 in cc);
-    settled = λ f. (let q = h.settled f in record { groups = q.groups; units = q.units; claims = λ c lt. q.claims c lt; lines = q.lines; promised = λ c. (let z = q.promised c in record { starts = z.starts; yields = z.yields }) });
-  }
+  keeps_more k j x more = holds_anew h (record { puts = λ k. refl; takes = λ k. refl; owed = λ k n p lt free. free; claims = λ n v e. e; clears = λ e. e })
+      ((h.right.0.0, h.right.0.1, h.right.0.2, λ f. more f (h.right.0.3 f), h.right.0.4), h.right.1) (h.backed.0, h.backed.1) (λ n z. record { starts = z.starts; yields = z.yields })
 
   -- all are kept
   pub keeps_all : (k : ℕ) → (word_of chip (word_number d (words.Claim u)) ≡ 2 + g → KeepsRight d chip s u g e n i v → WholeRight d chip s u g k) → Agrees d (keeper o a u (Whole u g k) below) chip w s
-  keeps_all k all = record {
-    sound = h.sound;
-    outside = h.outside;
-    state = h.state;
-    right = ((h.right.0.0, h.right.0.1, h.right.0.2, λ f. all f (h.right.0.3 f)), h.right.1);
-    banks = λ c there. (let q = h.banks c there in record { banks = q.banks; stands = q.stands; newest = q.newest; put = q.put; take = q.take });
-    block = h.block;
-    rounds = h.rounds;
-    triggers = h.triggers;
-    places = λ c b p lt free. h.places c b p lt free;
-    backed = (h.backed.0, h.backed.1);
-    left = λ off. absurd (let on = h.right.0.0 in cc);
-    settled = λ f. (let q = h.settled f in record { groups = q.groups; units = q.units; claims = λ c lt. q.claims c lt; lines = q.lines; promised = λ c. (let z = q.promised c in record { starts = z.starts; yields = z.yields }) });
-  }
+  keeps_all k all = holds_anew h (record { puts = λ k. refl; takes = λ k. refl; owed = λ k n p lt free. free; claims = λ n v e. e; clears = λ e. e })
+      ((h.right.0.0, h.right.0.1, h.right.0.2, λ f. all f (h.right.0.3 f)), h.right.1) (h.backed.0, h.backed.1) (λ n z. record { starts = z.starts; yields = z.yields })

@@ -39,15 +39,15 @@ is_shut k = true
 -- a making is in its window, whether it owes its moves or not
 making_shut : (d : AdcTable) (P : Type 0) (m : WriteBatch) (q : Option PendingWrites) → is_closed (spot_or (V d) q (of_driver P (spot_making d m m.event))) ≡ true
 making_shut d P m (Some x) = refl
-making_shut d P m None = by m.event
+making_shut d P m None = event_shut m.event
   where
     starts : (u : Option ℕ) (c : Bool) → is_closed (of_driver P (spot_start d m u c)) ≡ true
     starts None c = refl
     starts (Some u) c = refl
 
-    by : (e : Option Event) → is_closed (of_driver P (spot_making d m e)) ≡ true
-    by (Some (events.Start u)) = starts (number_of u) _
-    by _ =
+    event_shut : (e : Option Event) → is_closed (of_driver P (spot_making d m e)) ≡ true
+    event_shut (Some (events.Start u)) = starts (number_of u) _
+    event_shut _ =
         elim m.banks as (λ b. is_closed (of_driver P (banks_spot d m b)) ≡ true)
         [ Some (shapes.Put q) ↦ refl | _ ↦ refl ]
 

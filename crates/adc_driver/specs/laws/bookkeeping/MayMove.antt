@@ -208,13 +208,13 @@ module _ (d : AdcTable) (fits : FitsAdc d) where
     lists_few e left n i few all lt = omega (arith, few, all, lt)
 
     deed_own : (u g e left made : ℕ) (c : Bool) → u < 2 → is_some (group_of d g) ≡ true → e + left ≡ length (inputs_of (group_of d g)) → made ≤ moves_ahead left c → (x : WindowWrite) × (slice_get (start_deeds d u g e left c) made ≡ Some x) × Mine (deed_move d x)
-    deed_own u g e left made c few there all le = by (among left made c le)
+    deed_own u g e left made c few there all le = which_write (among left made c le)
       where
-        by : (made < lists_for left) ⊎ ((made ≡ lists_for left) ⊎ (((c ≡ true) × (made ≡ lists_for left + 1)) ⊎ (made ≡ moves_ahead left c))) → (x : WindowWrite) × (slice_get (start_deeds d u g e left c) made ≡ Some x) × Mine (deed_move d x)
-        by (inl lt) = (list_deed d u g e made, list_at d u g e left c made lt, and_from (nat_lt u 2) (nat_lt made 8) (lt_from u 2 few) (lt_from made 8 (lists_few e left (length (inputs_of (group_of d g))) made (few_inputs d fits g there) all lt)))
-        by (inr (inl e1)) = (deeds.Set (words.Running u) (1 + g), ap (λ n. slice_get (start_deeds d u g e left c) n) e1 ∙ running_at d u g e left c, store_mine (word_number d (words.Running u)) (1 + g) (running_words d u few))
-        by (inr (inr (inl (e1, e2)))) = (deeds.Set (words.Claim u) 0, ap (λ n. slice_get (start_deeds d u g e left c) n) e2 ∙ (ap (λ q. slice_get (start_deeds d u g e left q) (lists_for left + 1)) e1 ∙ claim_at d u g e left), store_mine (word_number d (words.Claim u)) 0 (claim_words d u few))
-        by (inr (inr (inr e1))) = (deeds.Write (ConverterGo u) left, ap (λ n. slice_get (start_deeds d u g e left c) n) e1 ∙ go_at d u g e left c, lt_from u 2 few)
+        which_write : (made < lists_for left) ⊎ ((made ≡ lists_for left) ⊎ (((c ≡ true) × (made ≡ lists_for left + 1)) ⊎ (made ≡ moves_ahead left c))) → (x : WindowWrite) × (slice_get (start_deeds d u g e left c) made ≡ Some x) × Mine (deed_move d x)
+        which_write (inl lt) = (list_deed d u g e made, list_at d u g e left c made lt, and_from (nat_lt u 2) (nat_lt made 8) (lt_from u 2 few) (lt_from made 8 (lists_few e left (length (inputs_of (group_of d g))) made (few_inputs d fits g there) all lt)))
+        which_write (inr (inl e1)) = (deeds.Set (words.Running u) (1 + g), ap (λ n. slice_get (start_deeds d u g e left c) n) e1 ∙ running_at d u g e left c, store_mine (word_number d (words.Running u)) (1 + g) (running_words d u few))
+        which_write (inr (inr (inl (e1, e2)))) = (deeds.Set (words.Claim u) 0, ap (λ n. slice_get (start_deeds d u g e left c) n) e2 ∙ (ap (λ q. slice_get (start_deeds d u g e left q) (lists_for left + 1)) e1 ∙ claim_at d u g e left), store_mine (word_number d (words.Claim u)) 0 (claim_words d u few))
+        which_write (inr (inr (inr e1))) = (deeds.Write (ConverterGo u) left, ap (λ n. slice_get (start_deeds d u g e left c) n) e1 ∙ go_at d u g e left c, lt_from u 2 few)
 
     starting_own : (u : ℕ) (m : WriteBatch) → IsStarting d below (foot_of chip) w s o p u m → Mine (making_move d m)
     starting_own u _ (Orders g e left c zero r xs is order first ends made) = absurd ends

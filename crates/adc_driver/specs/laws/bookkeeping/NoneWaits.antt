@@ -99,11 +99,11 @@ module _ (d : AdcTable) (w : World) (s : AdcState) (l : ℕ) (b : Brought) where
 
 -- the line of a handler that has served it doesn't wait where its unit has nothing to start and nothing to abort
 pub line_calm : (d : AdcTable) (w : World) (s : AdcState) (u l : ℕ) (below : Reservations) → MayTurn u l below → (l ≡ 24 + u → some_hold (claims_on u) below ≡ false → (is_some (starts d s u) ≡ false) × (is_some (aborts d w s u) ≡ false)) → line_waits d w s l ≡ false
-line_calm d w s u l below own calm = by (is_unit_line l) refl
+line_calm d w s u l below own calm = unit_line_calm (is_unit_line l) refl
   where
-    by : (q : Bool) → is_unit_line l ≡ q → q && startable_on d w s (Some (l - 24)) ≡ false
-    by false e = refl
-    by true e =
+    unit_line_calm : (q : Bool) → is_unit_line l ≡ q → q && startable_on d w s (Some (l - 24)) ≡ false
+    unit_line_calm false e = refl
+    unit_line_calm true e =
         let mine = own e in
         let rests = calm mine.0 mine.1 in
         let same : l - 24 ≡ u = (let is = mine.0 in omega (arith, is)) in

@@ -80,15 +80,15 @@ module _ (d : AdcTable) (below : Reservations) (chip : Chip) (w : World) (s : Ad
     -- by the order of its requests
     module _ (free : round_at s u ≡ None) (xs : List Entry) (holds : HoldsOrder (order_of u) (word_of chip) xs) where
       sought_so : (k : Place) → place_ends k ≡ None → So (follows k (sought d (windows.Begin u) (choice (ranks_of d) xs)))
-      sought_so k none = by (next_group d s u) refl
+      sought_so k none = found_or_none (next_group d s u) refl
         where
           goes_so : (x : ℕ) (q : Bool) → is_some (starts d s u) ≡ false → So (follows k (if q then decisions.Goes (looking (windows.Convert u x false)) else over))
           goes_so x true rests = to (looking (windows.Convert u x false)) refl
           goes_so x false rests = ends_so (λ mine unclaims. rests) k none
 
-          by : (q : Option ℕ) → next_group d s u ≡ q → So (follows k (sought d (windows.Begin u) (choice (ranks_of d) xs)))
-          by None e = goes_so (choice (ranks_of d) xs) (nat_lt (choice (ranks_of d) xs) 16) (ap (λ q. is_some (starts_by q (next_group d s u))) free ∙ ap (λ q. is_some q) e)
-          by (Some g) e =
+          found_or_none : (q : Option ℕ) → next_group d s u ≡ q → So (follows k (sought d (windows.Begin u) (choice (ranks_of d) xs)))
+          found_or_none None e = goes_so (choice (ranks_of d) xs) (nat_lt (choice (ranks_of d) xs) 16) (ap (λ q. is_some (starts_by q (next_group d s u))) free ∙ ap (λ q. is_some q) e)
+          found_or_none (Some g) e =
               let unit = (h.settled on).units u few in
               let next = choice_next d s u unit.order.0 unit.order.2 (holds-below (order_of u) (word_of chip) unit.order.0 unit.order.1) g e in
               let same : choice (ranks_of d) xs ≡ g = ap (λ z. choice (ranks_of d) z) (sym holds.is ∙ unit.order.1.is) ∙ next.0 in
@@ -178,11 +178,11 @@ module _ (d : AdcTable) (below : Reservations) (chip : Chip) (w : World) (s : Ad
       by : (q : Option Answer) → So (seek_takes d (windows.Suspend u g) (front_left r (value_of chip (front_move r))) q)
       by None = to (Seeks (windows.Suspend u g) (front_left r (value_of chip (front_move r)))) refl
       by (Some a) = goes_so (given a) (nat_lt (given a) 16 && nat_lt (rank_of d g) (rank_of d (given a)))
-  finds_so (windows.Leave u) r is has h = by (front_gave r (value_of chip (front_move r))).ended
+  finds_so (windows.Leave u) r is has h = answered_or_further (front_gave r (value_of chip (front_move r))).ended
     where
-      by : (q : Option Answer) → So (seek_takes d (windows.Leave u) (front_left r (value_of chip (front_move r))) q)
-      by None = to (Seeks (windows.Leave u) (front_left r (value_of chip (front_move r)))) refl
-      by (Some a) = goes_so (nat_lt (given a) 16)
+      answered_or_further : (q : Option Answer) → So (seek_takes d (windows.Leave u) (front_left r (value_of chip (front_move r))) q)
+      answered_or_further None = to (Seeks (windows.Leave u) (front_left r (value_of chip (front_move r)))) refl
+      answered_or_further (Some a) = goes_so (nat_lt (given a) 16)
         where
           goes_so : (q : Bool) → So (follows (Seeks (windows.Leave u) (front_left r (value_of chip (front_move r)))) (if q then decisions.Goes (looking (windows.Convert u (given a) true)) else decisions.Goes (Quits u)))
           goes_so true = to (looking (windows.Convert u (given a) true)) refl

@@ -102,13 +102,13 @@ quieted_length d g = whether_as (is_some (trigger_input (group_of d g))) (λ q. 
     (λ _. omega arith)
 
 stop_length : (d : AdcTable) (u g : ℕ) (run lost : Bool) → length (quieted d g ++ (taken_away run u ++ (claim_lost lost u ++ Set (words.Turn g) 0 ∷ []))) ≤ 9
-stop_length d u g run lost = let k = length-append (quieted d g) (taken_away run u ++ (claim_lost lost u ++ Set (words.Turn g) 0 ∷ [])) in let n = quieted_length d g in let m = by run lost in omega (arith, k, n, m)
+stop_length d u g run lost = let k = length-append (quieted d g) (taken_away run u ++ (claim_lost lost u ++ Set (words.Turn g) 0 ∷ [])) in let n = quieted_length d g in let m = rest_length run lost in omega (arith, k, n, m)
   where
-    by : (run lost : Bool) → length (taken_away run u ++ (claim_lost lost u ++ Set (words.Turn g) 0 ∷ [])) ≤ 5
-    by true true = omega arith
-    by true false = omega arith
-    by false true = omega arith
-    by false false = omega arith
+    rest_length : (run lost : Bool) → length (taken_away run u ++ (claim_lost lost u ++ Set (words.Turn g) 0 ∷ [])) ≤ 5
+    rest_length true true = omega arith
+    rest_length true false = omega arith
+    rest_length false true = omega arith
+    rest_length false false = omega arith
 
 stop_few : (q : Bool) (d : AdcTable) (u g : ℕ) (x : StopSeen) → making_cost q d (stopping d u g x) ≤ 15 + and_then q (begins_after d)
 stop_few q d u g x = whether_as (x.turn == 0) (λ b. making_cost q d (if b then making (Some events.Act) (quieted d g) nothing_more else stop_turn d u g x) ≤ 15 + and_then q (begins_after d))

@@ -59,20 +59,20 @@ module _ (d : AdcTable) (fits : FitsAdc d) (f r : AdcBody → ℕ) (bounded : Ar
         few n lt = let on : nat_lt n 16 ≡ true = grind (arith, nat_tests) in ap (λ q. if q then n else 16) on
 
     close_looks : below ≡ [] → early d s calls.DeInit ≡ None → Looks calls.DeInit (begun_by d calls.DeInit)
-    close_looks none clear = by below none h
+    close_looks none clear = looks_alone below none h
       where
         on_of : (u : Bool) → (if u then Some errors.AdcUninit else None) ≡ None → u ≡ false
         on_of true e = absurd (cc)
         on_of false e = refl
 
-        by : (hs : Reservations) → hs ≡ [] → Agrees d hs chip w s → Decides (adc d f r (init_bodies d)) hs chip w s calls.DeInit (begun_by d calls.DeInit)
-        by [] e a = record {
+        looks_alone : (hs : Reservations) → hs ≡ [] → Agrees d hs chip w s → Decides (adc d f r (init_bodies d)) hs chip w s calls.DeInit (begun_by d calls.DeInit)
+        looks_alone [] e a = record {
           at = close_begins d fits f r chip w s a (not-false s.initialised (on_of (not s.initialised) clear));
           closed = close_closed d f r;
           fuel = subst (λ n. n ≤ steps_of d (Called calls.DeInit) - 7) (sym (close_fuel d f r).0) bounded.closing.0;
           room = subst (λ n. n ≤ 29) (sym (close_fuel d f r).1) bounded.closing.1;
         }
-        by (x ∷ xs) e a = absurd (cc)
+        looks_alone (x ∷ xs) e a = absurd (cc)
 
     init_looks : below ≡ [] → early d s calls.Init ≡ None → Looks calls.Init (begun_by d calls.Init)
     init_looks none clear = by below none h
@@ -101,11 +101,11 @@ module _ (d : AdcTable) (fits : FitsAdc d) (f r : AdcBody → ℕ) (bounded : Ar
   -- ---- handlers
 
   pub enters : (line : ℕ) (k : AnyBody) → handled_by d line (is_used d line) ≡ Some k → CanBegin (adc d f r (init_bodies d)) k (Entered line)
-  enters line k = by (is_used d line) refl
+  enters line k = enters_used (is_used d line) refl
     where
-      by : (q : Bool) → is_used d line ≡ q → handled_by d line q ≡ Some k → CanBegin (adc d f r (init_bodies d)) k (Entered line)
-      by false used e = absurd (cc)
-      by true used e = let same : ◌≡◌ {A = AnyBody} (Second (handled_body d line)) k = cc in subst (λ x. CanBegin (adc d f r (init_bodies d)) x (Entered line)) same (record {
+      enters_used : (q : Bool) → is_used d line ≡ q → handled_by d line q ≡ Some k → CanBegin (adc d f r (init_bodies d)) k (Entered line)
+      enters_used false used e = absurd (cc)
+      enters_used true used e = let same : ◌≡◌ {A = AnyBody} (Second (handled_body d line)) k = cc in subst (λ x. CanBegin (adc d f r (init_bodies d)) x (Entered line)) same (record {
         at = λ below chip w s beside h. handler_begins d fits f r below chip w s h line used beside;
         closed = refl;
         unseen = tt;

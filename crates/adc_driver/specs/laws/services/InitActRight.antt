@@ -1,16 +1,16 @@
 -- The move at which Adc_Init acts: the words that it has cleared stand for the machine's fresh state.
 -- From adc_groups: services.InitSteps, adc_groups: words.WordsAtRest, services.InitWords and 5 more.
 -- Used by services.InitRight.
-use Rattle.std.proofs.Common.{◌≡◌, ◌≢◌, ◌+◌, ◌-◌, ◌*◌, ◌/◌, ◌%◌, ◌<◌, ◌≤◌, ◌||◌, ◌==◌, [], ◌∷◌, ◌∙◌}
+use Rattle.std.proofs.Common.{◌≡◌, ◌≢◌, ◌+◌, ◌-◌, ◌*◌, ◌/◌, ◌%◌, ◌<◌, ◌||◌, ◌==◌, [], ◌∷◌, ◌∙◌}
 use Rattle.std.proofs.Common.{if◌then◌else◌}
 use Rattle.adc_driver.specs.Terms
 use Terms.{AdcState, AdcTable, Agrees, all_groups, ap, arith, Bool, Chip, chip_after, clear_at, clear_count}
-use Terms.{cleared_word, cond, empty, false, first_of, FitsAdc, fresh, group_clear, group_of, GroupAgrees, has_bit}
-use Terms.{is_on, is_some, is_trigger_line, is_unit_line, IsCleared, IsOrder, IsSound, IsZero, List, Load, nat_lt}
-use Terms.{nat_tests, next_among, next_of, None, none_found, Option, order_of, Promised, refl, rests_agree}
-use Terms.{result_past, result_word, rounds_of, Settled, Some, stands-move, start_from, STATE, Store, stored_other}
-use Terms.{stored_same, subst, suc, trio_past, true, unit_word, UnitAgrees, waits_for, within, word_number, word_of}
-use Terms.{World, zero, ℕ}
+use Terms.{cleared_group, cleared_word, cond, empty, false, first_of, FitsAdc, fresh, group_clear, group_of}
+use Terms.{GroupAgrees, has_bit, is_on, is_some, is_trigger_line, is_unit_line, IsCleared, IsOrder, IsSound, IsZero}
+use Terms.{List, Load, many_from, nat_lt, nat_tests, next_among, None, nth_from, order_of, Promised, refl}
+use Terms.{rests_agree, result_past, result_word, rounds_of, Settled, Some, stands-move, start_from, STATE, Store}
+use Terms.{stored_other, stored_same, subst, suc, sym, trio_past, true, unit_word, UnitAgrees, waits_for, within}
+use Terms.{word_number, word_of, World, zero, ℕ}
 use Rattle.adc_groups.specs.laws.hardware.AfterReset.{untouched_sound}
 use Rattle.adc_driver.specs.laws.services.InitWords.{clearing, off_quiet}
 use Rattle.adc_groups.specs.declared.words.Word.TheVariants as words
@@ -44,17 +44,55 @@ module _ (d : AdcTable) (w : World) (s : AdcState) where
   none_promised : (u : ℕ) → Promised d [] w (fresh s) u
   none_promised u = record { starts = λ e. absurd (let none : is_some (next_among d (fresh s) u all_groups) ≡ false = ap (λ o. is_some o) (none_next u all_groups) in cc); yields = λ e. absurd (cc) }
 
+-- ---- the places of the configured groups
+
+-- fewer come before a configured group than are configured
+before_less : (d : AdcTable) (n from h g : ℕ) → g ≡ from + h → h < n → is_some (group_of d g) ≡ true → many_from d h from < many_from d n from
+before_less d zero from h g is lt there = absurd (omega (arith, lt))
+before_less d (suc n) from zero g is lt there = let same : g ≡ from = omega (arith, is) in by (is_some (group_of d from)) (subst (λ z. is_some (group_of d z) ≡ true) same there)
+  where
+    by : (q : Bool) → q ≡ true → 0 < (if q then 1 + many_from d n (from + 1) else many_from d n (from + 1))
+    by true e = omega arith
+    by false e = absurd (cc)
+before_less d (suc n) from (suc h) g is lt there = by (is_some (group_of d from)) (before_less d n (from + 1) h g (omega (arith, is)) (omega (arith, lt)) there)
+  where
+    by : (q : Bool) → many_from d h (from + 1) < many_from d n (from + 1)
+        → (if q then 1 + many_from d h (from + 1) else many_from d h (from + 1)) < (if q then 1 + many_from d n (from + 1) else many_from d n (from + 1))
+    by true less = omega (arith, less)
+    by false less = less
+
+-- and it is found at that place
+nth_is : (d : AdcTable) (n from h g : ℕ) → g ≡ from + h → h < n → is_some (group_of d g) ≡ true → nth_from d n from (many_from d h from) ≡ g
+nth_is d zero from h g is lt there = absurd (omega (arith, lt))
+nth_is d (suc n) from zero g is lt there = let same : g ≡ from = omega (arith, is) in by (is_some (group_of d from)) (subst (λ z. is_some (group_of d z) ≡ true) same there) (sym same)
+  where
+    by : (q : Bool) → q ≡ true → from ≡ g → (if q then (if 0 == 0 then from else nth_from d n (from + 1) (0 - 1)) else nth_from d n (from + 1) 0) ≡ g
+    by true e same = same
+    by false e same = absurd (cc)
+nth_is d (suc n) from (suc h) g is lt there = by (is_some (group_of d from)) (nth_is d n (from + 1) h g (omega (arith, is)) (omega (arith, lt)) there)
+  where
+    many : ℕ
+    many = many_from d h (from + 1)
+
+    found : Bool → ℕ → ℕ
+    found q i = if q then (if i == 0 then from else nth_from d n (from + 1) (i - 1)) else nth_from d n (from + 1) i
+
+    later : 1 + many == 0 ≡ false
+    later = grind (arith, nat_tests)
+
+    back : 1 + many - 1 ≡ many
+    back = omega arith
+
+    by : (q : Bool) → nth_from d n (from + 1) many ≡ g → found q (if q then 1 + many else many) ≡ g
+    by true is = ap (λ b. if b then from else nth_from d n (from + 1) (1 + many - 1)) later ∙ (ap (λ k. nth_from d n (from + 1) k) back ∙ is)
+    by false is = is
+
 -- ---- what was cleared
 
 module _ (d : AdcTable) (chip : Chip) (all : (i : ℕ) → i < clear_count d → IsCleared d chip i) where
   -- the words of the units come first
-  few_first : 6 ≤ clear_count d
-  few_first =
-      elim (is_some (next_of d None 0)) as (λ q. 6 ≤ (if q then 70 else 6))
-      [ true ↦ omega arith | false ↦ omega arith ]
-
   unit_zero : (i : ℕ) → i < 6 → IsZero chip (clear_at d i)
-  unit_zero i lt = let le = few_first in all i (omega (arith, lt, le))
+  unit_zero i lt = all i (omega (arith, lt))
 
   running_zero : (u : ℕ) → u < 2 → word_of chip (word_number d (words.Running u)) ≡ 0
   running_zero zero lt = unit_zero 0 (omega arith)
@@ -71,39 +109,29 @@ module _ (d : AdcTable) (chip : Chip) (all : (i : ℕ) → i < clear_count d →
   order_zero (suc zero) lt = unit_zero 5 (omega arith)
   order_zero (suc (suc u)) lt = absurd (omega (arith, lt))
 
-  -- and those of the groups where one is configured
+  -- and those of each configured group, whose place is how many come before it
   module _ (g : ℕ) (there : is_some (group_of d g) ≡ true) where
     small : g < 16
     small = within d g there
 
-    count : clear_count d ≡ 70
-    count = by (next_of d None 0) refl
-      where
-        count_if : Bool → ℕ
-        count_if q = if q then 70 else 6
-
-        by : (o : Option ℕ) → next_of d None 0 ≡ o → count_if (is_some o) ≡ 70
-        by None e = absurd (none_found d None (λ z. ⊥) 16 0 (λ h lt of. omega (arith, lt)) e g (let lt = small in omega (arith, lt)) there)
-        by (Some k) e = refl
+    abbrev before : ℕ
+    before = many_from d g 0
 
     group_zero : (at : ℕ) → at < 4 → word_of chip (word_number d (cleared_word g at)) ≡ 0
-    group_zero at lt = subst (λ made. IsZero chip made) is (all i (let less = small in let n = count in omega (arith, less, lt, n)))
+    group_zero at lt = subst (λ made. IsZero chip made) is (all (6 + (4 * before + at)) (let less = before_less d 16 0 g g (omega arith) small there in omega (arith, less, lt)))
       where
-        i : ℕ
-        i = 6 + (4 * g + at)
-
-        past : nat_lt (6 + (4 * g + at)) 6 ≡ false
+        past : nat_lt (6 + (4 * before + at)) 6 ≡ false
         past = grind (arith, nat_tests)
 
-        group : (6 + (4 * g + at) - 6) / 4 ≡ g
-        group = omega (arith, lt)
+        group : cleared_group d ((6 + (4 * before + at) - 6) / 4) ≡ g
+        group = let place : (6 + (4 * before + at) - 6) / 4 ≡ before = omega (arith, lt) in ap (λ n. cleared_group d n) place ∙ nth_is d 16 0 g g (omega arith) small there
 
-        place : (6 + (4 * g + at) - 6) % 4 ≡ at
+        place : (6 + (4 * before + at) - 6) % 4 ≡ at
         place = omega (arith, lt)
 
-        is : clear_at d (6 + (4 * g + at)) ≡ Store (word_number d (cleared_word g at)) 0
-        is = ap (λ q. if q then Store (unit_word d ((6 + (4 * g + at)) / 3) ((6 + (4 * g + at)) % 3)) 0 else group_clear d ((6 + (4 * g + at) - 6) / 4) ((6 + (4 * g + at) - 6) % 4)) past
-            ∙ (ap (λ k. group_clear d k ((6 + (4 * g + at) - 6) % 4)) group ∙ (ap (λ n. group_clear d g n) place ∙ ap (λ q. if q then Store (word_number d (cleared_word g at)) 0 else Load STATE) there))
+        is : clear_at d (6 + (4 * before + at)) ≡ Store (word_number d (cleared_word g at)) 0
+        is = ap (λ q. if q then Store (unit_word d ((6 + (4 * before + at)) / 3) ((6 + (4 * before + at)) % 3)) 0 else group_clear d (cleared_group d ((6 + (4 * before + at) - 6) / 4)) ((6 + (4 * before + at) - 6) % 4)) past
+            ∙ (ap (λ k. group_clear d k ((6 + (4 * before + at) - 6) % 4)) group ∙ (ap (λ n. group_clear d g n) place ∙ ap (λ q. if q then Store (word_number d (cleared_word g at)) 0 else Load STATE) there))
 
 module _ (d : AdcTable) (fits : FitsAdc d) (chip : Chip) (w : World) (s : AdcState) (h : Agrees d (clearing (clear_count d)) chip w s) (on : AreOn chip.control.enabled) where
   abbrev acted : Chip

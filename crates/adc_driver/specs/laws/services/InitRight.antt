@@ -3,16 +3,16 @@
 -- Used by bookkeeping.NoneWaitsPlaces, bookkeeping.Joined, services.BeginSteps.
 use Rattle.std.proofs.Common.{◌≡◌, ◌+◌, ◌-◌, ◌*◌, ◌<◌, ◌≤◌, ◌&&◌, ◌||◌, [], ◌∷◌, ◌∙◌, if◌then◌else◌}
 use Rattle.adc_driver.specs.Terms
-use Terms.{acts_by, adc_basis_right, AdcGround, AdcState, AdcTable, Agrees, ap, AreLong, arith, AssertedAt, begins_word}
-use Terms.{bit_or, Bool, by_line, Call, Called, Chip, chip_after, circumstances, clear_at, clear_count, Clears, cond}
-use Terms.{EnableSet, error_by, false, few, first_error, first_words, FitsAdc, fold, FrameHistory, fresh, fresh_history}
-use Terms.{from_found, Group, group_of, happened, has_bit, has_bit-or, init_takes, init_work, InitBody, is_shared}
-use Terms.{is_some, Is_this_frame, IsSweeping, IsThisFrame, Level, level_leaves, LINES, List, LongBodies, may, moved}
-use Terms.{nat_lt, nat_tests, never_clean, next_of, None, not, object_count, Option, Order, Origin, past_wrote}
-use Terms.{place_at, PointAssertion, refl, Reservations, resets_chip, rests_agree, Right, Setup, setup_after}
-use Terms.{setup_count, setup_move, Shortens, slice_index_or, Some, stands-move, STATE, steps_of, Store, subst, suc}
-use Terms.{Sweep, sweep, sweep_right, Sweeping, sym, tells_nothing, true, TurnsTo, Under, value_of, with_holds, Within}
-use Terms.{World, world_after, Write, zero, ℕ}
+use Terms.{acts_by, adc_basis_right, AdcGround, AdcState, AdcTable, Agrees, ap, AreLong, arith, AssertedAt}
+use Terms.{begins_word, bit_or, Bool, by_line, Call, Called, Chip, chip_after, circumstances, clear_at, clear_count}
+use Terms.{Clears, cond, EnableSet, error_by, false, few, first_error, first_from, first_words, FitsAdc, fold}
+use Terms.{FrameHistory, fresh, fresh_history, from_found, Group, group_of, happened, has_bit, has_bit-or, init_takes}
+use Terms.{init_work, InitBody, is_shared, is_some, Is_this_frame, IsSweeping, IsThisFrame, Level, level_leaves}
+use Terms.{LINES, List, LongBodies, many_from, may, moved, nat_lt, nat_tests, never_clean, next_of, None, not}
+use Terms.{object_count, Option, Order, Origin, past_wrote, place_at, PointAssertion, refl, Reservations, resets_chip}
+use Terms.{rests_agree, Right, Setup, setup_after, setup_count, setup_move, Shortens, slice_index_or, Some}
+use Terms.{stands-move, STATE, steps_of, Store, subst, suc, Sweep, sweep, sweep_right, Sweeping, sym, tells_nothing}
+use Terms.{true, TurnsTo, Under, value_of, with_holds, Within, World, world_after, Write, zero, ℕ}
 use Rattle.service_outline.specs.declared.sweep.SweepStage.TheVariants.{Opens}
 use Rattle.adc_driver.specs.laws.{services.InitWords.{clearing, clears_calm, clears_may, clears_past, clears_step}}
 use Rattle.adc_driver.specs.laws.{services.InitWords.{off_quiet}, services.InitActRight.{AreOn, renewed}}
@@ -152,16 +152,18 @@ module _ (d : AdcTable) (fits : FitsAdc d) where
 
   -- ---- the sweep
 
+  -- at most so many groups are configured
+  many_most : (n from : ℕ) → many_from d n from ≤ n
+  many_most zero from = omega arith
+  many_most (suc n) from = by (is_some (group_of d from)) (many_most n (from + 1))
+    where
+      by : (q : Bool) → many_from d n (from + 1) ≤ n → (if q then 1 + many_from d n (from + 1) else many_from d n (from + 1)) ≤ suc n
+      by true le = omega (arith, le)
+      by false le = omega (arith, le)
+
   -- its places are those of the words that it clears
   few_same : (i : ℕ) → i < clear_count d → few i ≡ i
-  few_same i lt = by (is_some (next_of d None 0)) lt
-    where
-      below_last : (i : ℕ) → i < 70 → few i ≡ i
-      below_last i lt = let on : nat_lt i 70 ≡ true = grind (arith, nat_tests) in ap (λ q. if q then i else 70) on
-
-      by : (q : Bool) → i < (if q then 70 else 6) → few i ≡ i
-      by true lt = below_last i lt
-      by false lt = below_last i (omega (arith, lt))
+  few_same i lt = let on : nat_lt i 70 ≡ true = let most = many_most 16 0 in grind (arith, nat_tests) in ap (λ q. if q then i else 70) on
 
   one_more : (a : Setup) (i : ℕ) (below : Reservations) (chip : Chip) (w : World) (s : AdcState) → a.table ≡ d → below ≡ [] → i < setup_count a → Agrees d (record { by = Called calls.Init; what = Clears i; acted = None } ∷ below) chip w s
       → Agrees d (record { by = Called calls.Init; what = Clears (i + 1); acted = None } ∷ below) (chip_after chip (setup_move a i) 0) w s
@@ -223,11 +225,11 @@ module _ (d : AdcTable) (fits : FitsAdc d) where
 
   -- a configured group has a unit
   two_objects : (g : ℕ) → is_some (group_of d g) ≡ true → 2 ≤ object_count d
-  two_objects g there = by (group_of d g) refl there
+  two_objects g there = unit_and_group (group_of d g) refl there
     where
-      by : (q : Option Group) → group_of d g ≡ q → is_some q ≡ true → 2 ≤ object_count d
-      by None e i = absurd (cc)
-      by (Some k) e i =
+      unit_and_group : (q : Option Group) → group_of d g ≡ q → is_some q ≡ true → 2 ≤ object_count d
+      unit_and_group None e i = absurd (cc)
+      unit_and_group (Some k) e i =
           let unit = some_count d.units k.unit 0 (listed (nat_lt k.unit 2) (slice_index_or d.units k.unit None) (fits.groups g k e).unit) in
           let group = some_count d.groups g 0 (listed (nat_lt g 16) (slice_index_or d.groups g None) there) in
           two_of (counted 0 d.units) (counted 0 d.groups) unit group
@@ -238,9 +240,16 @@ module _ (d : AdcTable) (fits : FitsAdc d) where
   pub init_within : (init_bodies d).fuel init_first ≤ steps_of d (Called calls.Init) - 7
   init_within = by (next_of d None 0) refl
     where
-      count_if : Bool → ℕ
-      count_if q = if q then 70 else 6
+      -- none is found where none is configured
+      none_many : (n from : ℕ) → first_from d None n from ≡ None → many_from d n from ≡ 0
+      none_many zero from e = refl
+      none_many (suc n) from e = of_first (is_some (group_of d from)) e (λ rest. none_many n (from + 1) rest)
+        where
+          of_first : (q : Bool) → (if q then Some from else first_from d None n (from + 1)) ≡ None → (first_from d None n (from + 1) ≡ None → many_from d n (from + 1) ≡ 0)
+              → (if q then 1 + many_from d n (from + 1) else many_from d n (from + 1)) ≡ 0
+          of_first true e rest = absurd (cc)
+          of_first false e rest = rest e
 
-      by : (o : Option ℕ) → next_of d None 0 ≡ o → 3 + (count_if (is_some o) + 2) ≤ 64 + 48 * object_count d - 7
-      by None e = omega arith
-      by (Some k) e = let some = two_objects k (from_found d None (λ z. Unit {0}) 16 0 k (λ h lt of. tt) e).0 in omega (arith, some)
+      by : (o : Option ℕ) → next_of d None 0 ≡ o → 3 + (clear_count d + 2) ≤ 64 + 48 * object_count d - 7
+      by None e = let none = none_many 16 0 e in omega (arith, none)
+      by (Some k) e = let some = two_objects k (from_found d None (λ z. Unit {0}) 16 0 k (λ h lt of. tt) e).0 in let most = many_most 16 0 in omega (arith, some, most)

@@ -4,12 +4,13 @@
 use Rattle.std.proofs.Common.{◌≡◌, ◌≢◌, ◌+◌, ◌-◌, ◌/◌, ◌%◌, ◌<◌, ◌==◌, [], ◌∷◌, ◌∙◌, if◌then◌else◌}
 use Rattle.adc_driver.specs.Terms
 use Terms.{AdcState, AdcTable, Agrees, and_from, ap, arith, begins_word, Bool, Called, cases, Chip, chip_after}
-use Terms.{Chosen, clear_at, clear_words, cleared_word, Clears, false, first_words, FitsAdc, fresh_history}
-use Terms.{group_clear, group_of, group_word, inl, inr, is_some, is_word, IsCleared, IsOwnStore, IsQuiet, IsSound}
-use Terms.{IsZero, Load, may, Move, nat_lt, nat_tests, None, Notified, own_of, past_wrote, place_apart, refl}
-use Terms.{Reservations, resets_chip, rests_agree, result_past, result_word, ResultBuffer, rounds_of, same_or_other}
-use Terms.{stands-move, start_from, STATE, Store, stored_other, stored_same, subst, sym, trio_apart, trio_of}
-use Terms.{trio_past, true, Turn, unit_word, whether_as, word_number, word_of, WORDS, words_below, World, ℕ}
+use Terms.{Chosen, clear_at, clear_words, cleared_group, cleared_word, Clears, false, first_words, FitsAdc}
+use Terms.{fresh_history, group_clear, group_of, group_word, inl, inr, is_some, is_word, IsCleared, IsOwnStore}
+use Terms.{IsQuiet, IsSound, IsZero, Load, may, Move, nat_lt, nat_tests, None, Notified, own_of, past_wrote}
+use Terms.{place_apart, refl, Reservations, resets_chip, rests_agree, result_past, result_word, ResultBuffer}
+use Terms.{rounds_of, same_or_other, stands-move, start_from, STATE, Store, stored_other, stored_same, subst, sym}
+use Terms.{trio_apart, trio_of, trio_past, true, Turn, unit_word, whether_as, word_number, word_of, WORDS}
+use Terms.{words_below, World, ℕ}
 use Rattle.adc_groups.specs.declared.words.Word.TheVariants.{Phase}
 use Rattle.adc_machine.specs.declared.call.Call.TheVariants as calls
 use Rattle.mcal_base.specs.facts.Numbers.{lt_from}
@@ -19,11 +20,11 @@ use Rattle.mcal_base.specs.facts.Numbers.{lt_from}
 -- what is so of a store and of the load that clears nothing is so of each move
 pub each_clear : (d : AdcTable) (P : Move → Type 0) → ((k : ℕ) → P (Store k 0)) → P (Load STATE) → (i : ℕ) → P (clear_at d i)
 each_clear d P stores loads i =
-    elim (nat_lt i 6) as (λ q. P (if q then Store (unit_word d (i / 3) (i % 3)) 0 else group_clear d ((i - 6) / 4) ((i - 6) % 4)))
-    [ true ↦ stores (unit_word d (i / 3) (i % 3)) | false ↦ of_group (is_some (group_of d ((i - 6) / 4))) ]
+    elim (nat_lt i 6) as (λ q. P (if q then Store (unit_word d (i / 3) (i % 3)) 0 else group_clear d (cleared_group d ((i - 6) / 4)) ((i - 6) % 4)))
+    [ true ↦ stores (unit_word d (i / 3) (i % 3)) | false ↦ of_group (is_some (group_of d (cleared_group d ((i - 6) / 4)))) ]
   where
-    of_group : (q : Bool) → P (if q then Store (word_number d (cleared_word ((i - 6) / 4) ((i - 6) % 4))) 0 else Load STATE)
-    of_group true = stores (word_number d (cleared_word ((i - 6) / 4) ((i - 6) % 4)))
+    of_group : (q : Bool) → P (if q then Store (word_number d (cleared_word (cleared_group d ((i - 6) / 4)) ((i - 6) % 4))) 0 else Load STATE)
+    of_group true = stores (word_number d (cleared_word (cleared_group d ((i - 6) / 4)) ((i - 6) % 4)))
     of_group false = loads
 
 -- it resets nothing, begins no serial word, and is no commit
@@ -78,18 +79,18 @@ module _ (d : AdcTable) (fits : FitsAdc d) where
   unit_spare u at lt = either (IsSpare d) (at == 0) _ _ (first_spare _ (omega arith) (omega (arith, lt))) (either (IsSpare d) (at == 1) _ _ (first_spare _ (omega arith) (omega (arith, lt))) (first_spare _ (omega arith) (omega (arith, lt))))
 
   low_spare : (g at : ℕ) → is_some (group_of d g) ≡ true → IsSpare d (word_number d (cleared_word g at))
-  low_spare g at there = by (at == 0) (at == 1) (at == 2)
+  low_spare g at there = each_spare (at == 0) (at == 1) (at == 2)
     where
-      by : (a b c : Bool) → IsSpare d (word_number d (if a then Phase g else (if b then Chosen g else (if c then Notified g else Turn g))))
-      by true b c = group_spare g 0 there (omega arith)
-      by false true c = group_spare g 1 there (omega arith)
-      by false false true = group_spare g 2 there (omega arith)
-      by false false false = group_spare g 3 there (omega arith)
+      each_spare : (a b c : Bool) → IsSpare d (word_number d (if a then Phase g else (if b then Chosen g else (if c then Notified g else Turn g))))
+      each_spare true b c = group_spare g 0 there (omega arith)
+      each_spare false true c = group_spare g 1 there (omega arith)
+      each_spare false false true = group_spare g 2 there (omega arith)
+      each_spare false false false = group_spare g 3 there (omega arith)
 
   pub spared : (i : ℕ) → IsSpared d (clear_at d i)
-  spared i = whether_as (nat_lt i 6) (λ q. IsSpared d (if q then Store (unit_word d (i / 3) (i % 3)) 0 else group_clear d ((i - 6) / 4) ((i - 6) % 4)))
+  spared i = whether_as (nat_lt i 6) (λ q. IsSpared d (if q then Store (unit_word d (i / 3) (i % 3)) 0 else group_clear d (cleared_group d ((i - 6) / 4)) ((i - 6) % 4)))
       (λ e. let lt : i < 6 = grind (arith, nat_tests) in (unit_spare (i / 3) (i % 3) (omega (arith, lt)), refl))
-      (λ e. of_group ((i - 6) / 4) ((i - 6) % 4) (is_some (group_of d ((i - 6) / 4))) refl)
+      (λ e. of_group (cleared_group d ((i - 6) / 4)) ((i - 6) % 4) (is_some (group_of d (cleared_group d ((i - 6) / 4)))) refl)
     where
       of_group : (g at : ℕ) (q : Bool) → is_some (group_of d g) ≡ q → IsSpared d (if q then Store (word_number d (cleared_word g at)) 0 else Load STATE)
       of_group g at true e = (low_spare g at e, refl)

@@ -151,10 +151,10 @@ module _ (x : AdcConfig) (sound : IsSound x) where
   level_there _ lt = refl
 
   fits_group : (g : ℕ) (k : Group) → group_of d g ≡ Some k → FitsGroup d k
-  fits_group g k e = by (taken_at g k e)
+  fits_group g k e = from_taken (taken_at g k e)
     where
-      by : IsTaken g k → FitsGroup d k
-      by (y, f, s, is) =
+      from_taken : IsTaken g k → FitsGroup d k
+      from_taken (y, f, s, is) =
           let first = starts_up x.groups 0 g (omega arith) in
           let start = start_is g k (y, f, s, is) in
           let last = end_is g k (y, f, s, is) in
@@ -171,17 +171,17 @@ module _ (x : AdcConfig) (sound : IsSound x) where
           }
 
   alone : (g h i : ℕ) → trigger_input (group_of d g) ≡ Some i → trigger_input (group_of d h) ≡ Some i → g ≡ h
-  alone g h i e f = by (group_of d g) refl e (group_of d h) refl f
+  alone g h i e f = same_group (group_of d g) refl e (group_of d h) refl f
     where
       inputs : (k : Group) (n : ℕ) → IsTaken n k → k.trigger ≡ Some i → (y : AdcGroup) × (found_in x.groups n ≡ Some y) × (configured_input y ≡ Some i)
       inputs k n (y, f, s, is) at = (y, f, ap (λ (k : Group). k.trigger) is ∙ at)
 
-      by : (k : Option Group) → group_of d g ≡ k → trigger_input k ≡ Some i → (j : Option Group) → group_of d h ≡ j → trigger_input j ≡ Some i → g ≡ h
-      by (Some k) p a (Some j) q b =
+      same_group : (k : Option Group) → group_of d g ≡ k → trigger_input k ≡ Some i → (j : Option Group) → group_of d h ≡ j → trigger_input j ≡ Some i → g ≡ h
+      same_group (Some k) p a (Some j) q b =
           let one = inputs k g (taken_at g k p) a in
           let other = inputs j h (taken_at h j q) b in
           sound.alone g h i one.0 other.0 one.1 other.1 one.2 other.2
-      by _ p a _ q b = absurd (cc)
+      same_group _ p a _ q b = absurd (cc)
 
   apart : (g h : ℕ) (k j : Group) → group_of d g ≡ Some k → group_of d h ≡ Some j → g < h → end_of k ≤ j.start
   apart g h k j e f lt =

@@ -1,32 +1,26 @@
 -- A value of an aborted round is stored in a word of its group that keeps it: all else agrees as before.
--- From adc_groups: words.WordsOfModule, adc_groups: hardware.StableUnderHardware and 5 more.
+-- From adc_groups: words.WordsChange, adc_groups: words.WordsOfModule and 5 more.
 -- Used by services.KeepCopySteps, bookkeeping.KeptReservations, services.AbortCountSteps.
-use Rattle.std.proofs.Common.{◌≡◌, ◌≢◌, ◌+◌, ◌*◌, ◌/◌, ◌%◌, ◌<◌, ◌≤◌, ◌&&◌, ◌||◌, ◌==◌, [], ◌∷◌, ◌∙◌, ◌⊎◌}
-use Rattle.std.proofs.Common.{if◌then◌else◌}
+use Rattle.std.proofs.Common.{◌≡◌, ◌≢◌, ◌+◌, ◌*◌, ◌/◌, ◌%◌, ◌<◌, ◌≤◌, ◌||◌, ◌==◌, [], ◌∷◌, ◌∙◌, ◌⊎◌}
 use Rattle.adc_driver.specs.Terms
-use Terms.{AdcState, AdcTable, Agrees, AllRight, and_second, Answer, ap, arith, Bank, bank_below, bank_number}
-use Terms.{bank_word, Call, cases, Chip, chip_after, claim_right, claims_on, Clears, Copies, eq_self, false, Fills}
-use Terms.{FitsAdc, Full, group_of, group_word, GroupAgrees, has_turn, HasWords, HeldRight, holds-agree, inl}
-use Terms.{inputs_of, inr, is_on, is_some, KeepsRight, kept_in, kept_within, kept_word, kept_words, length}
-use Terms.{length-set, listed_agree, nat_tests, None, not, on_there, Option, or_parts, order_of, order_own, Origin}
+use Terms.{AdcState, AdcTable, Agrees, all_stay, AllRight, AllStay, Answer, ap, arith, Bank, bank_below, bank_number}
+use Terms.{bank_word, banks_stay, BankStays, Call, cases, Chip, chip_after, claim_right, claim_tells, claims_on}
+use Terms.{Copies, CoreStays, eq_self, false, Fills, FitsAdc, Full, group_of, group_word, HasWords, HeldRight}
+use Terms.{HoldStays, inl, inputs_of, inr, is_on, is_some, KeepsRight, kept_in, kept_within, kept_word, kept_words}
+use Terms.{KeptStays, length, length-set, None, on_there, Option, or_parts, order_of, order_own, order_within, Origin}
 use Terms.{own-control, own-word, own_of, ranges_apart, refl, Reservation, Reservations, ReservedBy, result_word}
-use Terms.{ResultBuffer, Round, round_at, rounds_of, same_or_other, slice_get, Some, some_hold, stands-agree}
-use Terms.{stands_words, start_from, start_of, STATE, Store, stored_other, stored_same, subst, sym, trio_of}
-use Terms.{trio_place, true, unit_is, unit_of, unit_small, unit_within, UnitAgrees, value_within, values_of, Whole}
-use Terms.{word_number, word_of, word_there, World, ℕ}
+use Terms.{ResultBuffer, rounds_of, same_or_other, slice_get, Some, some_hold, start_from, start_of, STATE}
+use Terms.{stays_agree, Store, stored_other, stored_same, subst, sym, trio_of, trio_place, true, unit_is, unit_of}
+use Terms.{unit_small, unit_within, Whole, word_number, word_of, word_there, World, ℕ}
 use Rattle.adc_groups.specs.Refinement.{Starts, Keeps, Reads}
 use Rattle.adc_machine.specs.declared.call.ResultBuffer.TheVariants as buffers
 use Rattle.adc_groups.specs.declared.words.Word.TheVariants as words
-use Rattle.std.proofs.lemmas.Bool.{not-true}
 
 -- what a frame holds that keeps values of an aborted round
 abbrev pub keeper : Origin Call → Option Answer → (unit : ℕ) → Reservation → Reservations → Reservations
 keeper o a u z below = record { by = o; what = z; acted = a } ∷ record { by = o; what = Starts u; acted = a } ∷ below
 
 -- ---- which words are apart
-
-order_within : (u k : ℕ) → order_own (order_of u) k ≡ true → (STATE + 10 + 8 * u ≤ k) × (k ≤ STATE + 12 + 8 * u)
-order_within u k own = (grind (arith, nat_tests), grind (arith, nat_tests))
 
 module _ (d : AdcTable) (fits : FitsAdc d) (g m x : ℕ) (here : is_some (group_of d g) ≡ true) (lt : m < length (inputs_of (group_of d g))) (chip : Chip) where
   abbrev at : ℕ
@@ -79,7 +73,7 @@ module _ (d : AdcTable) (fits : FitsAdc d) (g m x : ℕ) (here : is_some (group_
   running_kept u few = word_stays (word_number d (words.Running u)) (λ e. (let l = low in omega (arith, e, l, few)))
 
   pub order_kept : (u k : ℕ) → u < 2 → order_own (order_of u) k ≡ true → word_of kept_stored k ≡ word_of chip k
-  order_kept u k few own = word_stays k (λ e. (let l = low in let both = order_within u k own in let high = both.1 in omega (arith, e, l, high, few)))
+  order_kept u k few own = word_stays k (λ e. (let l = low in let both = order_within k (STATE + 10 + 8 * u) own in let high = both.1 in omega (arith, e, l, high, few)))
 
   pub result_kept : (k : ℕ) (n : ResultBuffer) (p : ℕ) → word_of kept_stored (result_word k n p) ≡ word_of chip (result_word k n p)
   result_kept k n p = word_stays (result_word k n p) (λ e. far n e)
@@ -102,7 +96,7 @@ module _ (d : AdcTable) (fits : FitsAdc d) (g m x : ℕ) (here : is_some (group_
 
 -- ---- what frames hold that claim nothing of the unit
 
-module _ (d : AdcTable) (fits : FitsAdc d) (u g m x : ℕ) (here : is_on u (group_of d g) ≡ true) (lt : m < length (inputs_of (group_of d g))) (chip : Chip) (w : World) (s : AdcState) (held : Reservations) (h : Agrees d held chip w s) (on : s.initialised ≡ true) where
+module _ (d : AdcTable) (fits : FitsAdc d) (u g m x : ℕ) (here : is_on u (group_of d g) ≡ true) (lt : m < length (inputs_of (group_of d g))) (chip : Chip) (w : World) (s : AdcState) where
   abbrev b : Chip
   b = chip_after chip (Store (kept_word (rounds_of d g) m) x) 0
 
@@ -114,83 +108,36 @@ module _ (d : AdcTable) (fits : FitsAdc d) (u g m x : ℕ) (here : is_on u (grou
       let unit : v ≡ u = sym (unit_is d fits v (group_of d k) at) ∙ (ap (λ n. unit_of (group_of d n)) e ∙ unit_is d fits u (group_of d g) here) in
       absurd (let same : (u == v) ≡ true = ap (λ n. u == n) unit ∙ eq_self u in cc)
 
-  few_values : (v : ℕ) (r : Round) (k : ℕ) → round_at s v ≡ Some r → r.group ≡ k → (j n : ℕ) → slice_get (values_of w (group_of d k) r) j ≡ Some n → j < length (inputs_of (group_of d k))
-  few_values v r k e same j n is = value_within w (group_of d k) r j n (subst (λ z. length r.request.kept < length (inputs_of (group_of d z))) same (h.sound.runs v r e).4.2) is
-
   claim : (v k : ℕ) → is_on v (group_of d k) ≡ true → word_of b (word_number d (words.Claim v)) ≡ word_of chip (word_number d (words.Claim v))
   claim v k at = claim_kept d fits g m x there lt chip v (unit_within d fits v k at)
 
-  bank : (k : ℕ) (n : Bank) (j : ℕ) → is_some (group_of d k) ≡ true → j < length (inputs_of (group_of d k)) → word_of b (bank_word (rounds_of d k) n j) ≡ word_of chip (bank_word (rounds_of d k) n j)
-  bank = bank_kept d fits g m x there lt chip
+  bank : (k : ℕ) (n : Bank) → is_some (group_of d k) ≡ true → BankStays d chip b k n
+  bank k n here j = bank_kept d fits g m x there lt chip k n j here
 
-  values : (v k : ℕ) → is_on v (group_of d k) ≡ true → (u == v) ≡ false → (j : ℕ) → j < length (inputs_of (group_of d k)) → word_of b (kept_word (rounds_of d k) j) ≡ word_of chip (kept_word (rounds_of d k) j)
+  values : (v k : ℕ) → is_on v (group_of d k) ≡ true → (u == v) ≡ false → KeptStays d chip b k
   values v k at off j less = other_kept d fits g m x there lt chip k j (on_there v (group_of d k) at) (off_group v k at off) less
 
-  held_same : (y : ReservedBy Call Reservation) (z : Reservation) → claims_on u z ≡ false → HeldRight d chip w s y z → HeldRight d b w s y z
-  held_same y (Clears n) free r = absurd (let f = r.1 in let e = on in cc)
-  held_same y (Fills v k e n j p) free r = (r.0, r.1, r.2, (let q = r.3 in record { same = q.same; filled = λ z c i o less is. bank k n c (on_there v (group_of d k) r.2) (few_values v z k o (q.same z o).0 c i is) ∙ q.filled z c i o less is; next = q.next }))
-  held_same y (Full v k n) free r = (r.0, r.1, r.2, (let q = r.3 in record { same = q.same; filled = λ z c i o is. bank k n c (on_there v (group_of d k) r.2) (few_values v z k o (q.same z o).0 c i is) ∙ q.filled z c i o is }))
-  held_same y (Whole v k n) free r = (
-    r.0,
-    r.1,
-    r.2,
-    λ f. let q = r.3 (sym (claim v k r.1) ∙ f) in record {
-      waits = q.waits;
-      count = q.count;
-      kept = λ j c is. values v k r.1 free j (kept_within d w s h.sound k j c is) ∙ q.kept j c is;
-    },
-  )
-  held_same y (Keeps v k e n j p) free r = (
-    r.0,
-    r.1,
-    r.2,
-    (λ f. let q = r.3 (sym (claim v k r.1) ∙ f) in record {
-      waits = q.waits;
-      count = q.count;
-      told = q.told;
-      word = low_kept d fits g m x there lt chip k 6 (on_there v (group_of d k) r.1) (omega arith) ∙ q.word;
-      kept = λ c i less is. values v k r.1 free c (kept_within d w s h.sound k c i is) ∙ q.kept c i less is;
-      results = q.results;
-      next = q.next;
-    }),
-    λ f. r.4 (λ i. f (claim v k r.1 ∙ i)),
-  )
-  held_same y (Copies n c j p) free r = (
-    r.0,
-    r.1,
-    r.2,
-    (let q = r.3 in record {
-      newest = ap (λ z. z % 4) (control_kept d fits g m x there lt chip c.group r.2) ∙ q.newest;
-      values = λ i less le. bank c.group n i r.2 less ∙ q.values i less le;
-      next = q.next;
-    }),
-  )
-  held_same y (Reads k n vs) free r = (
-    r.0,
-    r.1,
-    r.2,
-    (let q = r.3 in record {
-      whole = q.whole;
-      answered = q.answered;
-      pinned = ap (λ z. z / 4) (control_kept d fits g m x there lt chip k r.2) ∙ q.pinned;
-      bank = (q.bank.0, listed_agree (word_of b) (word_of chip) (bank_word (rounds_of d k) n 0) (length q.whole) (λ i less. word i (let e = q.bank.0 in omega (arith, less, e))) ∙ q.bank.1);
-      front = q.front;
-    }),
-  )
-    where
-      word : (i : ℕ) → i < length (inputs_of (group_of d k)) → word_of b (bank_word (rounds_of d k) n 0 + i) ≡ word_of chip (bank_word (rounds_of d k) n 0 + i)
-      word i less = let same : bank_word (rounds_of d k) n i ≡ bank_word (rounds_of d k) n 0 + i = omega arith in subst (λ z. word_of b z ≡ word_of chip z) same (bank k n i r.2 less)
-  held_same y _ free r = r
+  one_stays : (y : ReservedBy Call Reservation) (z : Reservation) → claims_on u z ≡ false → HeldRight d chip w s y z → HoldStays d chip b z
+  one_stays y (Fills v k e n j p) free r = bank k n (on_there v (group_of d k) r.2)
+  one_stays y (Full v k n) free r = bank k n (on_there v (group_of d k) r.2)
+  one_stays y (Keeps v k e n j p) free r = (λ f. sym (claim v k r.1) ∙ f, λ f. claim v k r.1 ∙ f, values v k r.1 free)
+  one_stays y (Whole v k n) free r = (λ f. sym (claim v k r.1) ∙ f, values v k r.1 free)
+  one_stays y (Copies n c j p) free r = (ap (λ z. z % 4) (control_kept d fits g m x there lt chip c.group r.2), bank c.group n r.2)
+  one_stays y (Reads k n vs) free r = (ap (λ z. z / 4) (control_kept d fits g m x there lt chip k r.2), bank k n r.2)
+  one_stays y _ free r = tt
 
-  pub all_same : (hs : Reservations) → some_hold (claims_on u) hs ≡ false → AllRight d chip w s hs → AllRight d (chip_after chip (Store (kept_word (rounds_of d g) m) x) 0) w s hs
-  all_same [] free r = tt
-  all_same (y ∷ ys) free r = let k = or_parts (claims_on u y.what) (some_hold (claims_on u) ys) free in (held_same y y.what k.0 r.0, all_same ys k.1 r.1)
+  pub below_stay : (hs : Reservations) → some_hold (claims_on u) hs ≡ false → AllRight d chip w s hs → AllStay d chip (chip_after chip (Store (kept_word (rounds_of d g) m) x) 0) hs
+  below_stay [] free r = tt
+  below_stay (y ∷ ys) free r = let k = or_parts (claims_on u y.what) (some_hold (claims_on u) ys) free in (one_stays y y.what k.0 r.0, below_stay ys k.1 r.1)
 
 -- ---- all of it
 
 module _ (d : AdcTable) (fits : FitsAdc d) (below : Reservations) (chip : Chip) (w : World) (s : AdcState) (o : Origin Call) (a : Option Answer) (u g e : ℕ) (n : Option ℕ) (i x : ℕ) (h : Agrees d (keeper o a u (Keeps u g e n i (Some x)) below) chip w s) (lt : e + i < length (inputs_of (group_of d g))) where
   abbrev claimed : ℕ
   claimed = word_of chip (word_number d (words.Claim u))
+
+  abbrev before : Reservations
+  before = keeper o a u (Keeps u g e n i (Some x)) below
 
   abbrev after : Reservations
   after = keeper o a u (Keeps u g e n (i + 1) None) below
@@ -217,19 +164,16 @@ module _ (d : AdcTable) (fits : FitsAdc d) (below : Reservations) (chip : Chip) 
   claim_same = claim_kept d fits g (e + i) x some lt chip
 
   none_below : some_hold (claims_on u) below ≡ false
-  none_below = not-true (some_hold (claims_on u) below) (and_second ((claimed == 2 + g) || (claimed == 1)) (not (some_hold (claims_on u) below)) top)
-    where
-      top : ((claimed == 2 + g) || (claimed == 1)) && not (some_hold (claims_on u) below) ≡ true
-      top = sym (ap (λ q. if q then ((claimed == 2 + g) || (claimed == 1)) && not (some_hold (claims_on u) below) else claim_right below u claimed) (eq_self u)) ∙ (h.settled on).claims u few
+  none_below = (claim_tells u ((claimed == 2 + g) || (claimed == 1)) (claim_right below u claimed) below ((h.settled on).claims u few)).1
 
   kept_by_now : KeepsRight d chip s u g e n i (Some x) → (j v : ℕ) → j < e + (i + 1) → slice_get (kept_in d s g) j ≡ Some v → word_of c (kept_word (rounds_of d g) j) ≡ v
-  kept_by_now q j v less is = by (same_or_other j (e + i))
+  kept_by_now q j v less is = now_or_before (same_or_other j (e + i))
     where
-      by : (j ≡ e + i) ⊎ (j ≢ e + i) → word_of c (kept_word (rounds_of d g) j) ≡ v
-      by (inl f) =
+      now_or_before : (j ≡ e + i) ⊎ (j ≢ e + i) → word_of c (kept_word (rounds_of d g) j) ≡ v
+      now_or_before (inl f) =
           subst (λ k. word_of c (kept_word (rounds_of d g) k) ≡ v) (sym f)
           (value_stored d fits g (e + i) x some lt chip whole ∙ (let both : Some x ≡ Some v = sym (q.next x refl) ∙ (ap (λ k. slice_get (kept_in d s g) k) (sym f) ∙ is) in cc))
-      by (inr ne) = value_kept d fits g (e + i) x some lt chip j ne ∙ q.kept j v (omega (arith, less, ne)) is
+      now_or_before (inr ne) = value_kept d fits g (e + i) x some lt chip j ne ∙ q.kept j v (omega (arith, less, ne)) is
 
   top_right : HeldRight d c w s (record { by = o; what = Keeps u g e n (i + 1) None; acted = a }) (Keeps u g e n (i + 1) None)
   top_right = (
@@ -248,63 +192,33 @@ module _ (d : AdcTable) (fits : FitsAdc d) (below : Reservations) (chip : Chip) 
     λ f. h.right.0.4 (λ k. f (claim_same u few ∙ k)),
   )
 
+  -- all else that the driver has stays
+  core : CoreStays d chip c
+  core = record {
+    rest = refl;
+    whole = length-set chip.words (kept_word (rounds_of d g) (e + i)) x ∙ whole;
+    first = unit_kept d fits g (e + i) x some lt chip 0 (omega arith);
+    low = λ k j there less. low_kept d fits g (e + i) x some lt chip k j there (omega (arith, less));
+    running = running_kept d fits g (e + i) x some lt chip;
+    order = order_kept d fits g (e + i) x some lt chip;
+  }
+
   -- where the claim was lost, a new turn of the group has kept nothing
-  group_same : (k : ℕ) → is_some (group_of d k) ≡ true → GroupAgrees d (word_of c) s k
-  group_same k there =
-      let q = (h.settled on).groups k there in record {
-        phase = low k 0 there (omega arith) ∙ q.phase;
-        chosen = low k 1 there (omega arith) ∙ q.chosen;
-        notified = low k 2 there (omega arith) ∙ q.notified;
-        turn = low k 3 there (omega arith) ∙ q.turn;
-        count = λ f. low k 4 there (omega arith) ∙ q.count f;
-        place = λ f. low k 5 there (omega arith) ∙ q.place f;
-        kept = λ f ne. low k 6 there (omega arith) ∙ q.kept f (claim_was k there ne);
-        values = λ f ne j v is. values_by k there (same_or_other k g) (claim_was k there ne) f j v is;
-      }
-    where
-      low : (k j : ℕ) → is_some (group_of d k) ≡ true → j < 32 → word_of c (group_word d k j) ≡ word_of chip (group_word d k j)
-      low = low_kept d fits g (e + i) x some lt chip
-
-      claim_was : (k : ℕ) → is_some (group_of d k) ≡ true → word_of c (word_number d (words.Claim (unit_of (group_of d k)))) ≢ 2 + k → word_of chip (word_number d (words.Claim (unit_of (group_of d k)))) ≢ 2 + k
-      claim_was k there ne f = ne (claim_same (unit_of (group_of d k)) (unit_small d fits k there) ∙ f)
-
-      values_by : (k : ℕ) → is_some (group_of d k) ≡ true → (k ≡ g) ⊎ (k ≢ g) → word_of chip (word_number d (words.Claim (unit_of (group_of d k)))) ≢ 2 + k → has_turn s k ≡ true → (j v : ℕ) → slice_get (kept_in d s k) j ≡ Some v → word_of c (kept_word (rounds_of d k) j) ≡ v
-      values_by k there (inl f) ne turn j v is =
-          let lost : kept_in d s g ≡ [] = h.right.0.4 (λ q. ne (subst (λ z. word_of chip (word_number d (words.Claim (unit_of (group_of d z)))) ≡ 2 + z) (sym f) (ap (λ z. word_of chip (word_number d (words.Claim z))) (unit_is d fits u (group_of d g) on_unit) ∙ q))) in
-          absurd (let none : None ≡ Some v = sym (ap (λ xs. slice_get xs j) lost) ∙ (ap (λ z. slice_get (kept_in d s z) j) (sym f) ∙ is) in cc)
-      values_by k there (inr off) ne turn j v is = other_kept d fits g (e + i) x some lt chip k j there off (kept_within d w s h.sound k j v is) ∙ ((h.settled on).groups k there).values turn ne j v is
-
-  unit_same : (v : ℕ) → v < 2 → UnitAgrees d (word_of c) s v
-  unit_same v less =
-      let q = (h.settled on).units v less in record {
-        running = running_kept d fits g (e + i) x some lt chip v less ∙ q.running;
-        order = (q.order.0, holds-agree (order_of v) (word_of chip) (word_of c) q.order.0 (λ k own. sym (order_kept d fits g (e + i) x some lt chip v k less own)) q.order.1, q.order.2);
-      }
+  kept_same : (k : ℕ) → is_some (group_of d k) ≡ true → word_of chip (word_number d (words.Claim (unit_of (group_of d k)))) ≢ 2 + k → (j v : ℕ) → slice_get (kept_in d s k) j ≡ Some v → word_of c (kept_word (rounds_of d k) j) ≡ word_of chip (kept_word (rounds_of d k) j)
+  kept_same k there ne j v is = cases (same_or_other k g)
+      (λ f.
+      let lost : kept_in d s g ≡ [] = h.right.0.4 (λ q. ne (subst (λ z. word_of chip (word_number d (words.Claim (unit_of (group_of d z)))) ≡ 2 + z) (sym f) (ap (λ z. word_of chip (word_number d (words.Claim z))) (unit_is d fits u (group_of d g) on_unit) ∙ q))) in
+      absurd (let none : None ≡ Some v = sym (ap (λ xs. slice_get xs j) lost) ∙ (ap (λ z. slice_get (kept_in d s z) j) (sym f) ∙ is) in cc))
+      (λ off. other_kept d fits g (e + i) x some lt chip k j there off (kept_within d w s h.sound k j v is))
 
   pub kept_agrees : Agrees d (keeper o a u (Keeps u g e n (i + 1) None) below) (chip_after chip (Store (kept_word (rounds_of d g) (e + i)) x) 0) w s
-  kept_agrees = record {
-    sound = h.sound;
-    outside = stands_words chip c w refl (length-set chip.words (kept_word (rounds_of d g) (e + i)) x ∙ whole) h.outside;
-    state = unit_kept d fits g (e + i) x some lt chip 0 (omega arith) ∙ h.state;
-    right = (top_right, (h.right.1.0, all_same d fits u g (e + i) x on_unit lt chip w s (keeper o a u (Keeps u g e n i (Some x)) below) h on below none_below h.right.1.1));
-    banks = λ k there. (let q = h.banks k there in record {
-      banks = q.banks;
-      stands = stands-agree (trio_of (rounds_of d k)) (word_of chip) (word_of c) q.banks (λ j own. sym (trio_kept d fits g (e + i) x some lt chip k j there own)) q.stands;
-      newest = q.newest;
-      put = q.put;
-      take = q.take;
-    });
-    block = h.block;
-    rounds = h.rounds;
-    triggers = h.triggers;
+  kept_agrees = stays_agree d fits before chip c w s h on core after (record {
+    right = (top_right, (h.right.1.0, all_stay d fits before chip c w s h on core below (below_stay d fits u g (e + i) x on_unit lt chip w s below none_below h.right.1.1) h.right.1.1));
+    banks = λ k there. banks_stay chip c (h.banks k there) (λ j own. trio_kept d fits g (e + i) x some lt chip k j there own) refl refl;
     places = λ k b p less free. result_kept d fits g (e + i) x some lt chip k b p ∙ h.places k b p less free;
     backed = (h.backed.0, h.backed.1);
-    left = λ off. absurd (let on = h.right.0.0 in cc);
-    settled = λ f. (let q = h.settled f in record {
-      groups = group_same;
-      units = unit_same;
-      claims = λ v less. ap (λ z. claim_right after v z) (claim_same v less) ∙ q.claims v less;
-      lines = q.lines;
-      promised = λ v. (let z = q.promised v in record { starts = z.starts; yields = z.yields });
-    });
-  }
+    claimed = λ k there ne f. ne (claim_same (unit_of (group_of d k)) (unit_small d fits k there) ∙ f);
+    claims = λ v less. ap (λ z. claim_right after v z) (claim_same v less) ∙ (h.settled on).claims v less;
+    promised = λ v. (let z = (h.settled on).promised v in record { starts = z.starts; yields = z.yields });
+    kept = kept_same;
+  })

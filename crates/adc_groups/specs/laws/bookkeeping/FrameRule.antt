@@ -306,17 +306,17 @@ module _ (d : AdcTable) (fits : FitsAdc d) (before after : Reservations) (a b : 
 
   -- and where none does, a turn of the group keeps nothing
   lost_changed : (v k : ℕ) (z : Reservation) → Spares d a b s t g u z → claims_on v z ≡ true → is_on v (group_of d k) ≡ true → word_of b (word_number d (words.Claim v)) ≢ 2 + k → (word_of a (word_number d (words.Claim v)) ≢ 2 + k → kept_in d s k ≡ []) → kept_in d t k ≡ []
-  lost_changed v k z free claims on lost was = by (same_or_other k g)
+  lost_changed v k z free claims on lost was = kept_empty (same_or_other k g)
     where
       not_before : k ≢ g → (v ≡ u) ⊎ (v ≢ u) → word_of a (word_number d (words.Claim v)) ≢ 2 + k
       not_before ne (inl e) f = lost (subst (λ n. word_of b (word_number d (words.Claim n)) ≡ 2 + k) (sym e) (c.claim_to k ne (subst (λ n. word_of a (word_number d (words.Claim n)) ≡ 2 + k) e f)))
       not_before ne (inr off) f = lost (claim_stays v (unit_within d fits v k on) off ∙ f)
 
-      by : (k ≡ g) ⊎ (k ≢ g) → kept_in d t k ≡ []
-      by (inl e) =
+      kept_empty : (k ≡ g) ⊎ (k ≢ g) → kept_in d t k ≡ []
+      kept_empty (inl e) =
           let unit : v ≡ u = sym (unit_is d fits v (group_of d k) on) ∙ (ap (λ n. unit_of (group_of d n)) e ∙ unit_is d fits u (group_of d g) at) in
           subst (λ n. kept_in d t n ≡ []) (sym e) (free.lost (subst (λ n. claims_on n z ≡ true) unit claims))
-      by (inr ne) = kept_same k ne ∙ was (not_before ne (same_or_other v u))
+      kept_empty (inr ne) = kept_same k ne ∙ was (not_before ne (same_or_other v u))
 
   held_changed : (x : ReservedBy Call Reservation) (z : Reservation) → Spares d a b s t g u z → HeldRight d a w s x z → HeldRight d b w t x z
   held_changed x (Clears n) free r = absurd (let f = r.1 in let e = c.on in cc)
@@ -346,18 +346,18 @@ module _ (d : AdcTable) (fits : FitsAdc d) (before after : Reservations) (a b : 
     r.0,
     c.still,
     r.2,
-    (let q = r.3 in let stay = by (same_or_other k.group g) in record {
+    (let q = r.3 in let stay = control_and_results (same_or_other k.group g) in record {
       newest = stay.0 ∙ q.newest;
       values = λ m less le. bank_stays k.group n m r.2 less ∙ (q.values m less le ∙ sym (stay.1 _ _));
       next = λ m e. q.next m e ∙ sym (stay.1 _ _);
     }),
   )
     where
-      by : (k.group ≡ g) ⊎ (k.group ≢ g) → (word_of b (trio_of (rounds_of d k.group)).control % 4 ≡ word_of a (trio_of (rounds_of d k.group)).control % 4) × ((m : ResultBuffer) (i : ℕ) → place_value t k.group m i ≡ place_value s k.group m i)
-      by (inl e) =
+      control_and_results : (k.group ≡ g) ⊎ (k.group ≢ g) → (word_of b (trio_of (rounds_of d k.group)).control % 4 ≡ word_of a (trio_of (rounds_of d k.group)).control % 4) × ((m : ResultBuffer) (i : ℕ) → place_value t k.group m i ≡ place_value s k.group m i)
+      control_and_results (inl e) =
           let kept = free.copies n k j p refl e in
           (subst (λ z. word_of b z % 4 ≡ word_of a z % 4) (ap (λ z. group_word d z 7) (sym e) ∙ control_is d k.group) kept.0, λ m i. subst (λ z. place_value t z m i ≡ place_value s z m i) (sym e) (kept.1 m i))
-      by (inr ne) = (ap (λ m. m % 4) (subst (λ m. word_of b m ≡ word_of a m) (control_is d k.group) (low_stays k.group 7 r.2 ne seven_low)), c.results k.group ne)
+      control_and_results (inr ne) = (ap (λ m. m % 4) (subst (λ m. word_of b m ≡ word_of a m) (control_is d k.group) (low_stays k.group 7 r.2 ne seven_low)), c.results k.group ne)
   held_changed x (Reads k n vs) free r = (
     r.0,
     c.still,

@@ -178,7 +178,7 @@ module _ (d : AdcTable) (x : WindowWrite) (xs : List WindowWrite) where
     in_b = (let e = h.also in omega (arith, few, e))
 
     unit_on : (u : ℕ) → u < 2 → UnitsAlike d xs (chip_after a (deed_move d x) 0) u a.converters.time (chips.unit_at (turned a).converters u) (chips.unit_at (turned b).converters u)
-    unit_on u lt = by (same_or_other u k)
+    unit_on u lt = turned_alike (same_or_other u k)
       where
         first : Converter
         first = f a.converters.time (chips.unit_at a.converters k)
@@ -186,11 +186,11 @@ module _ (d : AdcTable) (x : WindowWrite) (xs : List WindowWrite) where
         second : Converter
         second = f b.converters.time (chips.unit_at b.converters k)
 
-        by : (u ≡ k) ⊎ (u ≢ k) → UnitsAlike d xs (chip_after a (deed_move d x) 0) u a.converters.time (chips.unit_at (turned a).converters u) (chips.unit_at (turned b).converters u)
-        by (inl e) = subst (λ n. UnitsAlike d xs (chip_after a (deed_move d x) 0) n a.converters.time (chips.unit_at (turned a).converters n) (chips.unit_at (turned b).converters n)) (sym e)
+        turned_alike : (u ≡ k) ⊎ (u ≢ k) → UnitsAlike d xs (chip_after a (deed_move d x) 0) u a.converters.time (chips.unit_at (turned a).converters u) (chips.unit_at (turned b).converters u)
+        turned_alike (inl e) = subst (λ n. UnitsAlike d xs (chip_after a (deed_move d x) 0) n a.converters.time (chips.unit_at (turned a).converters n) (chips.unit_at (turned b).converters n)) (sym e)
             (subst (λ z. UnitsAlike d xs (chip_after a (deed_move d x) 0) k a.converters.time z (chips.unit_at (turned b).converters k)) (sym (unit_set a.converters.units k first in_a))
             (subst (λ z. UnitsAlike d xs (chip_after a (deed_move d x) 0) k a.converters.time (f a.converters.time (chips.unit_at a.converters k)) z) (sym (unit_set b.converters.units k second in_b ∙ ap (λ t. f t (chips.unit_at b.converters k)) h.time)) (here (h.units k few))))
-        by (inr ne) = subst (λ z. UnitsAlike d xs (chip_after a (deed_move d x) 0) u a.converters.time z (chips.unit_at (turned b).converters u)) (sym (unit_other a.converters.units k u first ne))
+        turned_alike (inr ne) = subst (λ z. UnitsAlike d xs (chip_after a (deed_move d x) 0) u a.converters.time z (chips.unit_at (turned b).converters u)) (sym (unit_other a.converters.units k u first ne))
             (subst (λ z. UnitsAlike d xs (chip_after a (deed_move d x) 0) u a.converters.time (chips.unit_at a.converters u) z) (sym (unit_other b.converters.units k u second ne))
             (weaken_unit a u a.converters.time (chips.unit_at a.converters u) (chips.unit_at b.converters u) (others u ne) (h.units u lt)))
 

@@ -45,13 +45,13 @@ module _ (d : AdcTable) (w : World) (s t : AdcState) (v : ℕ) (round : round_at
 
 -- a change of one group leaves how groups wait for another unit
 pub waits_other : (d : AdcTable) (s t : AdcState) (g v : ℕ) → is_on v (group_of d g) ≡ false → ((k : ℕ) → k ≢ g → is_some (group_at t k).waiting ≡ is_some (group_at s k).waiting) → (h : ℕ) → waits_for d t v h ≡ waits_for d s v h
-waits_other d s t g v off waits h = by (same_or_other h g)
+waits_other d s t g v off waits h = waiting_same (same_or_other h g)
   where
-    by : (h ≡ g) ⊎ (h ≢ g) → is_on v (group_of d h) && is_some (group_at t h).waiting ≡ is_on v (group_of d h) && is_some (group_at s h).waiting
-    by (inl e) =
+    waiting_same : (h ≡ g) ⊎ (h ≢ g) → is_on v (group_of d h) && is_some (group_at t h).waiting ≡ is_on v (group_of d h) && is_some (group_at s h).waiting
+    waiting_same (inl e) =
         let none : is_on v (group_of d h) ≡ false = ap (λ k. is_on v (group_of d k)) e ∙ off in
         ap (λ q. q && is_some (group_at t h).waiting) none ∙ sym (ap (λ q. q && is_some (group_at s h).waiting) none)
-    by (inr ne) = ap (λ q. is_on v (group_of d h) && q) (waits h ne)
+    waiting_same (inr ne) = ap (λ q. is_on v (group_of d h) && q) (waits h ne)
 
 -- without priorities nothing yields
 none_ranks : (p q : ℕ → Bool) → ((h : ℕ) → q h ≡ false) → (gs : List ℕ) → list_any (λ h. p h && q h) gs ≡ false
@@ -93,15 +93,15 @@ module _ (d : AdcTable) (w : World) (s t : AdcState) (v : ℕ) (waits : (h : ℕ
       (λ h e. let k = and_parts (waits_for d t v h) (nat_lt (rank_of d g) (rank_of d h)) e in and_from (waits_for d s v h) (nat_lt (rank_of d g) (rank_of d h)) (waits h k.0) k.1) all_groups
 
   pub aborts_fewer : is_some (aborts d w t v) ≡ true → is_some (aborts d w s v) ≡ true
-  aborts_fewer e = by (round_at t v) refl e
+  aborts_fewer e = aborted_before (round_at t v) refl e
     where
       holds : (q : Bool) (r : Round) → is_some (cond q (Some r) None) ≡ true → q ≡ true
       holds true r f = refl
       holds false r f = absurd (cc)
 
-      by : (q : Option Round) → round_at t v ≡ q → is_some (aborts_by d w t v q) ≡ true → is_some (aborts d w s v) ≡ true
-      by None i f = absurd (cc)
-      by (Some r) i f =
+      aborted_before : (q : Option Round) → round_at t v ≡ q → is_some (aborts_by d w t v q) ≡ true → is_some (aborts d w s v) ≡ true
+      aborted_before None i f = absurd (cc)
+      aborted_before (Some r) i f =
           let k = and_parts (not (is_finished w (group_of d r.group) r)) (is_outranked d t v r.group) (holds (not (is_finished w (group_of d r.group) r) && is_outranked d t v r.group) r f) in
           let on = and_from (not (is_finished w (group_of d r.group) r)) (is_outranked d s v r.group) k.0 (outranked_more r.group k.1) in
           ap (λ q. is_some (aborts_by d w s v q)) (round r i) ∙ ap (λ b. is_some (cond b (Some r) None)) on

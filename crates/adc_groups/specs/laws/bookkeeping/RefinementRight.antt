@@ -32,14 +32,14 @@ use Rattle.mcal_base.specs.facts.Numbers.{eq_self}
 
 -- a round is finished on the chip exactly where it is in the machine
 all_ended : (start now n : ℕ) → start ≤ now → (min n ((now - start) / 4) == n) ≡ nat_le (start + 4 * n) now
-all_ended start now n le = by (nat_le (start + 4 * n) now) refl
+all_ended start now n le = counts_all (nat_le (start + 4 * n) now) refl
   where
-    by : (q : Bool) → nat_le (start + 4 * n) now ≡ q → (min n ((now - start) / 4) == n) ≡ nat_le (start + 4 * n) now
-    by true e =
+    counts_all : (q : Bool) → nat_le (start + 4 * n) now ≡ q → (min n ((now - start) / 4) == n) ≡ nat_le (start + 4 * n) now
+    counts_all true e =
         let past : start + 4 * n ≤ now = grind (arith, nat_tests) in
         let same : min n ((now - start) / 4) ≡ n = omega (arith, past) in
         ap (λ m. m == n) same ∙ (eq_self n ∙ sym e)
-    by false e =
+    counts_all false e =
         let early : now < start + 4 * n = grind (arith, nat_tests) in
         let less : min n ((now - start) / 4) < n = omega (arith, early, le) in
         other (min n ((now - start) / 4)) n less ∙ sym e
@@ -164,13 +164,13 @@ module _ (d : AdcTable) (fits : FitsAdc d) (held : Reservations) (chip : Chip) (
 
 module _ (d : AdcTable) (fits : FitsAdc d) (chip : Chip) (w : World) (s : AdcState) (h : Agrees d [] chip w s) where
   none_starts : (u : ℕ) → is_some (starts d s u) || is_some (aborts d w s u) ≡ false
-  none_starts u = by s.initialised refl
+  none_starts u = neither_starts s.initialised refl
     where
-      by : (on : Bool) → s.initialised ≡ on → is_some (starts d s u) || is_some (aborts d w s u) ≡ false
-      by true e =
+      neither_starts : (on : Bool) → s.initialised ≡ on → is_some (starts d s u) || is_some (aborts d w s u) ≡ false
+      neither_starts true e =
           let p = (h.settled e).promised u in
           ap (λ q. q || is_some (aborts d w s u)) (false_from_ne_true (is_some (starts d s u)) (λ i. let f = p.starts i in cc)) ∙ false_from_ne_true (is_some (aborts d w s u)) (λ i. let f = p.yields i in cc)
-      by false e =
+      neither_starts false e =
           let free = (h.sound.rest e 0).1 u in
           ap (λ q. is_some (starts_by q (next_group d s u)) || is_some (aborts_by d w s u q)) free ∙ ap (λ o. is_some o || false) (none_next d fits [] chip w s h e u)
 

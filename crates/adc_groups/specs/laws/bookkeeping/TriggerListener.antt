@@ -27,11 +27,11 @@ module _ (d : AdcTable) (fits : FitsAdc d) (s t : AdcState) (g i : ℕ) (input :
   has_no_other j ne = ap (λ o. is_input j o) input ∙ eq_other i j (λ e. ne (sym e))
 
   alone : (k : ℕ) → k ≢ g → has_input i (group_of d k) ≡ false
-  alone k ne = by (trigger_input (group_of d k)) refl
+  alone k ne = other_input (trigger_input (group_of d k)) refl
     where
-      by : (o : Option ℕ) → trigger_input (group_of d k) ≡ o → is_input i o ≡ false
-      by None e = refl
-      by (Some j) e = whether_as (j == i) (λ q. q ≡ false)
+      other_input : (o : Option ℕ) → trigger_input (group_of d k) ≡ o → is_input i o ≡ false
+      other_input None e = refl
+      other_input (Some j) e = whether_as (j == i) (λ q. q ≡ false)
           (λ f. let at : j ≡ i = eq_is j i f in absurd (ne (fits.alone k g i (e ∙ ap (λ n. Some n) at) input)))
           (λ f. refl)
 

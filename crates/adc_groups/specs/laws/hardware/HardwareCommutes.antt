@@ -234,7 +234,7 @@ module _ (d : AdcTable) (ds : List WindowWrite) (t : Continuation) (chip : Chip)
 
   -- a gate that is switched off: until the flag is cleared too, a pulse may have set it or not
   pub gates_commute : (v : ℕ) → FitsGates v chip ds → Alike d (owed_of d None None ds t) (happened (chip_after chip (Write TriggerClear v) 0) order) (chip_after (happened chip order) (Write TriggerClear v) 0)
-  gates_commute v fit = either_order (λ b. record b { gates = without b.gates v }) (by order none)
+  gates_commute v fit = either_order (λ b. record b { gates = without b.gates v }) (gates_after order none)
     where
       c : Converters
       c = chip.converters
@@ -276,11 +276,11 @@ module _ (d : AdcTable) (ds : List WindowWrite) (t : Continuation) (chip : Chip)
               by false g f = absurd (cc)
 
           named : has_bit v i ≡ true
-          named = by (nat_lt i 4) (has_bit chip.converters.gates i) (has_bit v i) refl e f
+          named = gate_cleared (nat_lt i 4) (has_bit chip.converters.gates i) (has_bit v i) refl e f
             where
-              by : (s g b : Bool) → b ≡ has_bit v i → (nat_lt i 4 && has_bit (without chip.converters.gates v) i) ≡ false → (nat_lt i 4 && has_bit chip.converters.gates i) ≡ true → has_bit v i ≡ true
-              by s g true h e f = sym h
-              by s g false h e f = absurd (out (nat_lt i 4) (has_bit chip.converters.gates i) f (ap (λ q. nat_lt i 4 && q) (sym (inside i few)) ∙ e) (sym h))
+              gate_cleared : (s g b : Bool) → b ≡ has_bit v i → (nat_lt i 4 && has_bit (without chip.converters.gates v) i) ≡ false → (nat_lt i 4 && has_bit chip.converters.gates i) ≡ true → has_bit v i ≡ true
+              gate_cleared s g true h e f = sym h
+              gate_cleared s g false h e f = absurd (out (nat_lt i 4) (has_bit chip.converters.gates i) f (ap (λ q. nat_lt i 4 && q) (sym (inside i few)) ∙ e) (sym h))
                 where
                   out : (s g : Bool) → s && g ≡ true → s && (g && not (has_bit v i)) ≡ false → has_bit v i ≡ false → ⊥
                   out true true f e h = let k : not (has_bit v i) ≡ true = ap (λ q. not q) h in cc
@@ -291,18 +291,18 @@ module _ (d : AdcTable) (ds : List WindowWrite) (t : Continuation) (chip : Chip)
               (λ h. let same : j ≡ i = grind (arith, nat_tests) in absurd (let k : flag_left ds j ≡ true = ap (λ n. flag_left ds n) same ∙ fit.flags i few named in cc))
               (λ h. refl)
 
-      by : (o : Order) → is_fill o ≡ false → Both (block_after o chip.clock.rate (record chip.converters { gates = without chip.converters.gates v })) (record (block_after o chip.clock.rate chip.converters) { gates = without (block_after o chip.clock.rate chip.converters).gates v })
-      by (orders.Trigger i) e = subst (λ b. Both (chips.after_pulse (record chip.converters { gates = without chip.converters.gates v }) i) b) (turned (nat_lt i 4 && has_bit chip.converters.gates i)) (pulses i _ _ refl refl)
+      gates_after : (o : Order) → is_fill o ≡ false → Both (block_after o chip.clock.rate (record chip.converters { gates = without chip.converters.gates v })) (record (block_after o chip.clock.rate chip.converters) { gates = without (block_after o chip.clock.rate chip.converters).gates v })
+      gates_after (orders.Trigger i) e = subst (λ b. Both (chips.after_pulse (record chip.converters { gates = without chip.converters.gates v }) i) b) (turned (nat_lt i 4 && has_bit chip.converters.gates i)) (pulses i _ _ refl refl)
         where
           turned : (r : Bool) → (if r then record chip.converters { gates = without chip.converters.gates v; pulses = bit_or chip.converters.pulses (2 ^ i) } else record chip.converters { gates = without chip.converters.gates v })
               ≡ record (if r then record chip.converters { pulses = bit_or chip.converters.pulses (2 ^ i) } else chip.converters) { gates = without (if r then record chip.converters { pulses = bit_or chip.converters.pulses (2 ^ i) } else chip.converters).gates v }
           turned true = refl
           turned false = refl
-      by _ e = Alike_same refl
+      gates_after _ e = Alike_same refl
 
   -- a flag that is cleared behind its gate
   pub flags_commute : (v : ℕ) → FitsFlags v chip → Alike d (owed_of d None None ds t) (happened (chip_after chip (Write TriggerFlags v) 0) order) (chip_after (happened chip order) (Write TriggerFlags v) 0)
-  flags_commute v fit = either_order (λ b. record b { pulses = without b.pulses v }) (Alike_same (same_block d ds (happened chip order) _ _ (by order none)))
+  flags_commute v fit = either_order (λ b. record b { pulses = without b.pulses v }) (Alike_same (same_block d ds (happened chip order) _ _ (pulses_after order none)))
     where
       p : ℕ
       p = chip.converters.pulses
@@ -322,19 +322,19 @@ module _ (d : AdcTable) (ds : List WindowWrite) (t : Continuation) (chip : Chip)
           turn false false w h = refl
 
           apart : (j : ℕ) → has_bit (2 ^ i) j ≡ true → has_bit v j ≡ false
-          apart j e = by (j == i) refl
+          apart j e = bit_off (j == i) refl
             where
-              by : (q : Bool) → (j == i) ≡ q → has_bit v j ≡ false
-              by true h = let same : j ≡ i = grind (arith, nat_tests) in ap (λ n. has_bit v n) same ∙ closed
+              bit_off : (q : Bool) → (j == i) ≡ q → has_bit v j ≡ false
+              bit_off true h = let same : j ≡ i = grind (arith, nat_tests) in ap (λ n. has_bit v n) same ∙ closed
                 where
                   closed : has_bit v i ≡ false
                   closed = whether_as (has_bit v i) (λ q. q ≡ false)
                       (λ k. absurd (let f = fit.gates i lt k in cc))
                       (λ k. refl)
-              by false h = absurd (let f = one_bit i j false h in cc)
+              bit_off false h = absurd (let f = one_bit i j false h in cc)
 
-      by : (o : Order) → is_fill o ≡ false → record (block_after o chip.clock.rate chip.converters) { pulses = without (block_after o chip.clock.rate chip.converters).pulses v } ≡ block_after o chip.clock.rate (record chip.converters { pulses = without chip.converters.pulses v })
-      by (orders.Trigger i) e = pulsed (nat_lt i 4 && has_bit chip.converters.gates i) refl
+      pulses_after : (o : Order) → is_fill o ≡ false → record (block_after o chip.clock.rate chip.converters) { pulses = without (block_after o chip.clock.rate chip.converters).pulses v } ≡ block_after o chip.clock.rate (record chip.converters { pulses = without chip.converters.pulses v })
+      pulses_after (orders.Trigger i) e = pulsed (nat_lt i 4 && has_bit chip.converters.gates i) refl
         where
           small : (i : ℕ) → nat_lt i 4 ≡ true → i < 4
           small i e = grind (arith, nat_tests)
@@ -343,4 +343,4 @@ module _ (d : AdcTable) (ds : List WindowWrite) (t : Continuation) (chip : Chip)
               ≡ (if q then record chip.converters { pulses = bit_or (without chip.converters.pulses v) (2 ^ i) } else record chip.converters { pulses = without chip.converters.pulses v })
           pulsed true h = let both = and_parts (nat_lt i 4) (has_bit chip.converters.gates i) h in ap (λ n. record chip.converters { pulses = n }) (cleared i (small i both.0) both.1)
           pulsed false h = refl
-      by _ e = refl
+      pulses_after _ e = refl

@@ -18,7 +18,7 @@ use Rattle.adc_groups.specs.laws.hardware.HardwareMoves.{still}
 
 -- what is so of each line of the module
 pub by_line : (P : ℕ → Type 0) → P 24 → P 25 → P 28 → P 29 → P 30 → P 31 → (l : ℕ) → is_unit_line l || is_trigger_line l ≡ true → P l
-by_line P a b c e f g l h = by (l == 24) refl (l == 25) refl (l == 28) refl (l == 29) refl (l == 30) refl
+by_line P a b c e f g l h = which_line (l == 24) refl (l == 25) refl (l == 28) refl (l == 29) refl (l == 30) refl
   where
     at : (n : ℕ) → (l == n) ≡ true → P n → P l
     at n i p = let same : n ≡ l = grind (arith, nat_tests) in subst P same p
@@ -26,13 +26,13 @@ by_line P a b c e f g l h = by (l == 24) refl (l == 25) refl (l == 28) refl (l =
     last : (l : ℕ) → (l == 24 || l == 25) || (not (nat_lt l 28) && nat_lt l 32) ≡ true → (l == 24) ≡ false → (l == 25) ≡ false → (l == 28) ≡ false → (l == 29) ≡ false → (l == 30) ≡ false → l ≡ 31
     last l h i j k m n = grind (arith, nat_tests)
 
-    by : (p : Bool) → (l == 24) ≡ p → (q : Bool) → (l == 25) ≡ q → (r : Bool) → (l == 28) ≡ r → (s : Bool) → (l == 29) ≡ s → (t : Bool) → (l == 30) ≡ t → P l
-    by true i q j r k s m t n = at 24 i a
-    by false i true j r k s m t n = at 25 j b
-    by false i false j true k s m t n = at 28 k c
-    by false i false j false k true m t n = at 29 m e
-    by false i false j false k false m true n = at 30 n f
-    by false i false j false k false m false n = subst P (sym (last l h i j k m n)) g
+    which_line : (p : Bool) → (l == 24) ≡ p → (q : Bool) → (l == 25) ≡ q → (r : Bool) → (l == 28) ≡ r → (s : Bool) → (l == 29) ≡ s → (t : Bool) → (l == 30) ≡ t → P l
+    which_line true i q j r k s m t n = at 24 i a
+    which_line false i true j r k s m t n = at 25 j b
+    which_line false i false j true k s m t n = at 28 k c
+    which_line false i false j false k true m t n = at 29 m e
+    which_line false i false j false k false m true n = at 30 n f
+    which_line false i false j false k false m false n = subst P (sym (last l h i j k m n)) g
 
 no_line : (v : ℕ) → has_lines v ≡ false → (l : ℕ) → is_unit_line l || is_trigger_line l ≡ true → has_bit v l ≡ false
 no_line v e =
@@ -131,20 +131,20 @@ for_parts v e = (some v (and_first (not (v == 0)) (nat_lt v (2 ^ 32)) (bounds v 
     few v e = grind (arith, nat_tests)
 
 pub other_line : (bits line : ℕ) → is_for_lines bits ≡ true → is_unit_line line || is_trigger_line line ≡ false → has_bit bits line ≡ false
-other_line bits line e other = by (nat_lt line 32) refl
+other_line bits line e other = bit_clear (nat_lt line 32) refl
   where
     none : (b u t : Bool) → u || t ≡ false → not b || u || t ≡ true → b ≡ false
     none true false true e f = absurd (cc)
     none false u t e f = refl
     none _ _ _ e f = absurd (cc)
 
-    by : (q : Bool) → nat_lt line 32 ≡ q → has_bit bits line ≡ false
-    by true i =
+    bit_clear : (q : Bool) → nat_lt line 32 ≡ q → has_bit bits line ≡ false
+    bit_clear true i =
         let lt : line < 32 = grind (arith, nat_tests) in
         let at : 0 + line ≡ line = omega arith in
         let all : line_test bits line ≡ true = subst (λ k. line_test bits k ≡ true) at (all_below (line_test bits) 0 32 line lt (for_parts bits e).2) in
         none (has_bit bits line) (is_unit_line line) (is_trigger_line line) other all
-    by false i = let above : 32 ≤ line = grind (arith, nat_tests) in has_bit-above bits 32 line (for_parts bits e).1 above
+    bit_clear false i = let above : 32 ≤ line = grind (arith, nat_tests) in has_bit-above bits 32 line (for_parts bits e).1 above
 
 zero_bit : (n : ℕ) → n < 2 → (n == 1) ≡ false → n ≡ 0
 zero_bit n lt e = grind (arith, nat_tests)

@@ -115,15 +115,15 @@ module _ (d : AdcTable) (w : World) (s : AdcState) (sound : IsSound d w s) where
   -- what the turn of a group keeps is less than all values
   kept_by_round : (g : ℕ) (q : Option Round) → round_at s (unit_of (group_of d g)) ≡ q → (j v : ℕ) → slice_get (kept_of_round g q) j ≡ Some v → j < length (inputs_of (group_of d g))
   kept_by_round g None e j v at = absurd (cc)
-  kept_by_round g (Some r) e j v at = by (r.group == g) refl at
+  kept_by_round g (Some r) e j v at = kept_below_inputs (r.group == g) refl at
     where
-      by : (o : Bool) → (r.group == g) ≡ o → slice_get (if o then r.request.kept else []) j ≡ Some v → j < length (inputs_of (group_of d g))
-      by true i f =
+      kept_below_inputs : (o : Bool) → (r.group == g) ≡ o → slice_get (if o then r.request.kept else []) j ≡ Some v → j < length (inputs_of (group_of d g))
+      kept_below_inputs true i f =
           let same : r.group ≡ g = grind (arith, nat_tests) in
           let few : length r.request.kept < length (inputs_of (group_of d g)) = subst (λ y. length r.request.kept < length (inputs_of (group_of d y))) same (sound.runs (unit_of (group_of d g)) r e).4.2 in
           let lt = slice_get_within r.request.kept j v f in
           omega (arith, few, lt)
-      by false i f = absurd (cc)
+      kept_below_inputs false i f = absurd (cc)
 
   pub kept_within : (g j v : ℕ) → slice_get (kept_in d s g) j ≡ Some v → j < length (inputs_of (group_of d g))
   kept_within g j v at = by (group_at s g).waiting refl at
@@ -284,7 +284,7 @@ module _ (d : AdcTable) (fits : FitsAdc d) (a b : Chip) (w x : World) (s : AdcSt
     start = ap (λ y. y.start) goes.round ∙ h.start;
     count = ap (λ y. y.count) goes.round ∙ h.count;
     inputs = λ i input is. ap (λ y. rounds.input_of y i) goes.round ∙ h.inputs i input is;
-    values = λ i input is le. by i input is le (nat_le (ends_at r i) w.now) refl;
+    values = λ i input is le. result_is_sample i input is le (nat_le (ends_at r i) w.now) refl;
   }
     where
       k : Option Group
@@ -312,11 +312,11 @@ module _ (d : AdcTable) (fits : FitsAdc d) (a b : Chip) (w x : World) (s : AdcSt
           let at = same_time in
           has_ended-open (chips.unit_at a.converters u).round i a.converters.time (ap (λ q. is_some q) h.on) (counted i input is) (omega (arith, le, began, at))
 
-      by : (i input : ℕ) → slice_get (inputs_left k r) i ≡ Some input → ends_at r i ≤ x.now → (q : Bool) → nat_le (ends_at r i) w.now ≡ q → chips.result b.converters.levels b.converters.time (chips.unit_at b.converters u) i ≡ sample_at x.samples input (ends_at r i)
-      by i input is le true e =
+      result_is_sample : (i input : ℕ) → slice_get (inputs_left k r) i ≡ Some input → ends_at r i ≤ x.now → (q : Bool) → nat_le (ends_at r i) w.now ≡ q → chips.result b.converters.levels b.converters.time (chips.unit_at b.converters u) i ≡ sample_at x.samples input (ends_at r i)
+      result_is_sample i input is le true e =
           let early : ends_at r i ≤ w.now = grind (arith, nat_tests) in
           goes.ended i (few i input is) (has i input is early) ∙ (h.values i input is early ∙ sym (on.samples input (ends_at r i) early))
-      by i input is le false e =
+      result_is_sample i input is le false e =
           let late : w.now < ends_at r i = grind (arith, nat_tests) in
           let began : ends_at r i ≡ (chips.unit_at a.converters u).round.start + 4 * (i + 1) = ap (λ y. y + 4 * (i + 1)) (sym h.start) in
           goes.fresh i input (counted i input is) h.on (left_small d fits r.group (length r.request.kept) i input there is) (h.inputs i input is) (subst (λ y. w.now < y) began late) (subst (λ y. y ≤ x.now) began le)

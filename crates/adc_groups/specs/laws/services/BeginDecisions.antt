@@ -28,11 +28,11 @@ use Rattle.mcal_base.specs.facts.Truths.{and_false}
 -- where none of the unit's groups comes before, the next one that is found is the first
 pub from_found : (d : AdcTable) (u : Option ℕ) (P : ℕ → Type 0) (n g k : ℕ) → ((h : ℕ) → h < g → is_of d u h ≡ true → P h) → first_from d u n g ≡ Some k → (is_of d u k ≡ true) × ((h : ℕ) → h < k → is_of d u h ≡ true → P h)
 from_found d u P zero g k below e = absurd (cc)
-from_found d u P (suc n) g k below e = by (is_of d u g) refl e (λ more f. from_found d u P n (g + 1) k more f)
+from_found d u P (suc n) g k below e = here_or_later (is_of d u g) refl e (λ more f. from_found d u P n (g + 1) k more f)
   where
-    by : (q : Bool) → is_of d u g ≡ q → (if q then Some g else first_from d u n (g + 1)) ≡ Some k → (((h : ℕ) → h < g + 1 → is_of d u h ≡ true → P h) → first_from d u n (g + 1) ≡ Some k → (is_of d u k ≡ true) × ((h : ℕ) → h < k → is_of d u h ≡ true → P h)) → (is_of d u k ≡ true) × ((h : ℕ) → h < k → is_of d u h ≡ true → P h)
-    by true i f rest = let same : g ≡ k = cc in subst (λ z. (is_of d u z ≡ true) × ((h : ℕ) → h < z → is_of d u h ≡ true → P h)) same (i, below)
-    by false i f rest = rest (λ h lt on. other h lt on (less h lt)) f
+    here_or_later : (q : Bool) → is_of d u g ≡ q → (if q then Some g else first_from d u n (g + 1)) ≡ Some k → (((h : ℕ) → h < g + 1 → is_of d u h ≡ true → P h) → first_from d u n (g + 1) ≡ Some k → (is_of d u k ≡ true) × ((h : ℕ) → h < k → is_of d u h ≡ true → P h)) → (is_of d u k ≡ true) × ((h : ℕ) → h < k → is_of d u h ≡ true → P h)
+    here_or_later true i f rest = let same : g ≡ k = cc in subst (λ z. (is_of d u z ≡ true) × ((h : ℕ) → h < z → is_of d u h ≡ true → P h)) same (i, below)
+    here_or_later false i f rest = rest (λ h lt on. other h lt on (less h lt)) f
       where
         less : (h : ℕ) → h < g + 1 → (h ≡ g) ⊎ (h < g)
         less h lt = grind arith
@@ -44,11 +44,11 @@ from_found d u P (suc n) g k below e = by (is_of d u g) refl e (λ more f. from_
 -- and where none is found there is none
 pub none_found : (d : AdcTable) (u : Option ℕ) (P : ℕ → Type 0) (n g : ℕ) → ((h : ℕ) → h < g → is_of d u h ≡ true → P h) → first_from d u n g ≡ None → (h : ℕ) → h < g + n → is_of d u h ≡ true → P h
 none_found d u P zero g below e h lt on = below h (omega (arith, lt)) on
-none_found d u P (suc n) g below e h lt on = by (is_of d u g) refl e (λ more f. none_found d u P n (g + 1) more f h (omega (arith, lt)) on)
+none_found d u P (suc n) g below e h lt on = later_too (is_of d u g) refl e (λ more f. none_found d u P n (g + 1) more f h (omega (arith, lt)) on)
   where
-    by : (q : Bool) → is_of d u g ≡ q → (if q then Some g else first_from d u n (g + 1)) ≡ None → (((h : ℕ) → h < g + 1 → is_of d u h ≡ true → P h) → first_from d u n (g + 1) ≡ None → P h) → P h
-    by true i f rest = absurd (cc)
-    by false i f rest = rest (λ z less here. other z here (lower z less)) f
+    later_too : (q : Bool) → is_of d u g ≡ q → (if q then Some g else first_from d u n (g + 1)) ≡ None → (((h : ℕ) → h < g + 1 → is_of d u h ≡ true → P h) → first_from d u n (g + 1) ≡ None → P h) → P h
+    later_too true i f rest = absurd (cc)
+    later_too false i f rest = rest (λ z less here. other z here (lower z less)) f
       where
         lower : (z : ℕ) → z < g + 1 → (z ≡ g) ⊎ (z < g)
         lower z less = grind arith
@@ -128,17 +128,17 @@ module _ (d : AdcTable) (fits : FitsAdc d) (f r : AdcBody → ℕ) (below : Rese
   -- ---- Adc_SetupResultBuffer
 
   pub set_up_right : (b : ResultBuffer) → MayCall d s g (SetupResultBuffer (Some b)) → Decides (SetupResultBuffer (Some b)) (set_up d g b (word_of chip (word_number d (words.Phase g))))
-  set_up_right b may = subst (λ p. Decides (SetupResultBuffer (Some b)) (set_up d g b p)) (sym ((h.settled may.on).groups g may.there).phase) (by (group_at s g).status refl (has_turn s g || (group_at s g).trigger))
+  set_up_right b may = subst (λ p. Decides (SetupResultBuffer (Some b)) (set_up d g b p)) (sym ((h.settled may.on).groups g may.there).phase) (decides_by_status (group_at s g).status refl (has_turn s g || (group_at s g).trigger))
     where
       facts : (x : Status) → (group_at s g).status ≡ x → error_by d (calls.Group g (SetupResultBuffer (Some b))) (circumstances d s (calls.Group g (SetupResultBuffer (Some b)))) ≡ first_error services.AdcSetupResultBuffer (false ∷ false ∷ false ∷ not (is_idle x) ∷ false ∷ false ∷ [])
       facts x e = group_errors d s g (SetupResultBuffer (Some b)) may ∙ ap (λ z. first_error services.AdcSetupResultBuffer (false ∷ false ∷ false ∷ not (is_idle z) ∷ false ∷ false ∷ [])) e
 
-      by : (x : Status) → (group_at s g).status ≡ x → (on : Bool) → Decides (SetupResultBuffer (Some b)) (set_up d g b (phase_of x on))
-      by Idle e on = ((h, (refl, Sets_up g b (Is_this_frame, may) e)), refl)
-      by Busy e on = refused_right d f r below chip w s h m y (calls.Group g (SetupResultBuffer (Some b))) errors.AdcBusy K k v ends (facts Busy e)
-      by Completed e on = refused_right d f r below chip w s h m y (calls.Group g (SetupResultBuffer (Some b))) errors.AdcBusy K k v ends (facts Completed e)
-      by StreamCompleted e true = refused_right d f r below chip w s h m y (calls.Group g (SetupResultBuffer (Some b))) errors.AdcBusy K k v ends (facts StreamCompleted e)
-      by StreamCompleted e false = refused_right d f r below chip w s h m y (calls.Group g (SetupResultBuffer (Some b))) errors.AdcBusy K k v ends (facts StreamCompleted e)
+      decides_by_status : (x : Status) → (group_at s g).status ≡ x → (on : Bool) → Decides (SetupResultBuffer (Some b)) (set_up d g b (phase_of x on))
+      decides_by_status Idle e on = ((h, (refl, Sets_up g b (Is_this_frame, may) e)), refl)
+      decides_by_status Busy e on = refused_right d f r below chip w s h m y (calls.Group g (SetupResultBuffer (Some b))) errors.AdcBusy K k v ends (facts Busy e)
+      decides_by_status Completed e on = refused_right d f r below chip w s h m y (calls.Group g (SetupResultBuffer (Some b))) errors.AdcBusy K k v ends (facts Completed e)
+      decides_by_status StreamCompleted e true = refused_right d f r below chip w s h m y (calls.Group g (SetupResultBuffer (Some b))) errors.AdcBusy K k v ends (facts StreamCompleted e)
+      decides_by_status StreamCompleted e false = refused_right d f r below chip w s h m y (calls.Group g (SetupResultBuffer (Some b))) errors.AdcBusy K k v ends (facts StreamCompleted e)
 
   -- ---- Adc_StartGroupConversion and Adc_EnableHardwareTrigger
 
@@ -212,7 +212,7 @@ module _ (d : AdcTable) (fits : FitsAdc d) (f r : AdcBody → ℕ) (below : Rese
 
   -- a group of the unit was looked at
   pub surveyed_right : (call : GroupCall) (win : Window) → Begins g call win → MayCall d s g call → Before → (j : ℕ) → j < 16 → HasSurveyed d win s j → Decides call (surveyed d win j (word_of chip (word_number d (words.Phase j))))
-  surveyed_right call win b may l j lt seen = subst (λ q. Decides call (if q then refused d win errors.AdcBusy else Goes (survey d win (j + 1)))) (sym known) (by (is_under_way s j) refl)
+  surveyed_right call win b may l j lt seen = subst (λ q. Decides call (if q then refused d win errors.AdcBusy else Goes (survey d win (j + 1)))) (sym known) (busy_or_further (is_under_way s j) refl)
     where
       there : is_some (group_of d j) ≡ true
       there = on_there (group_of d j) (subst (λ z. is_of d z j ≡ true) (unit_is_in call win b) seen.0)
@@ -227,8 +227,8 @@ module _ (d : AdcTable) (fits : FitsAdc d) (f r : AdcBody → ℕ) (below : Rese
       less : (i : ℕ) → i < j + 1 → (i ≡ j) ⊎ (i < j)
       less i e = grind arith
 
-      by : (q : Bool) → is_under_way s j ≡ q → Decides call (if q then refused d win errors.AdcBusy else Goes (survey d win (j + 1)))
-      by true e = busied call win b may l.chosen (taken_by call win b)
+      busy_or_further : (q : Bool) → is_under_way s j ≡ q → Decides call (if q then refused d win errors.AdcBusy else Goes (survey d win (j + 1)))
+      busy_or_further true e = busied call win b may l.chosen (taken_by call win b)
         where
           taken_by : (call : GroupCall) (win : Window) → Begins g call win → is_start_busy d s g ≡ true
           taken_by c x i = ap (λ q. is_under_way s g || (q && is_unit_taken d s (group_of d g))) l.one ∙ or_right (is_under_way s g) (is_unit_taken d s (group_of d g)) (found (group_of d g) refl)
@@ -237,7 +237,7 @@ module _ (d : AdcTable) (fits : FitsAdc d) (f r : AdcBody → ℕ) (below : Rese
               found None z = absurd (let i : is_some (group_of d g) ≡ false = ap (λ o. is_some o) z in let j = may.there in cc)
               found (Some o) z = any_on (λ n. is_on o.unit (group_of d n) && is_under_way s n) j lt
                   (subst (λ n. is_on n (group_of d j) && is_under_way s j ≡ true) (ap (λ z. unit_of z) z) (ap (λ q. q && is_under_way s j) (subst (λ z. is_of d z j ≡ true) (unit_is_in call win b) seen.0) ∙ e))
-      by false e = survey_right call win b may l (j + 1) (omega (arith, lt)) (λ i z on. cases (less i z)
+      busy_or_further false e = survey_right call win b may l (j + 1) (omega (arith, lt)) (λ i z on. cases (less i z)
           (λ same. ap (λ n. is_under_way s n) same ∙ e)
           (λ z. seen.1 i z on))
 
@@ -245,7 +245,7 @@ module _ (d : AdcTable) (fits : FitsAdc d) (f r : AdcBody → ℕ) (below : Rese
   pub looked_right : (call : GroupCall) (win : Window) → Begins g call win → MayCall d s g call → Decides call (looked d win (word_of chip (word_number d (words.Chosen g))) (word_of chip (word_number d (words.Phase g))))
   looked_right call win b may =
       subst (λ q. Decides call (if q then refused d win errors.AdcBufferUninit else (if phase_under_way (phase_in (word_of chip (word_number d (words.Phase g)))) then refused d win errors.AdcBusy else Goes (if takes_one d then survey d win 0 else begin d win)))) (sym chosen)
-      (subst (λ q. Decides call (if not (is_some (group_at s g).chosen) then refused d win errors.AdcBufferUninit else (if q then refused d win errors.AdcBusy else Goes (if takes_one d then survey d win 0 else begin d win)))) (sym known) (by (is_some (group_at s g).chosen) refl (is_under_way s g) refl (takes_one d) refl))
+      (subst (λ q. Decides call (if not (is_some (group_at s g).chosen) then refused d win errors.AdcBufferUninit else (if q then refused d win errors.AdcBusy else Goes (if takes_one d then survey d win 0 else begin d win)))) (sym known) (refused_or_goes (is_some (group_at s g).chosen) refl (is_under_way s g) refl (takes_one d) refl))
     where
       was : GroupAgrees d (word_of chip) s g
       was = (h.settled may.on).groups g may.there
@@ -256,8 +256,8 @@ module _ (d : AdcTable) (fits : FitsAdc d) (f r : AdcBody → ℕ) (below : Rese
       known : phase_under_way (phase_in (word_of chip (word_number d (words.Phase g)))) ≡ is_under_way s g
       known = ap (λ p. phase_under_way (phase_in p)) was.phase ∙ phase_way (group_at s g).status (has_turn s g) (group_at s g).trigger
 
-      by : (a : Bool) → is_some (group_at s g).chosen ≡ a → (q : Bool) → is_under_way s g ≡ q → (o : Bool) → takes_one d ≡ o → Decides call (if not a then refused d win errors.AdcBufferUninit else (if q then refused d win errors.AdcBusy else Goes (if o then survey d win 0 else begin d win)))
-      by false e q i o j = unbuffered call win b may e
-      by true e true i o j = busied call win b may e (ap (λ z. z || (takes_one d && is_unit_taken d s (group_of d g))) i)
-      by true e false i true j = survey_right call win b may (record { chosen = e; quiet = i; one = j }) 0 (omega arith) (λ n z on. absurd (omega (arith, z)))
-      by true e false i false j = begun call win b may (record { chosen = e; quiet = i; free = ap (λ z. z || (takes_one d && is_unit_taken d s (group_of d g))) i ∙ ap (λ z. z && is_unit_taken d s (group_of d g)) j })
+      refused_or_goes : (a : Bool) → is_some (group_at s g).chosen ≡ a → (q : Bool) → is_under_way s g ≡ q → (o : Bool) → takes_one d ≡ o → Decides call (if not a then refused d win errors.AdcBufferUninit else (if q then refused d win errors.AdcBusy else Goes (if o then survey d win 0 else begin d win)))
+      refused_or_goes false e q i o j = unbuffered call win b may e
+      refused_or_goes true e true i o j = busied call win b may e (ap (λ z. z || (takes_one d && is_unit_taken d s (group_of d g))) i)
+      refused_or_goes true e false i true j = survey_right call win b may (record { chosen = e; quiet = i; one = j }) 0 (omega arith) (λ n z on. absurd (omega (arith, z)))
+      refused_or_goes true e false i false j = begun call win b may (record { chosen = e; quiet = i; free = ap (λ z. z || (takes_one d && is_unit_taken d s (group_of d g))) i ∙ ap (λ z. z && is_unit_taken d s (group_of d g)) j })

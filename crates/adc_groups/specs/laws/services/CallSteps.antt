@@ -99,14 +99,14 @@ module _ (d : AdcTable) (fits : FitsAdc d) (f r : AdcBody → ℕ) (below : Rese
   -- ---- registers
 
   off_line : (i : ℕ) → i < 4 → mark_at s i ≡ false → missed (28 + i) ≡ true
-  off_line i lt none = or_right (m (28 + i)) (not (ready d w s (28 + i))) (ap (λ q. not q) (by i lt none))
+  off_line i lt none = or_right (m (28 + i)) (not (ready d w s (28 + i))) (ap (λ q. not q) (not_ready i lt none))
     where
-      by : (i : ℕ) → i < 4 → mark_at s i ≡ false → ready d w s (28 + i) ≡ false
-      by zero lt e = and_right s.initialised (mark_at s 0) e
-      by (suc zero) lt e = and_right s.initialised (mark_at s 1) e
-      by (suc (suc zero)) lt e = and_right s.initialised (mark_at s 2) e
-      by (suc (suc (suc zero))) lt e = and_right s.initialised (mark_at s 3) e
-      by (suc (suc (suc (suc i)))) lt e = absurd (omega (arith, lt))
+      not_ready : (i : ℕ) → i < 4 → mark_at s i ≡ false → ready d w s (28 + i) ≡ false
+      not_ready zero lt e = and_right s.initialised (mark_at s 0) e
+      not_ready (suc zero) lt e = and_right s.initialised (mark_at s 1) e
+      not_ready (suc (suc zero)) lt e = and_right s.initialised (mark_at s 2) e
+      not_ready (suc (suc (suc zero))) lt e = and_right s.initialised (mark_at s 3) e
+      not_ready (suc (suc (suc (suc i)))) lt e = absurd (omega (arith, lt))
 
   pub trigger_flag : (i g : ℕ) (o : Origin Call) (p : FrameHistory) → InFlag d (windows.Trigger i g) below o p → Agrees d below chip w s
       → RightOr (AdcGround d) (adc_bodies d f r) below chip w s (record { table = d; place = Flag (windows.Trigger i g) }) o y p m (ended_at (adc_bodies d f r) body_ends (record { table = d; place = Flag (windows.Trigger i g) }) (value_of chip (body_work (record { table = d; place = Flag (windows.Trigger i g) }))))

@@ -207,7 +207,7 @@ module _ (d : AdcTable) (fits : FitsAdc d) (f r : AdcBody → ℕ) (chip : Chip)
 
     -- a group was looked at
     close_surveyed : (j : ℕ) → j < 16 → HasSurveyed d windows.Close s j → Decides (surveyed d windows.Close j (word_of chip (word_number d (words.Phase j))))
-    close_surveyed j lt seen = subst (λ q. Decides (if q then refused d windows.Close errors.AdcBusy else Goes (survey d windows.Close (j + 1)))) (sym known) (by (is_under_way s j) refl)
+    close_surveyed j lt seen = subst (λ q. Decides (if q then refused d windows.Close errors.AdcBusy else Goes (survey d windows.Close (j + 1)))) (sym known) (busy_or_further (is_under_way s j) refl)
       where
         known : phase_under_way (phase_in (word_of chip (word_number d (words.Phase j)))) ≡ is_under_way s j
         known = ap (λ p. phase_under_way (phase_in p)) ((h.settled on).groups j seen.0).phase ∙ phase_way (group_at s j).status (has_turn s j) (group_at s j).trigger
@@ -215,9 +215,9 @@ module _ (d : AdcTable) (fits : FitsAdc d) (f r : AdcBody → ℕ) (chip : Chip)
         less : (i : ℕ) → i < j + 1 → (i ≡ j) ⊎ (i < j)
         less i e = grind arith
 
-        by : (q : Bool) → is_under_way s j ≡ q → Decides (if q then refused d windows.Close errors.AdcBusy else Goes (survey d windows.Close (j + 1)))
-        by true e = busied (any_on (is_under_way s) j lt e)
-        by false e = close_survey (j + 1) (omega (arith, lt)) (λ i z of. cases (less i z)
+        busy_or_further : (q : Bool) → is_under_way s j ≡ q → Decides (if q then refused d windows.Close errors.AdcBusy else Goes (survey d windows.Close (j + 1)))
+        busy_or_further true e = busied (any_on (is_under_way s) j lt e)
+        busy_or_further false e = close_survey (j + 1) (omega (arith, lt)) (λ i z of. cases (less i z)
             (λ same. ap (λ n. is_under_way s n) same ∙ e)
             (λ z. seen.1 i z of))
 

@@ -101,14 +101,14 @@ heard_by d s i g e = let on = among all_groups e in (and_first (has_input i (gro
 
 -- what the machine makes of such a serving
 serves_pulse : (d : AdcTable) (w : World) (s : AdcState) (i g : ℕ) → MayPulse d s i g → (t : AdcState) → cond (has_turn s g) (with_mark s i false) (requested (with_mark s i false) g) ≡ t → (x : ℕ) → happens d w s (Serves (28 + i) x) ≡ Some (outcome t tells_nothing)
-serves_pulse d w s i g may t is x = by x i may.few may.marked (ap (λ o. requested_unless_turn (with_mark s i false) o) may.listens ∙ is)
+serves_pulse d w s i g may t is x = served_on_line x i may.few may.marked (ap (λ o. requested_unless_turn (with_mark s i false) o) may.listens ∙ is)
   where
-    by : (x n : ℕ) → n < 4 → mark_at s n ≡ true → served_trigger d s n ≡ t → happens d w s (Serves (28 + n) x) ≡ Some (outcome t tells_nothing)
-    by x zero lt marked e = ap (λ q. cond (q && mark_at s 0) (Some (served d w s 28)) None) may.on ∙ (ap (λ q. cond q (Some (served d w s 28)) None) marked ∙ ap (λ z. Some (outcome z tells_nothing)) e)
-    by x (suc zero) lt marked e = ap (λ q. cond (q && mark_at s 1) (Some (served d w s 29)) None) may.on ∙ (ap (λ q. cond q (Some (served d w s 29)) None) marked ∙ ap (λ z. Some (outcome z tells_nothing)) e)
-    by x (suc (suc zero)) lt marked e = ap (λ q. cond (q && mark_at s 2) (Some (served d w s 30)) None) may.on ∙ (ap (λ q. cond q (Some (served d w s 30)) None) marked ∙ ap (λ z. Some (outcome z tells_nothing)) e)
-    by x (suc (suc (suc zero))) lt marked e = ap (λ q. cond (q && mark_at s 3) (Some (served d w s 31)) None) may.on ∙ (ap (λ q. cond q (Some (served d w s 31)) None) marked ∙ ap (λ z. Some (outcome z tells_nothing)) e)
-    by x (suc (suc (suc (suc n)))) lt marked e = absurd (omega (arith, lt))
+    served_on_line : (x n : ℕ) → n < 4 → mark_at s n ≡ true → served_trigger d s n ≡ t → happens d w s (Serves (28 + n) x) ≡ Some (outcome t tells_nothing)
+    served_on_line x zero lt marked e = ap (λ q. cond (q && mark_at s 0) (Some (served d w s 28)) None) may.on ∙ (ap (λ q. cond q (Some (served d w s 28)) None) marked ∙ ap (λ z. Some (outcome z tells_nothing)) e)
+    served_on_line x (suc zero) lt marked e = ap (λ q. cond (q && mark_at s 1) (Some (served d w s 29)) None) may.on ∙ (ap (λ q. cond q (Some (served d w s 29)) None) marked ∙ ap (λ z. Some (outcome z tells_nothing)) e)
+    served_on_line x (suc (suc zero)) lt marked e = ap (λ q. cond (q && mark_at s 2) (Some (served d w s 30)) None) may.on ∙ (ap (λ q. cond q (Some (served d w s 30)) None) marked ∙ ap (λ z. Some (outcome z tells_nothing)) e)
+    served_on_line x (suc (suc (suc zero))) lt marked e = ap (λ q. cond (q && mark_at s 3) (Some (served d w s 31)) None) may.on ∙ (ap (λ q. cond q (Some (served d w s 31)) None) marked ∙ ap (λ z. Some (outcome z tells_nothing)) e)
+    served_on_line x (suc (suc (suc (suc n)))) lt marked e = absurd (omega (arith, lt))
 
 -- ---- the group has a turn
 

@@ -60,13 +60,13 @@ other_at s g y past k ne = whether (nat_lt k 16)
 
 -- a group that isn't under way has neither a turn nor an enabled trigger
 pub none_under_way : (k : Option configured.Group) (q : Bool) (x : GroupState) → SoundGroup k q x → under_way_by x.status q x.trigger ≡ false → (q ≡ false) × (x.trigger ≡ false)
-none_under_way k q x h e = by x.status refl
+none_under_way k q x h e = idle_only x.status refl
   where
-    by : (z : Status) → x.status ≡ z → (q ≡ false) × (x.trigger ≡ false)
-    by Idle f = (h.turn f, h.trigger f)
-    by Busy f = absurd (let i : under_way_by Busy q x.trigger ≡ false = ap (λ z. under_way_by z q x.trigger) (sym f) ∙ e in cc)
-    by Completed f = absurd (let i : under_way_by Completed q x.trigger ≡ false = ap (λ z. under_way_by z q x.trigger) (sym f) ∙ e in cc)
-    by StreamCompleted f = or_parts q x.trigger (ap (λ z. under_way_by z q x.trigger) (sym f) ∙ e)
+    idle_only : (z : Status) → x.status ≡ z → (q ≡ false) × (x.trigger ≡ false)
+    idle_only Idle f = (h.turn f, h.trigger f)
+    idle_only Busy f = absurd (let i : under_way_by Busy q x.trigger ≡ false = ap (λ z. under_way_by z q x.trigger) (sym f) ∙ e in cc)
+    idle_only Completed f = absurd (let i : under_way_by Completed q x.trigger ≡ false = ap (λ z. under_way_by z q x.trigger) (sym f) ∙ e in cc)
+    idle_only StreamCompleted f = or_parts q x.trigger (ap (λ z. under_way_by z q x.trigger) (sym f) ∙ e)
 
 nothing_of : (a b c : Bool) → a || b || c ≡ false → (a ≡ false) × (b ≡ false) × (c ≡ false)
 nothing_of false false false e = (refl, refl, refl)

@@ -78,11 +78,11 @@ module _ (d : AdcTable) (fits : FitsAdc d) (f r : AdcBody → ℕ) (below : Rese
 
     -- the unit is free: its next group starts
     pub begin_sought : Agrees d (with_holds o p.acted (hold_in (windows.Begin u)) below) chip w s → some_hold (claims_on u) below ≡ false → round_at s u ≡ None → Decides (sought d (windows.Begin u) (choice (ranks_of d) xs))
-    begin_sought h unclaimed free = by (next_group d s u) refl
+    begin_sought h unclaimed free = begins_or_drops (next_group d s u) refl
       where
-        by : (q : Option ℕ) → next_group d s u ≡ q → Decides (sought d (windows.Begin u) (choice (ranks_of d) xs))
-        by None e = subst (λ x. Decides (sought d (windows.Begin u) x)) (sym (next_none ((h.settled on).units u few) e)) ((drop_starts d chip w s o p.acted u below h (λ i. absurd (let none : starts d s u ≡ None = ap (λ z. starts_by z (next_group d s u)) free ∙ e in cc)), may_end d u below o p missed has), ends)
-        by (Some g) e =
+        begins_or_drops : (q : Option ℕ) → next_group d s u ≡ q → Decides (sought d (windows.Begin u) (choice (ranks_of d) xs))
+        begins_or_drops None e = subst (λ x. Decides (sought d (windows.Begin u) x)) (sym (next_none ((h.settled on).units u few) e)) ((drop_starts d chip w s o p.acted u below h (λ i. absurd (let none : starts d s u ≡ None = ap (λ z. starts_by z (next_group d s u)) free ∙ e in cc)), may_end d u below o p missed has), ends)
+        begins_or_drops (Some g) e =
             let x = next_there ((h.settled on).units u few) g e in
             let waits = and_parts (is_on u (group_of d g)) (is_some (group_at s g).waiting) (next_is d s u g e).waits in
             let small : nat_lt g 16 ≡ true = (let lt = x.1 in grind (arith, nat_tests)) in
@@ -91,7 +91,7 @@ module _ (d : AdcTable) (fits : FitsAdc d) (f r : AdcBody → ℕ) (below : Rese
 
     -- the unit has a round: it yields to a group of higher priority
     pub suspend_sought : (g : ℕ) → Agrees d (with_holds o p.acted (hold_in (windows.Suspend u g)) below) chip w s → some_hold (claims_on u) below ≡ false → IsOutranked d s u g → Decides (sought d (windows.Suspend u g) (choice (ranks_of d) xs))
-    suspend_sought g h unclaimed round = by (next_group d s u) refl
+    suspend_sought g h unclaimed round = suspends_or_stays (next_group d s u) refl
       where
         -- no group that waits outranks it
         stays : is_outranked d s u g ≡ false → Decides (Goes (begins_next u))
@@ -100,9 +100,9 @@ module _ (d : AdcTable) (fits : FitsAdc d) (f r : AdcBody → ℕ) (below : Rese
             none_out : is_some (aborts d w s u) ≡ false
             none_out = ap (λ q. is_some (aborts_by d w s u q)) round.is ∙ (ap (λ q. is_some (cond (not (is_finished w (group_of d round.round.group) round.round) && q) (Some round.round) None)) (ap (λ n. is_outranked d s u n) round.group ∙ none) ∙ ap (λ q. is_some (cond q (Some round.round) None)) (and_false (not (is_finished w (group_of d round.round.group) round.round))))
 
-        by : (q : Option ℕ) → next_group d s u ≡ q → Decides (sought d (windows.Suspend u g) (choice (ranks_of d) xs))
-        by None e = subst (λ x. Decides (sought d (windows.Suspend u g) x)) (sym (next_none ((h.settled on).units u few) e)) (stays (any_off (λ j. waits_for d s u j && nat_lt (rank_of d g) (rank_of d j)) (λ j lt. ap (λ q. q && nat_lt (rank_of d g) (rank_of d j)) (none_is d s u j e))))
-        by (Some x) e =
+        suspends_or_stays : (q : Option ℕ) → next_group d s u ≡ q → Decides (sought d (windows.Suspend u g) (choice (ranks_of d) xs))
+        suspends_or_stays None e = subst (λ x. Decides (sought d (windows.Suspend u g) x)) (sym (next_none ((h.settled on).units u few) e)) (stays (any_off (λ j. waits_for d s u j && nat_lt (rank_of d g) (rank_of d j)) (λ j lt. ap (λ q. q && nat_lt (rank_of d g) (rank_of d j)) (none_is d s u j e))))
+        suspends_or_stays (Some x) e =
             let z = next_there ((h.settled on).units u few) x e in
             let small : nat_lt x 16 ≡ true = (let lt = z.1 in grind (arith, nat_tests)) in
             subst (λ n. Decides (sought d (windows.Suspend u g) n)) (sym z.0) (subst (λ q. Decides (Goes (if q && nat_lt (rank_of d g) (rank_of d x) then looking (windows.Suspend u g) else begins_next u))) (sym small) (ranked (nat_lt (rank_of d g) (rank_of d x)) refl))

@@ -28,10 +28,11 @@ no_group : {A : Type 0} (k : Option configured.Group) → is_some k ≡ true →
 no_group None there e = absurd (cc)
 no_group (Some k) there e = absurd (cc)
 
-pub chosen_sound : (k : Option configured.Group) (q : Bool) (x : GroupState) (b : ResultBuffer) → is_some k ≡ true → SoundGroup k q x → SoundGroup k q (record x { chosen = Some b })
-chosen_sound k q x b there h = record {
+-- a buffer, a notification and a request that waits are no matter of its status, of its trigger or of its rounds
+aside_sound : (k : Option configured.Group) (q : Bool) (x : GroupState) (b : Option ResultBuffer) (on : Bool) (r : Option Request) → is_some k ≡ true → (x.status ≢ Idle → is_some b ≡ true) → SoundGroup k q x → SoundGroup k q (record x { chosen = b; notification = on; waiting = r })
+aside_sound k q x b on r there chosen h = record {
   configured = λ e. no_group k there e;
-  chosen = λ e. refl;
+  chosen = chosen;
   turn = h.turn;
   trigger = h.trigger;
   input = h.input;
@@ -42,36 +43,15 @@ chosen_sound k q x b there h = record {
   lasts = h.lasts;
   whole = h.whole;
 }
+
+pub chosen_sound : (k : Option configured.Group) (q : Bool) (x : GroupState) (b : ResultBuffer) → is_some k ≡ true → SoundGroup k q x → SoundGroup k q (record x { chosen = Some b })
+chosen_sound k q x b there h = aside_sound k q x (Some b) x.notification x.waiting there (λ e. refl) h
 
 pub notified_sound : (k : Option configured.Group) (q : Bool) (x : GroupState) (on : Bool) → is_some k ≡ true → SoundGroup k q x → SoundGroup k q (record x { notification = on })
-notified_sound k q x on there h = record {
-  configured = λ e. no_group k there e;
-  chosen = h.chosen;
-  turn = h.turn;
-  trigger = h.trigger;
-  input = h.input;
-  going = h.going;
-  rounds = h.rounds;
-  stream = h.stream;
-  linear = h.linear;
-  lasts = h.lasts;
-  whole = h.whole;
-}
+notified_sound k q x on there h = aside_sound k q x x.chosen on x.waiting there h.chosen h
 
 pub waiting_sound : (k : Option configured.Group) (q : Bool) (x : GroupState) (r : Option Request) → is_some k ≡ true → SoundGroup k q x → SoundGroup k q (record x { waiting = r })
-waiting_sound k q x r there h = record {
-  configured = λ e. no_group k there e;
-  chosen = h.chosen;
-  turn = h.turn;
-  trigger = h.trigger;
-  input = h.input;
-  going = h.going;
-  rounds = h.rounds;
-  stream = h.stream;
-  linear = h.linear;
-  lasts = h.lasts;
-  whole = h.whole;
-}
+waiting_sound k q x r there h = aside_sound k q x x.chosen x.notification r there h.chosen h
 
 -- it is busy, or idle with nothing under way
 busy_sound : (k : Option configured.Group) (q : Bool) (x : GroupState) → is_some k ≡ true → x.status ≢ Idle → SoundGroup k q x → SoundGroup k q (record x { status = Busy })

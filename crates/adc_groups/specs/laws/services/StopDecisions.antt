@@ -44,7 +44,7 @@ module _ (d : AdcTable) (fits : FitsAdc d) (f r : AdcBody → ℕ) (below : Rese
 
     -- the group is idle
     idle : (group_at s g).status ≡ Idle → Decides (acts_and_ends no_answer (owed d (stop_service (is_some (trigger_input (group_of d g)))) errors.AdcIdle))
-    idle e = by call is_stop may
+    idle e = answers_idle call is_stop may
       where
         wired : (q : Option configured.Group) → is_triggered q ≡ is_some (trigger_input q)
         wired None = refl
@@ -55,20 +55,20 @@ module _ (d : AdcTable) (fits : FitsAdc d) (f r : AdcBody → ℕ) (below : Rese
         sees false true i = refl
         sees _ _ i = absurd (cc)
 
-        by : (c : GroupCall) → IsStop c → MayCall d s g c → DecidedRight d f r below chip w s (Called (calls.Group g c)) (Load k) true v y fresh_history m K (acts_and_ends no_answer (owed d (stop_service (is_some (trigger_input (group_of d g)))) errors.AdcIdle))
-        by StopGroupConversion i j =
+        answers_idle : (c : GroupCall) → IsStop c → MayCall d s g c → DecidedRight d f r below chip w s (Called (calls.Group g c)) (Load k) true v y fresh_history m K (acts_and_ends no_answer (owed d (stop_service (is_some (trigger_input (group_of d g)))) errors.AdcIdle))
+        answers_idle StopGroupConversion i j =
             subst (λ q. DecidedRight d f r below chip w s (Called (calls.Group g StopGroupConversion)) (Load k) true v y fresh_history m K (acts_and_ends no_answer (owed d (stop_service q) errors.AdcIdle))) (sym (sym (wired (group_of d g)) ∙ j.right))
             (refused_right d f r below chip w s h m y (calls.Group g StopGroupConversion) errors.AdcIdle K k v ends
             (group_errors d s g StopGroupConversion j
             ∙ (ap (λ z. first_error services.AdcStopGroupConversion (false ∷ false ∷ z ∷ is_idle (group_at s g).status ∷ false ∷ false ∷ [])) j.right
             ∙ ap (λ z. first_error services.AdcStopGroupConversion (false ∷ false ∷ false ∷ is_idle z ∷ false ∷ false ∷ [])) e)))
-        by DisableHardwareTrigger i j =
+        answers_idle DisableHardwareTrigger i j =
             subst (λ q. DecidedRight d f r below chip w s (Called (calls.Group g DisableHardwareTrigger)) (Load k) true v y fresh_history m K (acts_and_ends no_answer (owed d (stop_service q) errors.AdcIdle))) (sym (sym (wired (group_of d g)) ∙ sees (is_triggered (group_of d g)) false j.right))
             (refused_right d f r below chip w s h m y (calls.Group g DisableHardwareTrigger) errors.AdcIdle K k v ends
             (group_errors d s g DisableHardwareTrigger j
             ∙ (ap (λ z. first_error services.AdcDisableHardwareTrigger (false ∷ false ∷ z ∷ is_idle (group_at s g).status ∷ false ∷ false ∷ [])) j.right
             ∙ ap (λ z. first_error services.AdcDisableHardwareTrigger (false ∷ false ∷ false ∷ is_idle z ∷ false ∷ false ∷ [])) e)))
-        by _ i j = absurd i
+        answers_idle _ i j = absurd i
 
     -- it isn't
     awake : ((group_at s g).status ≡ Idle → ⊥) → Decides (makes (stopping d u g seen))
@@ -140,15 +140,15 @@ module _ (d : AdcTable) (fits : FitsAdc d) (f r : AdcBody → ℕ) (below : Rese
   read_errors x may is = group_errors d s g ReadGroup may ∙ ap (λ z. first_error services.AdcReadGroup (false ∷ false ∷ is_idle z ∷ false ∷ false ∷ false ∷ [])) is
 
   pub read_right : MayCall d s g ReadGroup → IsOnlyReader g below → DecidedRight d f r below chip w s (Called (calls.Group g ReadGroup)) (Load k) true v y fresh_history m K (read d g (word_of chip (word_number d (words.Phase g))))
-  read_right may alone = subst (λ p. DecidedRight d f r below chip w s (Called (calls.Group g ReadGroup)) (Load k) true v y fresh_history m K (read_by d g (phase_in p))) (sym ((h.settled may.on).groups g may.there).phase) (by (group_at s g).status refl (has_turn s g || (group_at s g).trigger) refl)
+  read_right may alone = subst (λ p. DecidedRight d f r below chip w s (Called (calls.Group g ReadGroup)) (Load k) true v y fresh_history m K (read_by d g (phase_in p))) (sym ((h.settled may.on).groups g may.there).phase) (read_by_status (group_at s g).status refl (has_turn s g || (group_at s g).trigger) refl)
     where
       pins : (x : Status) → (group_at s g).status ≡ x → (x ≡ Completed) ⊎ (x ≡ StreamCompleted) → (z : Phase) → phase_number z ≡ phase_of (status_read (ends_with_stream (group_of d g)) x) true
           → DecidedRight d f r below chip w s (Called (calls.Group g ReadGroup)) (Load k) true v y fresh_history m K (Goes (Pins g z))
       pins x is some z e = ((h, (refl, ((Is_this_frame, may), alone, record { status = x; is = is; some = some; phase = e }))), refl)
 
-      by : (x : Status) → (group_at s g).status ≡ x → (on : Bool) → has_turn s g || (group_at s g).trigger ≡ on → DecidedRight d f r below chip w s (Called (calls.Group g ReadGroup)) (Load k) true v y fresh_history m K (read_by d g (phase_in (phase_of x on)))
-      by Idle is on so = refused_right d f r below chip w s h m y (calls.Group g ReadGroup) errors.AdcIdle K k v ends (read_errors Idle may is)
-      by Busy is on so = answered_right d f r below chip w s h m y (calls.Group g ReadGroup) (named ENotOk) K k v ends (read_errors Busy may is) (ap (λ z. reads d s g z) is)
-      by Completed is on so = pins Completed is (inl refl) (phase_read (phase_in 2)) (sym (completed_phase d f r below chip w s h m y (ends_with_stream (group_of d g))))
-      by StreamCompleted is true so = pins StreamCompleted is (inr refl) (phase_read (phase_in 3)) (sym (streamed_phase d f r below chip w s h m y g true is so))
-      by StreamCompleted is false so = pins StreamCompleted is (inr refl) (phase_read (phase_in 4)) (sym (streamed_phase d f r below chip w s h m y g false is so))
+      read_by_status : (x : Status) → (group_at s g).status ≡ x → (on : Bool) → has_turn s g || (group_at s g).trigger ≡ on → DecidedRight d f r below chip w s (Called (calls.Group g ReadGroup)) (Load k) true v y fresh_history m K (read_by d g (phase_in (phase_of x on)))
+      read_by_status Idle is on so = refused_right d f r below chip w s h m y (calls.Group g ReadGroup) errors.AdcIdle K k v ends (read_errors Idle may is)
+      read_by_status Busy is on so = answered_right d f r below chip w s h m y (calls.Group g ReadGroup) (named ENotOk) K k v ends (read_errors Busy may is) (ap (λ z. reads d s g z) is)
+      read_by_status Completed is on so = pins Completed is (inl refl) (phase_read (phase_in 2)) (sym (completed_phase d f r below chip w s h m y (ends_with_stream (group_of d g))))
+      read_by_status StreamCompleted is true so = pins StreamCompleted is (inr refl) (phase_read (phase_in 3)) (sym (streamed_phase d f r below chip w s h m y g true is so))
+      read_by_status StreamCompleted is false so = pins StreamCompleted is (inr refl) (phase_read (phase_in 4)) (sym (streamed_phase d f r below chip w s h m y g false is so))

@@ -463,22 +463,22 @@ module _ (d : AdcTable) (fits : FitsAdc d) (f r : AdcBody → ℕ) (below : Rese
   -- ---- the step
 
   none_error : error_by d (calls.Group g call) (circumstances d s (calls.Group g call)) ≡ None
-  none_error = by call stop may
+  none_error = stops_without_error call stop may
     where
       awake : (x : Status) → (x ≡ Idle → ⊥) → is_idle x ≡ false
       awake Idle ne = absurd (ne refl)
       awake _ ne = refl
 
-      by : (c : GroupCall) → IsStop c → MayCall d s g c → error_by d (calls.Group g c) (circumstances d s (calls.Group g c)) ≡ None
-      by StopGroupConversion i k =
+      stops_without_error : (c : GroupCall) → IsStop c → MayCall d s g c → error_by d (calls.Group g c) (circumstances d s (calls.Group g c)) ≡ None
+      stops_without_error StopGroupConversion i k =
           group_errors d s g StopGroupConversion k
           ∙ (ap (λ z. first_error services.AdcStopGroupConversion (false ∷ false ∷ z ∷ is_idle (group_at s g).status ∷ false ∷ false ∷ [])) k.right
           ∙ ap (λ z. first_error services.AdcStopGroupConversion (false ∷ false ∷ false ∷ z ∷ false ∷ false ∷ [])) (awake (group_at s g).status busy))
-      by DisableHardwareTrigger i k =
+      stops_without_error DisableHardwareTrigger i k =
           group_errors d s g DisableHardwareTrigger k
           ∙ (ap (λ z. first_error services.AdcDisableHardwareTrigger (false ∷ false ∷ z ∷ is_idle (group_at s g).status ∷ false ∷ false ∷ [])) k.right
           ∙ ap (λ z. first_error services.AdcDisableHardwareTrigger (false ∷ false ∷ false ∷ z ∷ false ∷ false ∷ [])) (awake (group_at s g).status busy))
-      by _ i k = absurd i
+      stops_without_error _ i k = absurd i
 
   does : Some (acts_by d s (calls.Group g call) (error_by d (calls.Group g call) (circumstances d s (calls.Group g call)))) ≡ Some (outcome t tells_nothing)
   does = ap (λ x. Some (acts_by d s (calls.Group g call) x)) none_error ∙ by call stop

@@ -113,22 +113,22 @@ ends_unit d u g true false false false still j x = refl
 ends_unit d u g _ _ _ lost still j x = absurd (let e = (still refl).0 in cc)
 
 pub ends_claim : (d : AdcTable) (u g : ℕ) (q wired run lost : Bool) → (q ≡ false → (run ≡ false) × (lost ≡ false)) → (x : ℕ) → units_set (ends_of d u g q wired run lost) 1 x ≡ (if lost then 1 else x)
-ends_claim d u g q wired run lost still x = ends_unit d u g q wired run lost still 1 x ∙ by run lost
+ends_claim d u g q wired run lost still x = ends_unit d u g q wired run lost still 1 x ∙ claim_set run lost
   where
-    by : (run lost : Bool) → where_set lost 1 1 1 (where_set run 0 0 1 x) ≡ (if lost then 1 else x)
-    by true true = refl
-    by true false = refl
-    by false true = refl
-    by false false = refl
+    claim_set : (run lost : Bool) → where_set lost 1 1 1 (where_set run 0 0 1 x) ≡ (if lost then 1 else x)
+    claim_set true true = refl
+    claim_set true false = refl
+    claim_set false true = refl
+    claim_set false false = refl
 
 pub ends_running : (d : AdcTable) (u g : ℕ) (q wired run lost : Bool) → (q ≡ false → (run ≡ false) × (lost ≡ false)) → (x : ℕ) → units_set (ends_of d u g q wired run lost) 0 x ≡ (if run then 0 else x)
-ends_running d u g q wired run lost still x = ends_unit d u g q wired run lost still 0 x ∙ by run lost
+ends_running d u g q wired run lost still x = ends_unit d u g q wired run lost still 0 x ∙ running_set run lost
   where
-    by : (run lost : Bool) → where_set lost 1 1 0 (where_set run 0 0 0 x) ≡ (if run then 0 else x)
-    by true true = refl
-    by true false = refl
-    by false true = refl
-    by false false = refl
+    running_set : (run lost : Bool) → where_set lost 1 1 0 (where_set run 0 0 0 x) ≡ (if run then 0 else x)
+    running_set true true = refl
+    running_set true false = refl
+    running_set false true = refl
+    running_set false false = refl
 
 pub turn_kept : (q : Bool) (j x : ℕ) → (3 == j) ≡ false → turn_set q j x ≡ x
 turn_kept true j x e = ap (λ b. if b then 0 else x) e

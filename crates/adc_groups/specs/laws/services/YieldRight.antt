@@ -4,16 +4,16 @@
 use Rattle.std.proofs.Common.{◌≡◌, ◌≢◌, ◌+◌, ◌-◌, ◌<◌, ◌≤◌, ◌&&◌, ◌||◌, ◌==◌, [], ◌∷◌, ◌∙◌, ◌⊎◌, if◌then◌else◌}
 use Rattle.adc_groups.specs.Terms
 use Terms.{aborts, aborts_by, AdcBody, AdcGround, AdcState, AdcTable, Agrees, AllRight, and_first, Answer, ap, arith}
-use Terms.{Backed, begins, begins_next, Bool, Call, Chip, claim_fits, claim_right, Claims, claims_on, cond}
-use Terms.{Decided, done, eq_is, eq_other, false, Fills, FitsAdc, FrameHistory, front-ends, front_start, Full}
-use Terms.{Goes, group_in, group_of, Has_acted, Has_served, HasDone, HeldRight, hold_in, inl, inr, is_finished}
-use Terms.{is_handler, is_outranked, is_some, Is_this_frame, Keeps, length, Load, MayStop, nat_le, nat_lt, nat_tests}
-use Terms.{next_group, no_answer, None, not, Option, or_right, order_of, Origin, over, Place, place_ends, Promised}
-use Terms.{ranks_of, refl, Reservation, Reservations, Round, round_at, running_of, same_line, same_or_other}
-use Terms.{Seeks, Some, some_hold, Starts, starts, starts_by, starts_on, subst, sym, true, Whole, will_yield}
-use Terms.{with_holds, word_number, word_of, World, Yields, yields, yields_by, ℕ}
+use Terms.{Backed, begins, begins_next, Bool, Call, Chip, claim_fits, claim_right, Claims, claims_on, cond, Decided}
+use Terms.{done, eq_is, eq_other, false, Fills, FitsAdc, FrameHistory, front-ends, front_start, Full, Goes, group_in}
+use Terms.{group_of, Has_acted, Has_served, HasDone, HeldRight, hold_in, inl, inr, is_finished, is_handler}
+use Terms.{is_outranked, is_some, Is_this_frame, Keeps, length, Load, MayStop, nat_le, nat_lt, nat_tests, next_group}
+use Terms.{no_answer, None, not, Option, or_right, order_of, Origin, over, Place, place_ends, Promised, ranks_of}
+use Terms.{refl, Reservation, Reservations, Round, round_at, running_of, same_line, same_or_other, Seeks, Some}
+use Terms.{some_hold, Starts, starts, starts_by, starts_on, subst, sym, true, Whole, will_yield, with_holds}
+use Terms.{word_number, word_of, World, Yields, yields, yields_by, ℕ}
 use Rattle.adc_groups.specs.laws.{services.LookRight.{DecidedRight}, words.WordsOfModule.{within, on_there}}
-use Rattle.adc_groups.specs.laws.{bookkeeping.PromisesKept.{yields_below}}
+use Rattle.adc_groups.specs.laws.{bookkeeping.HeldAnew.{holds_anew}, bookkeeping.PromisesKept.{yields_below}}
 use Rattle.adc_groups.specs.declared.window.Window.TheVariants as windows
 use Rattle.adc_groups.specs.declared.words.Word.TheVariants as words
 
@@ -24,40 +24,14 @@ module _ (d : AdcTable) (chip : Chip) (w : World) (s : AdcState) (o : Origin Cal
   skip v q ne e = sym (ap (λ z. z || q) (eq_other v u ne)) ∙ e
 
   pub drop_starts : Agrees d (record { by = o; what = Starts u; acted = a } ∷ hs) chip w s → (is_some (starts d s u) ≡ true → some_hold (starts_on u) hs ≡ true) → Agrees d hs chip w s
-  drop_starts h more = record {
-    sound = h.sound;
-    outside = h.outside;
-    state = h.state;
-    right = h.right.1;
-    banks = λ g there. (let q = h.banks g there in record { banks = q.banks; stands = q.stands; newest = q.newest; put = q.put; take = q.take });
-    block = h.block;
-    rounds = h.rounds;
-    triggers = h.triggers;
-    places = λ g n p lt free. h.places g n p lt free;
-    backed = h.backed.1;
-    settled = λ e. (let q = h.settled e in record { groups = q.groups; units = q.units; claims = λ v lt. q.claims v lt; lines = q.lines; promised = λ v. promised v (q.promised v) (same_or_other v u) });
-    left = λ off free g there. h.left off free g there;
-  }
+  drop_starts h more = holds_anew h (record { puts = λ k. refl; takes = λ k. refl; owed = λ k n p lt free. free; claims = λ n v e. e; clears = λ e. e }) h.right.1 h.backed.1 (λ v q. promised v q (same_or_other v u))
     where
       promised : (v : ℕ) → Promised d (record { by = o; what = Starts u; acted = a } ∷ hs) w s v → (v ≡ u) ⊎ (v ≢ u) → Promised d hs w s v
       promised v q (inl e) = subst (λ n. Promised d hs w s n) (sym e) (record { starts = more; yields = subst (λ n. is_some (aborts d w s n) ≡ true → will_yield n hs ≡ true) e (λ f. yields_below ((v == u) && is_handler v o) (will_yield v hs) (q.yields f)) })
       promised v q (inr ne) = record { starts = λ e. skip v (some_hold (starts_on v) hs) ne (q.starts e); yields = λ e. yields_below ((v == u) && is_handler v o) (will_yield v hs) (q.yields e) }
 
   pub drop_yields : Agrees d (record { by = o; what = Yields u; acted = a } ∷ hs) chip w s → (is_some (aborts d w s u) ≡ true → will_yield u hs ≡ true) → Agrees d hs chip w s
-  drop_yields h more = record {
-    sound = h.sound;
-    outside = h.outside;
-    state = h.state;
-    right = h.right.1;
-    banks = λ g there. (let q = h.banks g there in record { banks = q.banks; stands = q.stands; newest = q.newest; put = q.put; take = q.take });
-    block = h.block;
-    rounds = h.rounds;
-    triggers = h.triggers;
-    places = λ g n p lt free. h.places g n p lt free;
-    backed = h.backed.1;
-    settled = λ e. (let q = h.settled e in record { groups = q.groups; units = q.units; claims = λ v lt. q.claims v lt; lines = q.lines; promised = λ v. promised v (q.promised v) (same_or_other v u) });
-    left = λ off free g there. h.left off free g there;
-  }
+  drop_yields h more = holds_anew h (record { puts = λ k. refl; takes = λ k. refl; owed = λ k n p lt free. free; claims = λ n v e. e; clears = λ e. e }) h.right.1 h.backed.1 (λ v q. promised v q (same_or_other v u))
     where
       promised : (v : ℕ) → Promised d (record { by = o; what = Yields u; acted = a } ∷ hs) w s v → (v ≡ u) ⊎ (v ≢ u) → Promised d hs w s v
       promised v q (inl e) = subst (λ n. Promised d hs w s n) (sym e) (record { starts = subst (λ n. is_some (starts d s n) ≡ true → some_hold (starts_on n) hs ≡ true) e q.starts; yields = more })
@@ -153,12 +127,12 @@ module _ (d : AdcTable) (fits : FitsAdc d) (f r : AdcBody → ℕ) (below : Rese
     ends_here more = ((drop_starts d chip w s o p.acted u below h more, may_end d u below o p m has), ends)
 
     pub begins_right : Decides (begins d u (word_of chip (word_number d (words.Running u))) (word_of chip (word_number d (words.Claim u))))
-    begins_right = subst (λ n. Decides (begins d u n (word_of chip (word_number d (words.Claim u))))) (sym ((h.settled on).units u few).running) (by (round_at s u) refl (word_of chip (word_number d (words.Claim u)) == 0) refl)
+    begins_right = subst (λ n. Decides (begins d u n (word_of chip (word_number d (words.Claim u))))) (sym ((h.settled on).units u few).running) (begins_by_round (round_at s u) refl (word_of chip (word_number d (words.Claim u)) == 0) refl)
       where
-        by : (q : Option Round) → round_at s u ≡ q → (z : Bool) → (word_of chip (word_number d (words.Claim u)) == 0) ≡ z → Decides (begins d u (running_of q) (word_of chip (word_number d (words.Claim u))))
-        by (Some x) e z i = subst (λ b. Decides (if b && (word_of chip (word_number d (words.Claim u)) == 0) then Goes (Seeks (windows.Begin u) (front_start (order_of u) (ranks_of d))) else over)) (sym (none_runs (Some x))) (ends_here (λ j. absurd (let none : starts d s u ≡ None = ap (λ b. starts_by b (next_group d s u)) e in cc)))
-        by None e false i = subst (λ b. Decides (if b then Goes (Seeks (windows.Begin u) (front_start (order_of u) (ranks_of d))) else over)) (sym i) (ends_here (λ j. backed_starts u below h.backed.1 (claimed ∙ ap (λ b. not b) i)))
-        by None e true i =
+        begins_by_round : (q : Option Round) → round_at s u ≡ q → (z : Bool) → (word_of chip (word_number d (words.Claim u)) == 0) ≡ z → Decides (begins d u (running_of q) (word_of chip (word_number d (words.Claim u))))
+        begins_by_round (Some x) e z i = subst (λ b. Decides (if b && (word_of chip (word_number d (words.Claim u)) == 0) then Goes (Seeks (windows.Begin u) (front_start (order_of u) (ranks_of d))) else over)) (sym (none_runs (Some x))) (ends_here (λ j. absurd (let none : starts d s u ≡ None = ap (λ b. starts_by b (next_group d s u)) e in cc)))
+        begins_by_round None e false i = subst (λ b. Decides (if b then Goes (Seeks (windows.Begin u) (front_start (order_of u) (ranks_of d))) else over)) (sym i) (ends_here (λ j. backed_starts u below h.backed.1 (claimed ∙ ap (λ b. not b) i)))
+        begins_by_round None e true i =
             let xs = ((h.settled on).units u few).order in
             subst (λ b. Decides (if b then Goes (Seeks (windows.Begin u) (front_start (order_of u) (ranks_of d))) else over)) (sym i)
             ((h, (refl, ((has, few, on, claimed ∙ ap (λ b. not b) i, e), ((if nat_lt 8 (length xs.0) then 3 else 2), xs.0, few_moves (length xs.0), xs.1, front-ends (order_of u) (ranks_of d) (word_of chip) xs.0 xs.1)))), refl)
@@ -172,7 +146,7 @@ module _ (d : AdcTable) (fits : FitsAdc d) (f r : AdcBody → ℕ) (below : Rese
     goes_next none = ((drop_yields d chip w s o p.acted u (with_holds o p.acted (hold_in (windows.Begin u)) below) h (λ e. absurd (cc)), (refl, (has, few))), refl)
 
     pub yields_right : Decides (yields d u (word_of chip (word_number d (words.Running u))) (word_of chip (word_number d (words.Claim u))))
-    yields_right = subst (λ n. Decides (yields d u n (word_of chip (word_number d (words.Claim u))))) (sym ((h.settled on).units u few).running) (by (round_at s u) refl (word_of chip (word_number d (words.Claim u)) == 0) refl)
+    yields_right = subst (λ n. Decides (yields d u n (word_of chip (word_number d (words.Claim u))))) (sym ((h.settled on).units u few).running) (yields_by_round (round_at s u) refl (word_of chip (word_number d (words.Claim u)) == 0) refl)
       where
         group_back : (g : ℕ) → g < 16 → group_in (1 + g) ≡ Some g
         group_back g lt =
@@ -181,13 +155,13 @@ module _ (d : AdcTable) (fits : FitsAdc d) (f r : AdcBody → ℕ) (below : Rese
             let c : 1 + g - 1 ≡ g = omega arith in
             ap (λ q. if q && nat_le (1 + g) 16 then Some (1 + g - 1) else None) a ∙ (ap (λ q. if q then Some (1 + g - 1) else None) b ∙ ap (λ n. Some n) c)
 
-        by : (q : Option Round) → round_at s u ≡ q → (z : Bool) → (word_of chip (word_number d (words.Claim u)) == 0) ≡ z → Decides (yields d u (running_of q) (word_of chip (word_number d (words.Claim u))))
-        by None e z i = goes_next (ap (λ b. is_some (aborts_by d w s u b)) e)
-        by (Some x) e false i =
+        yields_by_round : (q : Option Round) → round_at s u ≡ q → (z : Bool) → (word_of chip (word_number d (words.Claim u)) == 0) ≡ z → Decides (yields d u (running_of q) (word_of chip (word_number d (words.Claim u))))
+        yields_by_round None e z i = goes_next (ap (λ b. is_some (aborts_by d w s u b)) e)
+        yields_by_round (Some x) e false i =
             let lt = within d x.group (on_there u (group_of d x.group) (h.sound.runs u x e).1) in
             subst (λ b. Decides (Goes (yields_by d u (word_of chip (word_number d (words.Claim u))) b))) (sym (group_back x.group lt))
             (subst (λ b. Decides (Goes (if b then Seeks (windows.Suspend u x.group) (front_start (order_of u) (ranks_of d)) else begins_next u))) (sym i) (goes_next (claimed_calm d chip w s u below h.right.1.1 (claimed_below ∙ ap (λ b. not b) i))))
-        by (Some x) e true i =
+        yields_by_round (Some x) e true i =
             let lt = within d x.group (on_there u (group_of d x.group) (h.sound.runs u x e).1) in
             let xs = ((h.settled on).units u few).order in
             subst (λ b. Decides (Goes (yields_by d u (word_of chip (word_number d (words.Claim u))) b))) (sym (group_back x.group lt))

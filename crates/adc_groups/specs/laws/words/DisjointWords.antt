@@ -45,7 +45,7 @@ module _ (d : AdcTable) (fits : FitsAdc d) where
 
   -- the banks' words, with their control word, of any group
   pub trio_apart : (g h i k : ℕ) → is_some (group_of d g) ≡ true → is_some (group_of d h) ≡ true → i < 7 → own_of (trio_of (rounds_of d h)) k ≡ true → k ≢ group_word d g i
-  trio_apart g h i k there here lt own same = by (same_or_other g h)
+  trio_apart g h i k there here lt own same = no_overlap (same_or_other g h)
     where
       start : ℕ
       start = start_of (group_of d h)
@@ -60,13 +60,13 @@ module _ (d : AdcTable) (fits : FitsAdc d) where
           let high : k < STATE + start_of (group_of d h) + 32 + 3 * length (inputs_of (group_of d h)) = grind (arith, nat_tests) in
           (k - (STATE + start_of (group_of d h)), omega (arith, low), omega (arith, low), omega (arith, low, high))
 
-      by : (g ≡ h) ⊎ (g ≢ h) → ⊥
-      by (inl e) =
+      no_overlap : (g ≡ h) ⊎ (g ≢ h) → ⊥
+      no_overlap (inl e) =
           let o = offset (k == STATE + start_of (group_of d h) + 7) refl in
           let at = o.1 in
           let le = o.2 in
           let here : k ≡ group_word d h i = same ∙ ap (λ n. group_word d n i) e in
           omega (arith, at, le, here, lt)
-      by (inr ne) =
+      no_overlap (inr ne) =
           let o = offset (k == STATE + start_of (group_of d h) + 7) refl in
           groups_apart g h i o.0 there here ne (omega (arith, lt)) o.3 (sym o.1 ∙ same)

@@ -63,10 +63,10 @@ module _ (d : AdcTable) (s : AdcState) (u g : ℕ) (next : IsNext d s u g) (smal
 
   found : (ys : List Entry) → Waits ys → Sorted ys → ((i : ℕ) (x : Entry) → slice_get ys i ≡ Some x → x.number ≡ g → x.waits ≡ true) → is_there g ys ≡ true → IsChoice (ranks_of d) ys g
   found [] h sorted own e = absurd (cc)
-  found (y ∷ ys) h sorted own e = by (found ys (λ i x f k. h (suc i) x f k) (λ i j x z lt f k. sorted (suc i) (suc j) x z (omega (arith, lt)) f k) (λ i x f k. own (suc i) x f k)) (y.number == g) refl e
+  found (y ∷ ys) h sorted own e = first_or_later (found ys (λ i x f k. h (suc i) x f k) (λ i j x z lt f k. sorted (suc i) (suc j) x z (omega (arith, lt)) f k) (λ i x f k. own (suc i) x f k)) (y.number == g) refl e
     where
-      by : (is_there g ys ≡ true → IsChoice (ranks_of d) ys g) → (q : Bool) → (y.number == g) ≡ q → q || is_there g ys ≡ true → IsChoice (ranks_of d) (y ∷ ys) g
-      by rest true i f = record {
+      first_or_later : (is_there g ys ≡ true → IsChoice (ranks_of d) ys g) → (q : Bool) → (y.number == g) ≡ q → q || is_there g ys ≡ true → IsChoice (ranks_of d) (y ∷ ys) g
+      first_or_later rest true i f = record {
         before = [];
         after = ys;
         is = ap (λ (z : Entry). z ∷ ys) (entry (eq_is y.number g i) (own 0 y refl (eq_is y.number g i)));
@@ -76,7 +76,7 @@ module _ (d : AdcTable) (s : AdcState) (u g : ℕ) (next : IsNext d s u g) (smal
         where
           entry : y.number ≡ g → y.waits ≡ true → ◌≡◌ {A = Entry} y (record { number = g; waits = true })
           entry p q = ap (λ n. let z : Entry = record { number = n; waits = y.waits } in z) p ∙ ap (λ b. let z : Entry = record { number = g; waits = b } in z) q
-      by rest false i f =
+      first_or_later rest false i f =
           let k = rest f in
           let j = there_at g ys f in
           record { before = y ∷ k.before; after = k.after; is = ap (λ zs. y ∷ zs) k.is; below = (λ e. let o = h 0 y refl e in lower y j.1 o.0 o.1 j.3 (sorted 0 (suc j.0) y j.1 (omega arith) refl j.2), k.below); within = k.within }

@@ -31,8 +31,9 @@ off_above k at lt = grind (arith, nat_tests)
 off_below : (k at : ℕ) → k < at → k == at || (k == at + 1 || k == at + 2) ≡ false
 off_below k at lt = grind (arith, nat_tests)
 
-on_within : (k at : ℕ) → k == at || (k == at + 1 || k == at + 2) ≡ true → (at ≤ k) × (k ≤ at + 2)
-on_within k at e = (grind (arith, nat_tests), grind (arith, nat_tests))
+-- a word of an order is one of three
+pub order_within : (k at : ℕ) → k == at || (k == at + 1 || k == at + 2) ≡ true → (at ≤ k) × (k ≤ at + 2)
+order_within k at e = (grind (arith, nat_tests), grind (arith, nat_tests))
 
 module _ (d : AdcTable) (fits : FitsAdc d) (g u : ℕ) (here : is_some (group_of d g) ≡ true) (few : u < 2) (chip : Chip) (whole : HasWords chip) (y : WindowWrite) (of : SetsOf g u y) (c : Chip) (differs : DiffersIn (own_of (order_of u)) (chip_after chip (deed_move d y) 0) c) (ys : List WindowWrite) (ofs : AllOf g u ys) where
   abbrev first : Chip
@@ -42,15 +43,15 @@ module _ (d : AdcTable) (fits : FitsAdc d) (g u : ℕ) (here : is_some (group_of
   last = after_list (deed_move d) c ys
 
   order_off : (k : ℕ) → ((i : ℕ) → i < 5 → k ≢ STATE + 8 + 8 * u + i) → own_of (order_of u) k ≡ false
-  order_off k h = by (own_of (order_of u) k) refl
+  order_off k h = not_own (own_of (order_of u) k) refl
     where
-      by : (q : Bool) → own_of (order_of u) k ≡ q → q ≡ false
-      by true e =
-          let both = on_within k (STATE + 10 + 8 * u) e in
+      not_own : (q : Bool) → own_of (order_of u) k ≡ q → q ≡ false
+      not_own true e =
+          let both = order_within k (STATE + 10 + 8 * u) e in
           let low = both.0 in
           let high = both.1 in
           absurd (h (k - (STATE + 8 + 8 * u)) (omega (arith, low, high)) (omega (arith, low)))
-      by false e = refl
+      not_own false e = refl
 
   group_off : (j : ℕ) → own_of (order_of u) (group_word d g j) ≡ false
   group_off j = let low = (start_from d fits g here).0 in off_above (group_word d g j) (STATE + 10 + 8 * u) (omega (arith, low, few))
@@ -69,7 +70,7 @@ module _ (d : AdcTable) (fits : FitsAdc d) (g u : ℕ) (here : is_some (group_of
   -- the order's words are left alone by deeds
   order_same : (zs : List WindowWrite) → AllOf g u zs → (b : Chip) → HasWords b → (k : ℕ) → own_of (order_of u) k ≡ true → word_of b k ≡ word_of (after_list (deed_move d) b zs) k
   order_same zs at b full k own =
-      let both = on_within k (STATE + 10 + 8 * u) own in
+      let both = order_within k (STATE + 10 + 8 * u) own in
       let low = both.0 in
       let high = both.1 in
       let is : STATE + 8 + 8 * u + (k - (STATE + 8 + 8 * u)) ≡ k = omega (arith, low) in

@@ -54,13 +54,13 @@ Ordered P xs = (i j : ℕ) (x y : Entry) → i < j → slice_get xs i ≡ Some x
 
 ordered_left : (P : Entry → Entry → Type 0) (n : ℕ) (xs : List Entry) → Ordered P xs → Ordered P (without n xs)
 ordered_left P n [] h = h
-ordered_left P n (z ∷ zs) h = by (z.number == n) (ordered_left P n zs (λ i j x y lt e f. h (suc i) (suc j) x y (omega (arith, lt)) e f))
+ordered_left P n (z ∷ zs) h = ordered_without (z.number == n) (ordered_left P n zs (λ i j x y lt e f. h (suc i) (suc j) x y (omega (arith, lt)) e f))
   where
-    by : (q : Bool) → Ordered P (without n zs) → Ordered P (if q then zs else z ∷ without n zs)
-    by true rest i j x y lt e f = h (suc i) (suc j) x y (omega (arith, lt)) e f
-    by false rest zero (suc j) x y lt e f = let k = left_from n zs j y f in h zero (suc k.0) x y (omega arith) e k.1
-    by false rest (suc i) (suc j) x y lt e f = rest i j x y (omega (arith, lt)) e f
-    by _ rest _ _ x y lt e f = absurd (omega (arith, lt))
+    ordered_without : (q : Bool) → Ordered P (without n zs) → Ordered P (if q then zs else z ∷ without n zs)
+    ordered_without true rest i j x y lt e f = h (suc i) (suc j) x y (omega (arith, lt)) e f
+    ordered_without false rest zero (suc j) x y lt e f = let k = left_from n zs j y f in h zero (suc k.0) x y (omega arith) e k.1
+    ordered_without false rest (suc i) (suc j) x y lt e f = rest i j x y (omega (arith, lt)) e f
+    ordered_without _ rest _ _ x y lt e f = absurd (omega (arith, lt))
 
 -- which entries are left
 there_left : (k n : ℕ) (xs : List Entry) → k ≢ n → is_there k (without n xs) ≡ is_there k xs

@@ -31,13 +31,13 @@ look_same e f g k None (Some y) ne h = whether_as (y.group == k) (λ b. e ≡ (i
 look_same e f g k (Some x) None ne h = whether_as (x.group == k) (λ b. (if b then f x else e) ≡ e)
     (λ i. let at : x.group ≡ k = grind (arith, nat_tests) in none_some (h.from x refl (λ z. ne (sym at ∙ z))))
     (λ i. refl)
-look_same e f g k (Some x) (Some y) ne h = by (x.group == k) refl (y.group == k) refl
+look_same e f g k (Some x) (Some y) ne h = found_same (x.group == k) refl (y.group == k) refl
   where
-    by : (b : Bool) → (x.group == k) ≡ b → (c : Bool) → (y.group == k) ≡ c → (if b then f x else e) ≡ (if c then f y else e)
-    by true i true j = let at : x.group ≡ k = grind (arith, nat_tests) in let same : y ≡ x = (let z = h.from x refl (λ z. ne (sym at ∙ z)) in cc) in ap f (sym same)
-    by true i false j = let at : x.group ≡ k = grind (arith, nat_tests) in let same : y ≡ x = (let z = h.from x refl (λ z. ne (sym at ∙ z)) in cc) in absurd (let c : (x.group == k) ≡ false = ap (λ (r : Round). r.group == k) (sym same) ∙ j in cc)
-    by false i true j = let at : y.group ≡ k = grind (arith, nat_tests) in let same : x ≡ y = (let z = h.to y refl (λ z. ne (sym at ∙ z)) in cc) in absurd (let c : (y.group == k) ≡ false = ap (λ (r : Round). r.group == k) (sym same) ∙ i in cc)
-    by false i false j = refl
+    found_same : (b : Bool) → (x.group == k) ≡ b → (c : Bool) → (y.group == k) ≡ c → (if b then f x else e) ≡ (if c then f y else e)
+    found_same true i true j = let at : x.group ≡ k = grind (arith, nat_tests) in let same : y ≡ x = (let z = h.from x refl (λ z. ne (sym at ∙ z)) in cc) in ap f (sym same)
+    found_same true i false j = let at : x.group ≡ k = grind (arith, nat_tests) in let same : y ≡ x = (let z = h.from x refl (λ z. ne (sym at ∙ z)) in cc) in absurd (let c : (x.group == k) ≡ false = ap (λ (r : Round). r.group == k) (sym same) ∙ j in cc)
+    found_same false i true j = let at : y.group ≡ k = grind (arith, nat_tests) in let same : x ≡ y = (let z = h.to y refl (λ z. ne (sym at ∙ z)) in cc) in absurd (let c : (y.group == k) ≡ false = ap (λ (r : Round). r.group == k) (sym same) ∙ i in cc)
+    found_same false i false j = refl
 
 pub turn_look : (k : ℕ) (q : Option Round) → is_round_of k q ≡ look false (λ x. true) k q
 turn_look k None = refl

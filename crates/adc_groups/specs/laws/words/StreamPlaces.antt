@@ -19,18 +19,18 @@ last_row (suc q) k n e some pos =
     ap (λ x. x * k + (k - 1)) back ∙ one_row (q * k) (suc q * k) k n e (ap (λ x. x * k) same ∙ add-mul q 1 k) pos
 
 pub preceding_place : (n k : ℕ) → 0 < n → 0 < k → preceding (n % k) k ≡ (n - 1) % k
-preceding_place n k some pos = by (nat_lt 0 (n % k)) refl
+preceding_place n k some pos = back_or_wraps (nat_lt 0 (n % k)) refl
   where
     whole : n / k * k + n % k ≡ n
     whole = div-add-mod' n k
 
-    by : (b : Bool) → nat_lt 0 (n % k) ≡ b → (if b then n % k - 1 else k - 1) ≡ (n - 1) % k
-    by true e =
+    back_or_wraps : (b : Bool) → nat_lt 0 (n % k) ≡ b → (if b then n % k - 1 else k - 1) ≡ (n - 1) % k
+    back_or_wraps true e =
         let more : 0 < n % k = grind (arith, nat_tests) in
         let below = mod_below n k pos in
         let lt : n % k - 1 < k = omega (arith, below) in
         sym (mod-mul-add (n / k) k (n % k - 1) lt) ∙ ap (λ x. x % k) (one_less (n / k * k) (n % k) n whole more)
-    by false e =
+    back_or_wraps false e =
         let none : n % k ≡ 0 = grind (arith, nat_tests) in
         let lt : k - 1 < k = omega (arith, pos) in
         let rows : n / k * k ≡ n = omega (arith, whole, none) in

@@ -3,13 +3,13 @@
 -- Used by hardware.StableUnderHardware, adc_driver: bookkeeping.MayMove, services.RequestRight and 51 more.
 use Rattle.std.proofs.Common.{◌≡◌, ◌+◌, ◌-◌, ◌*◌, ◌/◌, ◌%◌, ◌<◌, ◌≤◌, ◌&&◌, ◌||◌, ◌==◌, [], ◌∷◌, ◌∙◌, if◌then◌else◌}
 use Rattle.adc_groups.specs.Terms
-use Terms.{AdcTable, all_groups, ap, arith, Bank, bank_number, bank_word, Bool, buffer_number, clear_at, cleared_word}
-use Terms.{drop, false, FitsAdc, Group, group_clear, group_of, group_start, group_word, input_count, inputs_of}
-use Terms.{is_full, is_in_buffer, is_linear_stream, is_on, is_own_word, is_result_word, is_some, is_word, kept_word}
-use Terms.{length, List, list_any, listed, Load, Move, mul-le-mul_right, nat_le, nat_lt, nat_tests, None, not}
-use Terms.{object_count, One, Option, or_left, or_right, order_of, own_of, place_count, refl, result_word}
-use Terms.{ResultBuffer, rounds_of, samples_of, slice_get, slice_index_or, Some, SOURCES, STATE, Store, subst, suc}
-use Terms.{trio_of, true, unit_level, unit_of, unit_word, whether_as, word_number, Zero, zero, ℕ}
+use Terms.{AdcTable, all_groups, ap, arith, Bank, bank_number, bank_word, Bool, buffer_number, clear_at}
+use Terms.{cleared_group, cleared_word, drop, false, FitsAdc, Group, group_clear, group_of, group_start, group_word}
+use Terms.{input_count, inputs_of, is_full, is_in_buffer, is_linear_stream, is_on, is_own_word, is_result_word}
+use Terms.{is_some, is_word, kept_word, length, List, list_any, listed, Load, Move, mul-le-mul_right, nat_le, nat_lt}
+use Terms.{nat_tests, None, not, object_count, One, Option, or_left, or_right, order_of, own_of, place_count, refl}
+use Terms.{result_word, ResultBuffer, rounds_of, samples_of, slice_get, slice_index_or, Some, SOURCES, STATE, Store}
+use Terms.{subst, suc, trio_of, true, unit_level, unit_of, unit_word, whether_as, word_number, Zero, zero, ℕ}
 use Rattle.mcal_base.specs.{Layout.{start_of}, declared.layout.Array.TheVariants.{Round}}
 use Rattle.word_shapes.specs.PriorityQueue as ranked
 use Rattle.adc_machine.specs.declared.call.ResultBuffer.TheVariants as buffers
@@ -109,11 +109,11 @@ place_words d g b p lt = or_right (is_own_word d (result_word g b p)) (is_result
 module _ (d : AdcTable) (fits : FitsAdc d) where
   -- a word of a group
   pub group_words : (g i : ℕ) → is_some (group_of d g) ≡ true → i < 32 + 6 * length (inputs_of (group_of d g)) → is_word d (group_word d g i) ≡ true
-  group_words g i there lt = by (group_of d g) refl there lt
+  group_words g i there lt = words_of_group (group_of d g) refl there lt
     where
-      by : (k : Option Group) → group_of d g ≡ k → is_some k ≡ true → i < 32 + 6 * length (inputs_of k) → is_word d (STATE + group_start k + i) ≡ true
-      by None e h few = absurd (cc)
-      by (Some k) e h few =
+      words_of_group : (k : Option Group) → group_of d g ≡ k → is_some k ≡ true → i < 32 + 6 * length (inputs_of k) → is_word d (STATE + group_start k + i) ≡ true
+      words_of_group None e h few = absurd (cc)
+      words_of_group (Some k) e h few =
           let last = (fits.groups g k e).words in
           own_word d (STATE + k.start + i) (omega arith) (omega (arith, few, last))
 
@@ -147,14 +147,14 @@ module _ (d : AdcTable) (fits : FitsAdc d) where
       let len = length (inputs_of (group_of d g)) in
       let start = group_start (group_of d g) in
       let t = trio_of (rounds_of d g) in
-      by (k == t.control) refl own
+      trio_word (k == t.control) refl own
     where
-      by : (q : Bool) → (k == (trio_of (rounds_of d g)).control) ≡ q → own_of (trio_of (rounds_of d g)) k ≡ true → is_word d k ≡ true
-      by true e own =
+      trio_word : (q : Bool) → (k == (trio_of (rounds_of d g)).control) ≡ q → own_of (trio_of (rounds_of d g)) k ≡ true → is_word d k ≡ true
+      trio_word true e own =
           let same : k ≡ (trio_of (rounds_of d g)).control = grind (arith, nat_tests) in
           let at : STATE + group_start (group_of d g) + 7 ≡ k = omega (arith, same) in
           subst (λ j. is_word d j ≡ true) at (low_words g 7 there (omega arith))
-      by false e own =
+      trio_word false e own =
           let len = length (inputs_of (group_of d g)) in
           let start = group_start (group_of d g) in
           let both : (40960 + start + 32 ≤ k) × (k < 40960 + start + 32 + 3 * len) = (grind (arith, nat_tests), grind (arith, nat_tests)) in
@@ -169,11 +169,11 @@ module _ (d : AdcTable) (fits : FitsAdc d) where
   own_below k n e le = let lt : k < 40960 + n = grind (arith, nat_tests) in omega (arith, lt, le)
 
   few_places : (g : ℕ) → place_count d g ≤ 2048
-  few_places g = by (group_of d g) refl
+  few_places g = places_bound (group_of d g) refl
     where
-      by : (k : Option Group) → group_of d g ≡ k → length (inputs_of k) * samples_of k ≤ 2048
-      by None e = omega arith
-      by (Some k) e =
+      places_bound : (k : Option Group) → group_of d g ≡ k → length (inputs_of k) * samples_of k ≤ 2048
+      places_bound None e = omega arith
+      places_bound (Some k) e =
           let f = fits.groups g k e in
           let few = f.few in
           let most = f.places.1 in
@@ -260,9 +260,9 @@ module _ (d : AdcTable) (fits : FitsAdc d) where
 
   -- the words that Adc_Init clears
   pub clear_words : (i : ℕ) → IsOwnStore d (clear_at d i)
-  clear_words i = whether_as (nat_lt i 6) (λ q. IsOwnStore d (if q then Store (unit_word d (i / 3) (i % 3)) 0 else group_clear d ((i - 6) / 4) ((i - 6) % 4)))
+  clear_words i = whether_as (nat_lt i 6) (λ q. IsOwnStore d (if q then Store (unit_word d (i / 3) (i % 3)) 0 else group_clear d (cleared_group d ((i - 6) / 4)) ((i - 6) % 4)))
       (λ e. let lt : i < 6 = grind (arith, nat_tests) in unit_own (i / 3) (i % 3) (omega (arith, lt)))
-      (λ e. group_by ((i - 6) / 4) ((i - 6) % 4) (is_some (group_of d ((i - 6) / 4))) refl)
+      (λ e. group_by (cleared_group d ((i - 6) / 4)) ((i - 6) % 4) (is_some (group_of d (cleared_group d ((i - 6) / 4)))) refl)
     where
       unit_own : (u at : ℕ) → u < 2 → is_word d (unit_word d u at) ≡ true
       unit_own u at lt = either_of (λ k. is_word d k ≡ true) (at == 0) _ _ (running_words d u lt) (either_of (λ k. is_word d k ≡ true) (at == 1) _ _ (claim_words d u lt) (tally_words d u lt))

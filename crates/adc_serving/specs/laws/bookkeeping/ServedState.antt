@@ -55,15 +55,15 @@ module _ (d : AdcTable) (s : AdcState) (g u : ℕ) (few : u < 2) (lt : g < 16) (
   is_free f c = rounds_stored f c u ∙ round_same s u None few
 
   pub other_round : (f c : Bool) → ((v : ℕ) → round_at s (suc (suc v)) ≡ None) → (v : ℕ) → v ≢ u → round_at (served f c) v ≡ round_at s v
-  other_round f c none v ne = rounds_stored f c v ∙ by u few v ne
+  other_round f c none v ne = rounds_stored f c v ∙ round_stays u few v ne
     where
-      by : (u : ℕ) → u < 2 → (v : ℕ) → v ≢ u → round_at (with_round s u None) v ≡ round_at s v
-      by zero less (suc zero) ne = refl
-      by zero less (suc (suc v)) ne = sym (none v)
-      by (suc zero) less zero ne = refl
-      by (suc zero) less (suc (suc v)) ne = sym (none v)
-      by (suc (suc u)) less v ne = absurd (omega (arith, less))
-      by _ less _ ne = absurd (ne refl)
+      round_stays : (u : ℕ) → u < 2 → (v : ℕ) → v ≢ u → round_at (with_round s u None) v ≡ round_at s v
+      round_stays zero less (suc zero) ne = refl
+      round_stays zero less (suc (suc v)) ne = sym (none v)
+      round_stays (suc zero) less zero ne = refl
+      round_stays (suc zero) less (suc (suc v)) ne = sym (none v)
+      round_stays (suc (suc u)) less v ne = absurd (omega (arith, less))
+      round_stays _ less _ ne = absurd (ne refl)
 
   without_same : (z : AdcState) (o : Option ℕ) → ((without_mark z o).results ≡ z.results) × ((without_mark z o).requests ≡ z.requests) × ((without_mark z o).initialised ≡ z.initialised)
   without_same z None = (refl, refl, refl)

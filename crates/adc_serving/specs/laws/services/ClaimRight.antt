@@ -1,27 +1,25 @@
 -- The handler claims its unit, before it opens the mask to copy a finished round to the bank that it has chosen.
--- From words.WordsChange, adc_groups: words.WordsOfModule, adc_groups: services.BodySteps and 11 more.
+-- From adc_groups: words.WordsChange, adc_groups: words.WordsOfModule, adc_groups: services.BodySteps and 11 more.
 -- Used by services.CopyRight, services.GiveUpRight, services.ServeActRight, services.ServeActSteps and 4 more.
-use Rattle.std.proofs.Common.{◌≡◌, ◌≢◌, ◌+◌, ◌/◌, ◌%◌, ◌<◌, ◌&&◌, ◌==◌, [], ◌∷◌, ◌∙◌, ◌⊎◌, if◌then◌else◌}
+use Rattle.std.proofs.Common.{◌≡◌, ◌≢◌, ◌+◌, ◌<◌, ◌&&◌, ◌==◌, [], ◌∷◌, ◌∙◌, ◌⊎◌, if◌then◌else◌}
 use Rattle.adc_serving.specs.Terms
-use Terms.{aborts, adc_bodies, adc_machine, AdcBody, AdcGround, AdcState, AdcTable, Agrees, AllRight, ap, arith}
-use Terms.{AssertedAt, Bank, bank_below, bank_number, bank_word, BanksAgree, body_ends, body_work, Bool, Call, cases}
-use Terms.{Chip, chip_after, chooses, choosing, claim, claim_right, claim_words, Claims, claims_on, CommitsTo}
-use Terms.{Continuation, Copies, copies_or, copying, DecidedRight, ended_at, Entered, eq_is, eq_other, eq_self, false}
-use Terms.{few_inputs, Fills, first_held, FitsAdc, foot_of, FrameHistory, free, fresh_history, Full, group_at}
-use Terms.{group_of, HasWords, held, HeldRight, inl, inputs_of, inr, InWindow, is_finished, is_handler, is_on}
-use Terms.{is_round_of, is_some, Is_this_frame, is_word, IsAlone, IsChosen, IsTaken, Keeps, kept_by, kept_in}
-use Terms.{kept_of_round, length, limited, List, Load, Looks, looks_right, makes, making, making_owed, missed_after}
-use Terms.{nat_lt, nat_tests, None, none_aborted, not, on_there, one_owed, or_else, or_from, or_left, or_parts}
-use Terms.{or_right, Origin, own-control, own-word, own_named, own_of, PendingWrites, Place, place_ends, put_of}
-use Terms.{Reads, refl, Reservation, Reservations, ReservedBy, result_word, ResultBuffer, RightOr, Round, round_at}
-use Terms.{round_turn, rounds_of, same_or_other, Serves, Set, Some, some_hold, some_inputs, stands-agree, start_from}
-use Terms.{Starts, starts_on, Store, stored_other, stored_same, subst, sym, Taken, trio_of, TripleBuffer, true}
-use Terms.{unclaimed, unit_is, unit_of, value_of, Whole, will_yield, word_number, word_of, word_there, World, zero, ℕ}
+use Terms.{aborts, adc_bodies, adc_machine, AdcBody, AdcGround, AdcState, AdcTable, Agrees, all_stay, AllRight, ap}
+use Terms.{arith, AssertedAt, bank_number, banks_stay, BanksAgree, body_ends, body_work, Bool, Call, Chip, chip_after}
+use Terms.{chooses, choosing, claim, claim_now, claim_other, claim_right, claim_stays_below, claim_words, Claims}
+use Terms.{claims_on, CommitsTo, Continuation, Copies, copies_or, copying, core_claim, CoreStays, DecidedRight}
+use Terms.{ended_at, Entered, eq_is, eq_other, eq_self, false, few_inputs, Fills, first_held, FitsAdc, foot_of}
+use Terms.{FrameHistory, free, fresh_history, Full, group_at, group_of, HasWords, held, HeldRight, inl, inputs_of}
+use Terms.{inr, InWindow, is_finished, is_handler, is_on, is_round_of, is_some, Is_this_frame, is_word, IsAlone}
+use Terms.{IsChosen, IsTaken, Keeps, kept_by, kept_claimed, kept_in, kept_of_round, kept_within, length, limited}
+use Terms.{List, Load, Looks, looks_right, makes, making, making_owed, missed_after, nat_lt, nat_tests, None}
+use Terms.{none_aborted, not, on_there, one_owed, or_else, or_from, or_left, or_right, Origin, own_named}
+use Terms.{PendingWrites, Place, place_claimed, place_ends, put_of, refl, Reservation, Reservations, ReservedBy}
+use Terms.{RightOr, Round, round_at, round_turn, rounds_of, same_or_other, Serves, Set, Some, some_hold, some_inputs}
+use Terms.{stands-agree, Starts, starts_on, stays_agree, Store, subst, sym, Taken, trio_claimed, trio_of}
+use Terms.{TripleBuffer, true, unclaimed, unit_is, unit_of, value_of, Whole, will_yield, word_number, word_of, World}
+use Terms.{zero, ℕ}
 use Rattle.adc_serving.specs.laws.services.TakeRoundSteps.{round_on}
-use Rattle.adc_serving.specs.laws.words.WordsChange.{BankStays, HoldStays, AllStay, CoreStays, all_stay, stays_agree}
-use Rattle.adc_serving.specs.laws.words.WordsChange.{trio_place, core_claim}
 use Rattle.adc_stream.specs.declared.copying.Copied.TheVariants as copied
-use Rattle.adc_machine.specs.declared.call.ResultBuffer.TheVariants as buffers
 use Rattle.adc_groups.specs.declared.making.Continuation.TheVariants as thens
 use Rattle.adc_groups.specs.declared.outside.Outside.TheVariants as outsides
 use Rattle.adc_groups.specs.declared.window.Window.TheVariants as windows
@@ -59,69 +57,9 @@ zero_word n e = by (n == 0) refl e
     by true f i = eq_is n 0 f
     by false f i = absurd (cc)
 
--- ---- a store of the claim's word
-
-module _ (d : AdcTable) (fits : FitsAdc d) (u : ℕ) (few : u < 2) (c : Chip) (whole : HasWords c) (v : ℕ) where
-  abbrev claimed : Chip
-  claimed = chip_after c (Store (word_number d (words.Claim u)) v) 0
-
-  pub claim_now : word_of (chip_after c (Store (word_number d (words.Claim u)) v) 0) (word_number d (words.Claim u)) ≡ v
-  claim_now = stored_same c (word_number d (words.Claim u)) v 0 (word_there d fits (word_number d (words.Claim u)) (claim_words d u few)) whole
-
-  pub claim_other : (n : ℕ) → n ≢ u → word_of (chip_after c (Store (word_number d (words.Claim u)) v) 0) (word_number d (words.Claim n)) ≡ word_of c (word_number d (words.Claim n))
-  claim_other n ne = stored_other c (word_number d (words.Claim u)) v 0 (word_number d (words.Claim n)) (λ e. omega (arith, e, ne))
-
-  pub trio_claimed : (g j : ℕ) → is_some (group_of d g) ≡ true → own_of (trio_of (rounds_of d g)) j ≡ true → word_of (chip_after c (Store (word_number d (words.Claim u)) v) 0) j ≡ word_of c j
-  trio_claimed g j there own = stored_other c (word_number d (words.Claim u)) v 0 j (λ e. (let place = trio_place d fits g j own in let is = place.1 in let low = (start_from d fits g there).0 in omega (arith, e, is, low, few)))
-
-  pub place_claimed : (g : ℕ) (n : ResultBuffer) (p : ℕ) → word_of (chip_after c (Store (word_number d (words.Claim u)) v) 0) (result_word g n p) ≡ word_of c (result_word g n p)
-  place_claimed g n p = stored_other c (word_number d (words.Claim u)) v 0 (result_word g n p) (far n)
-    where
-      far : (n : ResultBuffer) → result_word g n p ≢ word_number d (words.Claim u)
-      far buffers.Zero e = omega (arith, e, few)
-      far buffers.One e = omega (arith, e, few)
-
-  bank_claimed : (g : ℕ) (n : Bank) → is_some (group_of d g) ≡ true → BankStays d c claimed g n
-  bank_claimed g n there j less = trio_claimed g (bank_word (rounds_of d g) n j) there (own-word (trio_of (rounds_of d g)) (bank_number n) j (bank_below d fits n) less)
-
-  control_claimed : (g : ℕ) → is_some (group_of d g) ≡ true → word_of claimed (trio_of (rounds_of d g)).control ≡ word_of c (trio_of (rounds_of d g)).control
-  control_claimed g there = trio_claimed g (trio_of (rounds_of d g)).control there (own-control (trio_of (rounds_of d g)))
-
-  -- what is held below stays right, where the claim keeps no values now
-  module _ (low : v < 2) where
-    kept_before : (n k : ℕ) → word_of claimed (word_number d (words.Claim n)) ≡ 2 + k → word_of c (word_number d (words.Claim n)) ≡ 2 + k
-    kept_before n k e = cases (same_or_other n u)
-        (λ same. absurd (let now : v ≡ 2 + k = sym claim_now ∙ subst (λ z. word_of claimed (word_number d (words.Claim z)) ≡ 2 + k) same e in omega (arith, now, low)))
-        (λ ne. sym (claim_other n ne) ∙ e)
-
-    -- and where no frame below claims the unit, other claims stay too
-    kept_after : (n k : ℕ) → (u == n) ≡ false → word_of c (word_number d (words.Claim n)) ≡ 2 + k → word_of claimed (word_number d (words.Claim n)) ≡ 2 + k
-    kept_after n k off e = claim_other n (λ same. absurd (let on : (u == n) ≡ true = ap (λ z. u == z) same ∙ eq_self u in cc)) ∙ e
-
-    one_stays : (w : World) (s : AdcState) (x : ReservedBy Call Reservation) (z : Reservation) → HeldRight d c w s x z → claims_on u z ≡ false → HoldStays d c claimed z
-    one_stays w s x (Fills n k e b i q) r free = bank_claimed k b (on_there n (group_of d k) r.2)
-    one_stays w s x (Full n k b) r free = bank_claimed k b (on_there n (group_of d k) r.2)
-    one_stays w s x (Keeps n k e b i q) r free = (kept_before n k, kept_after n k free)
-    one_stays w s x (Whole n k b) r free = kept_before n k
-    one_stays w s x (Copies n k i q) r free = (ap (λ z. z % 4) (control_claimed k.group r.2), bank_claimed k.group n r.2)
-    one_stays w s x (Reads k n vs) r free = (ap (λ z. z / 4) (control_claimed k r.2), bank_claimed k n r.2)
-    one_stays w s x _ r free = tt
-
-    pub claim_stays_below : (w : World) (s : AdcState) (hs : Reservations) → AllRight d c w s hs → some_hold (claims_on u) hs ≡ false → AllStay d c (chip_after c (Store (word_number d (words.Claim u)) v) 0) hs
-    claim_stays_below w s [] r free = tt
-    claim_stays_below w s (x ∷ xs) r free = let both = or_parts (claims_on u x.what) (some_hold (claims_on u) xs) free in (one_stays w s x x.what r.0 both.0, claim_stays_below w s xs r.1 both.1)
-
 -- what a handler of a unit's line holds that has claimed the unit
 abbrev pub claiming : (unit : ℕ) → Reservation → Reservations → Reservations
 claiming u z below = record { by = Entered (24 + u); what = z; acted = None } ∷ record { by = Entered (24 + u); what = Starts u; acted = None } ∷ below
-
--- what the word of such a claim tells
-pub claimed_parts : (u x : ℕ) (below : Reservations) (rest : Bool) → (if u == u then (x == 1) && not (some_hold (claims_on u) below) else rest) ≡ true → (x ≡ 1) × (some_hold (claims_on u) below ≡ false)
-claimed_parts u x below rest e = by (x == 1) refl (some_hold (claims_on u) below) refl (sym (ap (λ q. if q then (x == 1) && not (some_hold (claims_on u) below) else rest) (eq_self u)) ∙ e)
-  where
-    by : (p : Bool) → (x == 1) ≡ p → (q : Bool) → some_hold (claims_on u) below ≡ q → p && not q ≡ true → (x ≡ 1) × (some_hold (claims_on u) below ≡ false)
-    by true i false j f = (eq_is x 1 i, j)
-    by _ i _ j f = absurd (cc)
 
 module _ (d : AdcTable) (fits : FitsAdc d) (below : Reservations) (chip : Chip) (w : World) (s : AdcState) (h : Agrees d below chip w s) (t : Taken) (few : t.unit < 2) (alone : IsAlone (24 + t.unit) below) (taken : IsTaken d w s t.unit t.group) where
   abbrev u : ℕ
@@ -212,14 +150,8 @@ module _ (d : AdcTable) (fits : FitsAdc d) (below : Reservations) (chip : Chip) 
     }
 
     others : (k : ℕ) → is_some (group_of d k) ≡ true → k ≢ g → BanksAgree d after (word_of now) s k
-    others k here ne =
-        let q = h.banks k here in record {
-          banks = q.banks;
-          stands = stands-agree (trio_of (rounds_of d k)) (word_of chip) (word_of now) q.banks (λ j own. sym (trio_claimed d fits u few chip whole 1 k j here own)) q.stands;
-          newest = q.newest;
-          put = q.put ∙ sym (ap (λ z. or_else (if z then Some (bank_number t.bank, 0) else None) (first_held (put_of d k) below)) (eq_other k g ne));
-          take = q.take;
-        }
+    others k here ne = banks_stay chip now (h.banks k here) (λ j own. trio_claimed d fits u few chip whole 1 k j here own)
+        (sym (ap (λ z. or_else (if z then Some (bank_number t.bank, 0) else None) (first_held (put_of d k) below)) (eq_other k g ne))) refl
 
     banks_by : (k : ℕ) → is_some (group_of d k) ≡ true → (k ≡ g) ⊎ (k ≢ g) → BanksAgree d after (word_of now) s k
     banks_by k here (inl e) = subst (λ n. BanksAgree d after (word_of now) s n) (sym e) agreed
@@ -265,6 +197,7 @@ module _ (d : AdcTable) (fits : FitsAdc d) (below : Reservations) (chip : Chip) 
       claimed = λ k here. claimed_by k (same_or_other (unit_of (group_of d k)) u);
       claims = λ v less. claims_by v less (same_or_other v u);
       promised = λ v. (let q = (h.settled on).promised v in record { starts = λ e. or_right (v == u) (some_hold (starts_on v) below) (q.starts e); yields = λ e. yields_by v (same_or_other v u) e (q.yields e) });
+      kept = λ k here off j v is. kept_claimed d fits u few chip whole 1 k here j (kept_within d w s h.sound k j v is);
     })
 
 -- ---- the window

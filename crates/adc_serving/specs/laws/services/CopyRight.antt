@@ -1,25 +1,25 @@
 -- A handler copies a finished round to its bank value by value, with the mask open: what words and registers agree with meanwhile.
--- From words.WordsChange, adc_groups: words.WordsOfModule, services.ClaimRight, service_outline: Words and 5 more.
+-- From adc_groups: words.WordsChange, adc_groups: words.WordsOfModule, services.ClaimRight, service_outline: Words and 5 more.
 -- Used by services.CopySteps, adc_driver: services.KeepCopySteps, services.ServeActRight.
 use Rattle.std.proofs.Common.{◌≡◌, ◌≢◌, ◌+◌, ◌-◌, ◌*◌, ◌/◌, ◌%◌, ◌<◌, ◌≤◌, ◌==◌, [], ◌∷◌, ◌++◌, ◌∙◌, ◌⊎◌}
 use Rattle.std.proofs.Common.{if◌then◌else◌, length-drop}
 use Rattle.adc_serving.specs.Terms
-use Terms.{AdcState, AdcTable, Agrees, AllRight, ap, arith, Bank, bank_below, bank_number, bank_word, banks-apart}
-use Terms.{BanksAgree, Bool, Call, cases, Chip, chip_after, claim_right, claims_on, control-apart, Copies, ends_at}
-use Terms.{eq_is, eq_other, eq_self, false, filling, Fills, fills, FillsRight, finish_of, first_held, FitsAdc, Full}
-use Terms.{group_at, group_of, HasValues, HasWords, HeldRight, inl, inputs_left, inputs_of, inr, is_finished, is_on}
-use Terms.{is_round_of, is_some, IsNext, IsRound, Keeps, kept_by, kept_in, kept_of_round, kept_word, length}
-use Terms.{length_push, List, nat_le, nat_tests, newest-in, None, on_there, Option, option_map, or_else, or_parts}
-use Terms.{own-control, own-word, own_of, pin_of, put_of, PutIn, PutStands, Putting, Reads, refl, Reservation}
-use Terms.{Reservations, ReservedBy, result_of, Round, round_at, round_turn, RoundAgrees, rounds_of, same_or_other}
-use Terms.{sample_at, slice_get, Some, some_hold, Stands, stands-agree, Store, stored, stored_other, stored_same}
-use Terms.{subst, suc, sym, trio_of, trio_words, TripleBuffer, true, unit_is, unit_of, unit_small, unit_within}
+use Terms.{AdcState, AdcTable, Agrees, all_stay, AllRight, AllStay, ap, arith, Bank, bank_below, bank_number}
+use Terms.{bank_word, banks-apart, banks_stay, BanksAgree, BankStays, Bool, Call, cases, Chip, chip_after}
+use Terms.{claim_right, claimed_parts, claims_on, control-apart, Copies, core_trio, CoreStays, ends_at, eq_is}
+use Terms.{eq_other, eq_self, false, filling, Fills, fills, FillsRight, finish_of, first_held, FitsAdc, Full}
+use Terms.{FullRight, group_at, group_of, HasValues, HasWords, HeldRight, holds_anew, HoldStays, inl, inputs_left}
+use Terms.{inputs_of, inr, is_finished, is_on, is_round_of, is_some, IsNext, IsRound, Keeps, kept_by, kept_in}
+use Terms.{kept_of_round, kept_trio, kept_within, kept_word, KeptStays, length, length_push, List, nat_le, nat_tests}
+use Terms.{newest-in, None, on_there, Option, option_map, or_else, or_parts, own-control, own-word, own_of, pin_of}
+use Terms.{put_of, PutIn, PutStands, Putting, Reads, refl, Reservation, Reservations, ReservedBy, result_of, Round}
+use Terms.{round_at, round_turn, RoundAgrees, rounds_of, same_or_other, sample_at, slice_get, Some, some_hold, Stands}
+use Terms.{stands-agree, stays_agree, Store, stored, stored_other, stored_same, subst, suc, sym, trio_claim, trio_of}
+use Terms.{trio_other, trio_result, trio_words, TripleBuffer, true, unit_is, unit_of, unit_small, unit_within}
 use Terms.{value_within, values_of, Whole, whole_values, word_at, word_number, word_of, word_there, words-after}
 use Terms.{World, zero, ℕ}
-use Rattle.adc_serving.specs.laws.services.ClaimRight.{claiming, claimed_parts}
+use Rattle.adc_serving.specs.laws.services.ClaimRight.{claiming}
 use Rattle.adc_serving.specs.laws.words.ControlWord.{trio_fits}
-use Rattle.adc_serving.specs.laws.words.WordsChange.{BankStays, HoldStays, AllStay, CoreStays, all_stay, stays_agree}
-use Rattle.adc_serving.specs.laws.words.WordsChange.{core_trio, trio_other, trio_claim, trio_result}
 use Rattle.chip_converter.specs.Converters as chips
 use Rattle.adc_groups.specs.declared.words.Word.TheVariants as words
 
@@ -35,52 +35,23 @@ filler u g e b i v below = claiming u (Fills u g e b i v) below
 module _ (d : AdcTable) (below : Reservations) (chip : Chip) (w : World) (s : AdcState) (u g e : ℕ) (b : Bank) where
   -- one more value was read
   pub fills_value : (i : ℕ) (v x : Option ℕ) → ((r : Round) (n : ℕ) → round_at s u ≡ Some r → slice_get (values_of w (group_of d g) r) i ≡ Some n → IsNext x n) → Agrees d (filler u g e b i v below) chip w s → Agrees d (filler u g e b i x below) chip w s
-  fills_value i v x next h = record {
-    sound = h.sound;
-    outside = h.outside;
-    state = h.state;
-    right = ((h.right.0.0, h.right.0.1, h.right.0.2, (let q = h.right.0.3 in record { same = q.same; filled = q.filled; next = next })), h.right.1);
-    banks = λ k there. (let q = h.banks k there in record { banks = q.banks; stands = q.stands; newest = q.newest; put = q.put; take = q.take });
-    block = h.block;
-    rounds = h.rounds;
-    triggers = h.triggers;
-    places = λ k n p lt free. h.places k n p lt free;
-    backed = (h.backed.0, h.backed.1);
-    settled = λ f. (let q = h.settled f in record { groups = q.groups; units = q.units; claims = λ n lt. q.claims n lt; lines = q.lines; promised = λ n. (let z = q.promised n in record { starts = z.starts; yields = z.yields }) });
-    left = λ off. absurd (let on = h.right.0.1 in cc);
-  }
+  fills_value i v x next h = holds_anew h (record { puts = λ k. refl; takes = λ k. refl; owed = λ k n p lt free. free; claims = λ n v e. e; clears = λ e. e })
+      ((h.right.0.0, h.right.0.1, h.right.0.2, (let q = h.right.0.3 in record { same = q.same; filled = q.filled; next = next })), h.right.1) (h.backed.0, h.backed.1) (λ n z. record { starts = z.starts; yields = z.yields })
 
   -- all are in the bank
   pub fills_full : Agrees d (filler u g e b (length (inputs_of (group_of d g))) None below) chip w s → Agrees d (claiming u (Full u g b) below) chip w s
-  fills_full h = record {
-    sound = h.sound;
-    outside = h.outside;
-    state = h.state;
-    right = (
-      (
-        h.right.0.0,
-        h.right.0.1,
-        h.right.0.2,
-        (let q = h.right.0.3 in record {
-          same = λ r is. (let z = q.same r is in (z.0, z.2));
-          filled = λ r j v is at. q.filled r j v is (value_within w (group_of d g) r j v (subst (λ n. length r.request.kept < length (inputs_of (group_of d n))) (q.same r is).0 (h.sound.runs u r is).4.2) at) at;
-        }),
-      ),
-      h.right.1,
-    );
-    banks = λ k there. (let q = h.banks k there in record { banks = q.banks; stands = q.stands; newest = q.newest; put = q.put ∙ same k (k == g) refl; take = q.take });
-    block = h.block;
-    rounds = h.rounds;
-    triggers = h.triggers;
-    places = λ k n p lt free. h.places k n p lt free;
-    backed = (h.backed.0, h.backed.1);
-    settled = λ f. (let q = h.settled f in record { groups = q.groups; units = q.units; claims = λ n lt. q.claims n lt; lines = q.lines; promised = λ n. (let z = q.promised n in record { starts = z.starts; yields = z.yields }) });
-    left = λ off. absurd (let on = h.right.0.1 in cc);
-  }
+  fills_full h = holds_anew h (record { puts = λ k. same k (k == g) refl; takes = λ k. refl; owed = λ k n p lt free. free; claims = λ n v e. e; clears = λ e. e })
+      ((h.right.0.0, h.right.0.1, h.right.0.2, whole h.right.0.3), h.right.1) (h.backed.0, h.backed.1) (λ n z. record { starts = z.starts; yields = z.yields })
     where
       same : (k : ℕ) (q : Bool) → (k == g) ≡ q → or_else (if q then Some (bank_number b, length (inputs_of (group_of d g))) else None) (first_held (put_of d k) below) ≡ or_else (if q then Some (bank_number b, length (inputs_of (group_of d k))) else None) (first_held (put_of d k) below)
       same k true i = ap (λ m. or_else (Some (bank_number b, length (inputs_of (group_of d m)))) (first_held (put_of d k) below)) (sym (eq_is k g i))
       same k false i = refl
+
+      whole : FillsRight d chip w s u g e b (length (inputs_of (group_of d g))) None → FullRight d chip w s u g b
+      whole q = record {
+        same = λ r is. (let z = q.same r is in (z.0, z.2));
+        filled = λ r j v is at. q.filled r j v is (value_within w (group_of d g) r j v (subst (λ n. length r.request.kept < length (inputs_of (group_of d n))) (q.same r is).0 (h.sound.runs u r is).4.2) at) at;
+      }
 
 -- ---- the values of a round that a unit has
 
@@ -194,6 +165,9 @@ module _ (d : AdcTable) (fits : FitsAdc d) (below : Reservations) (chip : Chip) 
   core : CoreStays d chip now
   core = core_trio d fits chip x whole g word there own
 
+  kept_stays : (k : ℕ) → is_some (group_of d k) ≡ true → KeptStays d chip now k
+  kept_stays = kept_trio d fits chip x whole g word there own
+
   b0 : BanksAgree d (filler u g e b i (Some x) below) (word_of chip) s g
   b0 = h.banks g there
 
@@ -242,8 +216,8 @@ module _ (d : AdcTable) (fits : FitsAdc d) (below : Reservations) (chip : Chip) 
   one_stays : (y : ReservedBy Call Reservation) (z : Reservation) → HeldRight d chip w s y z → claims_on u z ≡ false → HoldStays d chip now z
   one_stays y (Fills v k m n j q) r free = filled_stays v k n r.2 free
   one_stays y (Full v k n) r free = filled_stays v k n r.2 free
-  one_stays y (Keeps v k m n j q) r free = (λ f. sym (trio_claim d fits chip x whole g word there own v (unit_within d fits v k r.1)) ∙ f, λ f. trio_claim d fits chip x whole g word there own v (unit_within d fits v k r.1) ∙ f)
-  one_stays y (Whole v k n) r free = λ f. sym (trio_claim d fits chip x whole g word there own v (unit_within d fits v k r.1)) ∙ f
+  one_stays y (Keeps v k m n j q) r free = (λ f. sym (trio_claim d fits chip x whole g word there own v (unit_within d fits v k r.1)) ∙ f, λ f. trio_claim d fits chip x whole g word there own v (unit_within d fits v k r.1) ∙ f, kept_stays k (on_there v (group_of d k) r.1))
+  one_stays y (Whole v k n) r free = (λ f. sym (trio_claim d fits chip x whole g word there own v (unit_within d fits v k r.1)) ∙ f, kept_stays k (on_there v (group_of d k) r.1))
   one_stays y (Copies n k j q) r free = (ap (λ m. m % 4) (control_group k.group r.2), by (same_or_other k.group g))
     where
       by : (k.group ≡ g) ⊎ (k.group ≢ g) → BankStays d chip now k.group n
@@ -282,14 +256,9 @@ module _ (d : AdcTable) (fits : FitsAdc d) (below : Reservations) (chip : Chip) 
   }
 
   others : (k : ℕ) → is_some (group_of d k) ≡ true → k ≢ g → BanksAgree d after (word_of now) s k
-  others k here ne =
-      let q = h.banks k here in record {
-        banks = q.banks;
-        stands = stands-agree (trio_of (rounds_of d k)) (word_of chip) (word_of now) q.banks (λ j mine. sym (trio_other d fits chip x whole g word there own k j here ne mine)) q.stands;
-        newest = q.newest;
-        put = q.put ∙ (ap (λ z. or_else (if z then Some (bank_number b, i) else None) (first_held (put_of d k) below)) (eq_other k g ne) ∙ sym (ap (λ z. or_else (if z then Some (bank_number b, i + 1) else None) (first_held (put_of d k) below)) (eq_other k g ne)));
-        take = q.take;
-      }
+  others k here ne = banks_stay chip now (h.banks k here) (λ j mine. trio_other d fits chip x whole g word there own k j here ne mine)
+      (ap (λ z. or_else (if z then Some (bank_number b, i) else None) (first_held (put_of d k) below)) (eq_other k g ne) ∙ sym (ap (λ z. or_else (if z then Some (bank_number b, i + 1) else None) (first_held (put_of d k) below)) (eq_other k g ne)))
+      refl
 
   banks_by : (k : ℕ) → is_some (group_of d k) ≡ true → (k ≡ g) ⊎ (k ≢ g) → BanksAgree d after (word_of now) s k
   banks_by k here (inl f) = subst (λ n. BanksAgree d after (word_of now) s n) (sym f) agreed
@@ -318,4 +287,5 @@ module _ (d : AdcTable) (fits : FitsAdc d) (below : Reservations) (chip : Chip) 
     claimed = λ k here ne same. ne (trio_claim d fits chip x whole g word there own (unit_of (group_of d k)) (unit_small d fits k here) ∙ same);
     claims = λ v less. ap (λ n. claim_right (filler u g e b i (Some x) below) v n) (trio_claim d fits chip x whole g word there own v less) ∙ (h.settled h.right.0.1).claims v less;
     promised = λ v. (let q = (h.settled h.right.0.1).promised v in record { starts = q.starts; yields = q.yields });
+    kept = λ k here off j v is. kept_stays k here j (kept_within d w s h.sound k j v is);
   })

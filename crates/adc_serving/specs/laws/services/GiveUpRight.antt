@@ -3,13 +3,13 @@
 -- Used by services.ServeActRight, services.AfterCopySteps.
 use Rattle.std.proofs.Common.{◌≡◌, ◌≢◌, ◌<◌, ◌&&◌, ◌==◌, [], ◌∷◌, ◌∙◌, if◌then◌else◌}
 use Rattle.adc_serving.specs.Terms
-use Terms.{abandoning, abandons, AdcState, AdcTable, Agrees, AllRight, ap, Bank, bank_number, BanksAgree, Bool, Call}
-use Terms.{cases, Chip, claim_fits, claim_right, Claims, claims_on, eq_is, eq_other, eq_self, false, Fills}
-use Terms.{first_held, FitsAdc, Full, group_of, HeldRight, inputs_of, is_on, is_some, length, None, not, on_there}
-use Terms.{Option, or_else, or_parts, put_of, refl, Reservation, Reservations, ReservedBy, round_at, rounds_of}
-use Terms.{same_or_other, Some, some_hold, starts, subst, sym, trio_of, true, unit_is, unit_of, word_number, word_of}
-use Terms.{World, ℕ}
-use Rattle.adc_serving.specs.laws.services.ClaimRight.{claiming, claimed_parts}
+use Terms.{abandoning, abandons, AdcState, AdcTable, Agrees, AllRight, ap, Bank, bank_number, banks_stay, BanksAgree}
+use Terms.{Bool, Call, cases, Chip, claim_fits, claim_right, claimed_parts, Claims, claims_on, eq_is, eq_other}
+use Terms.{eq_self, false, Fills, first_held, FitsAdc, Full, group_of, HeldRight, inputs_of, is_on, is_some, length}
+use Terms.{None, not, on_there, Option, or_else, or_parts, put_of, refl, Reservation, Reservations, ReservedBy}
+use Terms.{round_at, rounds_of, same_or_other, Some, some_hold, starts, subst, sym, trio_of, true, unit_is, unit_of}
+use Terms.{word_number, word_of, World, ℕ}
+use Rattle.adc_serving.specs.laws.services.ClaimRight.{claiming}
 use Rattle.adc_groups.specs.declared.words.Word.TheVariants as words
 
 -- a bank with so many values
@@ -22,15 +22,15 @@ module _ (d : AdcTable) (fits : FitsAdc d) (chip : Chip) (w : World) (s : AdcSta
   no_put : (x : ReservedBy Call Reservation) (z : Reservation) → HeldRight d chip w s x z → claims_on u z ≡ false → put_of d g z ≡ None
   no_put x z right free = one z right free
     where
-      by : (v k n i : ℕ) (q : Bool) → (g == k) ≡ q → is_on v (group_of d k) ≡ true → (u == v) ≡ false → (if q then a_part n i else None) ≡ None
-      by v k n i true e on off =
+      part_absent : (v k n i : ℕ) (q : Bool) → (g == k) ≡ q → is_on v (group_of d k) ≡ true → (u == v) ≡ false → (if q then a_part n i else None) ≡ None
+      part_absent v k n i true e on off =
           let same : u ≡ v = sym (unit_is d fits u (group_of d g) at) ∙ (ap (λ m. unit_of (group_of d m)) (eq_is g k e) ∙ unit_is d fits v (group_of d k) on) in
           absurd (let here : (u == v) ≡ true = ap (λ m. u == m) (sym same) ∙ eq_self u in cc)
-      by v k n i false e on off = refl
+      part_absent v k n i false e on off = refl
 
       one : (z : Reservation) → HeldRight d chip w s x z → claims_on u z ≡ false → put_of d g z ≡ None
-      one (Fills v k e b i y) h off = by v k (bank_number b) i (g == k) refl h.2 off
-      one (Full v k b) h off = by v k (bank_number b) (length (inputs_of (group_of d g))) (g == k) refl h.2 off
+      one (Fills v k e b i y) h off = part_absent v k (bank_number b) i (g == k) refl h.2 off
+      one (Full v k b) h off = part_absent v k (bank_number b) (length (inputs_of (group_of d g))) (g == k) refl h.2 off
       one _ h off = refl
 
   pub no_puts : (hs : Reservations) → AllRight d chip w s hs → some_hold (claims_on u) hs ≡ false → first_held (put_of d g) hs ≡ None
@@ -55,13 +55,8 @@ module _ (d : AdcTable) (fits : FitsAdc d) (below : Reservations) (chip : Chip) 
   }
 
   others : (k : ℕ) → is_some (group_of d k) ≡ true → k ≢ g → BanksAgree d (claiming u (Claims u) below) (word_of chip) s k
-  others k there ne = let q = h.banks k there in record {
-    banks = q.banks;
-    stands = q.stands;
-    newest = q.newest;
-    put = q.put ∙ ap (λ z. or_else (if z then Some (bank_number b, length (inputs_of (group_of d k))) else None) (first_held (put_of d k) below)) (eq_other k g ne);
-    take = q.take;
-  }
+  others k there ne = banks_stay chip chip (h.banks k there) (λ j own. refl)
+      (ap (λ z. or_else (if z then Some (bank_number b, length (inputs_of (group_of d k))) else None) (first_held (put_of d k) below)) (eq_other k g ne)) refl
 
   pub leaves_agree : Agrees d (claiming u (Claims u) below) chip w s
   leaves_agree = record {

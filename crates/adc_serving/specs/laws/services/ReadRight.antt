@@ -3,13 +3,14 @@
 -- Used by adc_driver: services.MakeSteps, adc_driver: services.OutsideSteps.
 use Rattle.std.proofs.Common.{◌≡◌, ◌+◌, ◌%◌, ◌<◌, ◌≤◌, ◌&&◌, [], ◌∷◌, ◌++◌, ◌∙◌, if◌then◌else◌}
 use Rattle.adc_serving.specs.Terms
-use Terms.{adc_bodies, AdcBody, AdcGround, AdcState, AdcTable, Agrees, Answer, ap, arith, AssertedAt, Bank, bank_number}
-use Terms.{bank_word, bare_right, body_ends, body_work, Bool, Call, Called, Chip, chip_after, ended_at, ended_by, EOk}
-use Terms.{false, few_inputs, FitsAdc, FrameHistory, fresh_history, goes, group_of, has_read, inputs_of, Is_this_frame}
-use Terms.{IsOnlyReader, IsReading, IsReleasing, length, length_push, List, Mask, named_with, nat_lt, nat_tests, None}
-use Terms.{not, Option, Origin, Out, read_more, ReadGroup, ReadsPlace, refl, Reservations, RightOr, Rounds, rounds_of}
-use Terms.{slice_index, Some, some_inputs, Stage, stage_read, steps_so, Store, subst, sym, Take, take, take_all}
-use Terms.{trio_of, true, Unmask, value_of, whole_word, word_of, World, ℕ}
+use Terms.{adc_bodies, AdcBody, AdcGround, AdcState, AdcTable, Agrees, Answer, ap, arith, AssertedAt, Bank}
+use Terms.{bank_number, bank_word, bare_right, body_ends, body_work, Bool, Call, Called, Chip, chip_after, ended_at}
+use Terms.{ended_by, EOk, false, few_inputs, FitsAdc, FrameHistory, fresh_history, goes, group_of, has_read}
+use Terms.{holds_anew, inputs_of, Is_this_frame, IsOnlyReader, IsReading, IsReleasing, length, length_push, List}
+use Terms.{Mask, named_with, nat_lt, nat_tests, None, not, Option, Origin, Out, read_more, ReadGroup, ReadsPlace}
+use Terms.{refl, Reservations, RightOr, Rounds, rounds_of, slice_index, Some, some_inputs, Stage, stage_read}
+use Terms.{steps_so, Store, subst, sym, Take, take, take_all, trio_of, true, Unmask, value_of, whole_word, word_of}
+use Terms.{World, ℕ}
 use Rattle.std.proofs.lemmas.List.{take_more as one_more}
 use Rattle.adc_serving.specs.laws.words.ControlWord.{reader, release_agrees}
 use Rattle.word_shapes.specs.declared.take.Take.TheVariants as takes
@@ -36,20 +37,9 @@ module _ (d : AdcTable) (g : ℕ) (b : Bank) (vs us whole : List ℕ) (below : R
   front_read = h.right.0.3.front ∙ ap (λ xs. take (length vs) xs) (sym answered_whole)
 
   pub reads_agree : us ≡ take (length us) whole → Agrees d (reader g b us whole ∷ below) chip w s
-  reads_agree front = record {
-    sound = h.sound;
-    outside = h.outside;
-    state = h.state;
-    right = ((h.right.0.0, h.right.0.1, h.right.0.2, (let q = h.right.0.3 in record { whole = q.whole; answered = q.answered; pinned = q.pinned; bank = q.bank; front = front ∙ ap (λ xs. take (length us) xs) answered_whole })), h.right.1);
-    banks = λ k there. (let q = h.banks k there in record { banks = q.banks; stands = q.stands; newest = q.newest; put = q.put; take = q.take });
-    block = h.block;
-    rounds = h.rounds;
-    triggers = h.triggers;
-    places = λ k n p lt free. h.places k n p lt free;
-    backed = (λ u e. absurd (cc), h.backed.1);
-    settled = λ e. (let q = h.settled e in record { groups = q.groups; units = q.units; claims = λ u lt. q.claims u lt; lines = q.lines; promised = λ u. (let z = q.promised u in record { starts = z.starts; yields = z.yields }) });
-    left = λ off. absurd (let on = h.right.0.1 in cc);
-  }
+  reads_agree front = holds_anew h (record { puts = λ k. refl; takes = λ k. refl; owed = λ k n p lt free. free; claims = λ n v e. e; clears = λ e. e })
+      ((h.right.0.0, h.right.0.1, h.right.0.2, (let q = h.right.0.3 in record { whole = q.whole; answered = q.answered; pinned = q.pinned; bank = q.bank; front = front ∙ ap (λ xs. take (length us) xs) answered_whole })), h.right.1)
+      (λ u e. absurd (cc), h.backed.1) (λ n z. record { starts = z.starts; yields = z.yields })
 
 module _ (d : AdcTable) (fits : FitsAdc d) (f r : AdcBody → ℕ) (below : Reservations) (chip : Chip) (w : World) (s : AdcState) (m : ℕ → Bool) (y : ℕ) (g : ℕ) (b : Bank) where
   abbrev at : List ℕ → Stage → AdcBody

@@ -6,9 +6,9 @@ use Rattle.std.proofs.Common.{if◌then◌else◌}
 use Rattle.adc_serving.specs.Terms
 use Terms.{aborts_by, acknowledged_list, acknowledged_over, AdcState, AdcTable, Agrees, all_changed, AllRight}
 use Terms.{AllSpare, ap, Bank, bank_below, bank_number, bank_word, BanksAgree, bit_of, Bool, buffer_by, Call, cases}
-use Terms.{changed, Chip, chip_after, chosen_of, claim_right, claim_stays, claims_on, clash, Column, Converter}
-use Terms.{ConverterAck, Converters, Copies, CopiesRight, deed_move, DiffersIn, Entered, Entry, eq_is, eq_other}
-use Terms.{eq_self, false, finished_here, first_held, FitsAdc, Fresh, Full, group_at, group_of, group_word}
+use Terms.{changed, Chip, chip_after, chosen_of, claim_right, claim_stays, claimed_parts, claims_on, clash, Column}
+use Terms.{Converter, ConverterAck, Converters, Copies, CopiesRight, deed_move, DiffersIn, Entered, Entry, eq_is}
+use Terms.{eq_other, eq_self, false, finished_here, first_held, FitsAdc, Fresh, Full, group_at, group_of, group_word}
 use Terms.{GroupAgrees, GroupState, has_bit, has_turn, HasWords, held_in, HeldRight, HoldsOrder, inl, inputs_of, inr}
 use Terms.{is_continuous, is_done, Is_finished, is_finished, is_full, is_on, is_owed, is_round_of, is_some, IsAlone}
 use Terms.{IsBlock, IsOrder, IsOver, IsSoundGroup, IsSoundRequest, kept_by, kept_in, kept_of_round, le_since, left_of}
@@ -23,7 +23,7 @@ use Terms.{TriggersAgree, trio_of, true, turn_round, unit_block, unit_is, unit_o
 use Terms.{unit_set, UnitAgrees, untouched, values_of, waiting, waits_other, whole_values, with_round_of, within}
 use Terms.{without_mark, word_number, word_of, World, ℕ}
 use Rattle.adc_groups.specs.laws.bookkeeping.FrameRule.{turn_same}
-use Rattle.adc_serving.specs.laws.{services.ClaimRight.{claiming, claimed_parts}, words.CommittedWords.{part_of}}
+use Rattle.adc_serving.specs.laws.{services.ClaimRight.{claiming}, words.CommittedWords.{part_of}}
 use Rattle.adc_serving.specs.laws.{words.CommittedWords.{newest_pushed, quarter_left, rest_left, committed}}
 use Rattle.adc_serving.specs.laws.{words.CommittedWords.{stands_committed, newest_committed, value_stored}}
 use Rattle.adc_serving.specs.laws.{words.CommittedWords.{group_unstored, place_unstored}, services.CopyRight.{got}}
@@ -194,16 +194,16 @@ module _ (d : AdcTable) (fits : FitsAdc d) (below : Reservations) (chip : Chip) 
         by false false = and_on (group_at s g).trigger
 
     sound : is_full (group_of d g) (length (group_at s g).rounds + 1) ≡ f → is_continuous (group_of d g) ≡ c → IsSoundGroup d t g
-    sound ef ec = subst (λ z. SoundGroup (group_of d g) (has_turn t g) z) (sym group_now) (subst (λ q. SoundGroup (group_of d g) q (served_group d s g u few lt past x.request.number values f c)) (sym turn_now) (by f c ef ec))
+    sound ef ec = subst (λ z. SoundGroup (group_of d g) (has_turn t g) z) (sym group_now) (subst (λ q. SoundGroup (group_of d g) q (served_group d s g u few lt past x.request.number values f c)) (sym turn_now) (sound_after f c ef ec))
       where
         hears : is_some (trigger_input (group_of d g)) ≡ true → (group_at s g).trigger ≡ true
         hears i = h.sound.hears g turn_was i
 
-        by : (f c : Bool) → is_full (group_of d g) (length (group_at s g).rounds + 1) ≡ f → is_continuous (group_of d g) ≡ c → SoundGroup (group_of d g) (c && not f) (served_group d s g u few lt past x.request.number values f c)
-        by true true ef ec = after_full (group_of d g) (group_at s g) there (some_samples d fits g there) was_sound hears values whole_round ef
-        by true false ef ec = after_full (group_of d g) (group_at s g) there (some_samples d fits g there) was_sound hears values whole_round ef
-        by false true ef ec = after_again (group_of d g) (group_at s g) there (some_samples d fits g there) was_sound hears values whole_round (Some (record { number = x.request.number; kept = [] })) ef ec
-        by false false ef ec = after_rest (group_of d g) (group_at s g) there (some_samples d fits g there) was_sound hears values whole_round ef ec
+        sound_after : (f c : Bool) → is_full (group_of d g) (length (group_at s g).rounds + 1) ≡ f → is_continuous (group_of d g) ≡ c → SoundGroup (group_of d g) (c && not f) (served_group d s g u few lt past x.request.number values f c)
+        sound_after true true ef ec = after_full (group_of d g) (group_at s g) there (some_samples d fits g there) was_sound hears values whole_round ef
+        sound_after true false ef ec = after_full (group_of d g) (group_at s g) there (some_samples d fits g there) was_sound hears values whole_round ef
+        sound_after false true ef ec = after_again (group_of d g) (group_at s g) there (some_samples d fits g there) was_sound hears values whole_round (Some (record { number = x.request.number; kept = [] })) ef ec
+        sound_after false false ef ec = after_rest (group_of d g) (group_at s g) there (some_samples d fits g there) was_sound hears values whole_round ef ec
 
   -- ---- the chip after all moves
 
@@ -550,7 +550,7 @@ module _ (d : AdcTable) (fits : FitsAdc d) (below : Reservations) (chip : Chip) 
     promised k (inr ne) = promised_same d w s t1 k (rounds_as f c k ne) (waits_other d s t1 g k (off_group d fits g u k at ne) waits) before after (λ e. e) (λ e. e) ((h.settled on).promised k)
 
     waits_fresh : (r : Request) → (group_at t1 g).waiting ≡ Some r → IsSoundRequest d t1 g r
-    waits_fresh r e = by f c (sym (ap (λ (q : GroupState). q.waiting) (group_now f c)) ∙ e) (rest_as f c).1
+    waits_fresh r e = request_sound f c (sym (ap (λ (q : GroupState). q.waiting) (group_now f c)) ∙ e) (rest_as f c).1
       where
         none : (o : Option Request) → o ≡ None → o ≡ Some r → ⊥
         none o i j = none_some (sym i ∙ j)
@@ -558,11 +558,11 @@ module _ (d : AdcTable) (fits : FitsAdc d) (below : Reservations) (chip : Chip) 
         some_inputs_left : 0 < length (inputs_of (group_of d g))
         some_inputs_left = some_left (length x.request.kept) (length (inputs_of (group_of d g))) sound_request.2
 
-        by : (f c : Bool) → (served_group d s g u few lt past x.request.number values f c).waiting ≡ Some r → t1.requests ≡ s.requests → IsSoundRequest d t1 g r
-        by true true i same = absurd (none (group_at s g).waiting waits_none i)
-        by false true i same =
+        request_sound : (f c : Bool) → (served_group d s g u few lt past x.request.number values f c).waiting ≡ Some r → t1.requests ≡ s.requests → IsSoundRequest d t1 g r
+        request_sound true true i same = absurd (none (group_at s g).waiting waits_none i)
+        request_sound false true i same =
             subst (λ (q : Request). IsSoundRequest d t1 g q) (some_same i) (sound_request.0, subst (λ n. x.request.number ≤ n) (sym same) sound_request.1, some_inputs_left, λ k. refl)
-        by _ _ i same = absurd (none (group_at s g).waiting waits_none i)
+        request_sound _ _ i same = absurd (none (group_at s g).waiting waits_none i)
 
     hears_now : has_turn t1 g ≡ true → is_some (trigger_input (group_of d g)) ≡ true → (group_at t1 g).trigger ≡ true
     hears_now turned i = trigger_now f c ∙ (ap (λ q. q && not f) (h.sound.hears g turn_was i) ∙ by f c (sym (turn_now f c) ∙ turned))

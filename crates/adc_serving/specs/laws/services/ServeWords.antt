@@ -5,12 +5,12 @@
 use Rattle.std.proofs.Common.{◌≡◌, ◌≢◌, ◌+◌, ◌-◌, ◌*◌, ◌<◌, ◌≤◌, ◌&&◌, ◌||◌, ◌==◌, [], ◌∷◌, ◌++◌, ◌∙◌, if◌then◌else◌}
 use Rattle.adc_serving.specs.Terms
 use Terms.{AdcTable, after_list, AllMay, AllOf, and_false, ap, arith, bits_few, Bool, Chip, chip_after, claim_words}
-use Terms.{Continuation, ConverterAck, deed_move, deeds_low, deeds_other, deeds_unit, DiffersIn, Entry, false, FitsAdc}
-use Terms.{flag_left, group_of, group_word, has_bit, has_bit-without, HasWords, holds-agree, HoldsOrder, is_some}
-use Terms.{is_word, length, length_after, List, low_last, low_words, lows_set, making_owed, nat_tests, None, not}
-use Terms.{off_block, off_where, order_of, other_last, owed_of, owed_own, own-control, own_named, refl, rounds_of}
-use Terms.{running_words, set_at, stands-move, stands_last, stands_list, StandsIn, start_from, STATE, Store}
-use Terms.{stored_other, stored_same, subst, sym, trigger_bit, trio_of, trio_words, true, turn_deed, units_set}
+use Terms.{Continuation, ConverterAck, deed_move, deeds_low, deeds_other, deeds_unit, DiffersIn, Entry, false}
+use Terms.{FitsAdc, flag_left, group_of, group_word, has_bit, has_bit-without, HasWords, holds-agree, HoldsOrder}
+use Terms.{is_some, is_word, length, length_after, List, low_last, low_words, lows_set, making_owed, nat_tests, None}
+use Terms.{not, off_block, off_where, order_of, order_within, other_last, owed_of, owed_own, own-control, own_named}
+use Terms.{refl, rounds_of, running_words, set_at, stands-move, stands_last, stands_list, StandsIn, start_from, STATE}
+use Terms.{Store, stored_other, stored_same, subst, sym, trigger_bit, trio_of, trio_words, true, turn_deed, units_set}
 use Terms.{WindowWrite, word_number, word_of, word_there, World, ℕ}
 use Rattle.word_shapes.specs.PriorityQueue.{own_of}
 use Rattle.chip_converter.specs.Converters as chips
@@ -59,9 +59,6 @@ serves_control d u g c p n false false a = refl
 
 set_high : (i v j x : ℕ) → i < j → (if i == j then v else x) ≡ x
 set_high i v j x lt = let off : (i == j) ≡ false = grind (arith, nat_tests) in ap (λ q. if q then v else x) off
-
-within_order : (k at : ℕ) → k == at || (k == at + 1 || k == at + 2) ≡ true → (at ≤ k) × (k ≤ at + 2)
-within_order k at e = (grind (arith, nat_tests), grind (arith, nat_tests))
 
 -- ---- the words after them
 
@@ -119,7 +116,7 @@ module _ (d : AdcTable) (fits : FitsAdc d) (g u : ℕ) (here : is_some (group_of
       ∙ (other_told k (λ e. f 7 (omega arith) (e ∙ sym is_control)) ∙ other_last d fits g u here few chip whole (deeds.Write (ConverterAck u) 1) tt c differs [] tt k f h)
 
   pub order_served : (xs : List Entry) → HoldsOrder (order_of u) (word_of c) xs → HoldsOrder (order_of u) (word_of last) xs
-  order_served xs = holds-agree (order_of u) (word_of c) (word_of last) xs (λ k own. sym (same k (within_order k (STATE + 10 + 8 * u) own)))
+  order_served xs = holds-agree (order_of u) (word_of c) (word_of last) xs (λ k own. sym (same k (order_within k (STATE + 10 + 8 * u) own)))
     where
       stays : (j : ℕ) → 2 ≤ j → j < 5 → word_of last (STATE + 8 + 8 * u + j) ≡ word_of c (STATE + 8 + 8 * u + j)
       stays j le lt =

@@ -1,19 +1,19 @@
 -- A served round is copied to the user's buffer, value by value with the mask open; then its group is notified, where that is on.
--- From words.WordsChange, adc_groups: words.WordsOfModule, service_outline: Words and 2 more.
+-- From adc_groups: words.WordsChange, adc_groups: words.WordsOfModule, service_outline: Words and 2 more.
 -- Used by services.NoticeSteps, adc_driver: bookkeeping.MayMove, services.OpenMaskSteps.
 use Rattle.std.proofs.Common.{◌≡◌, ◌≢◌, ◌+◌, ◌*◌, ◌/◌, ◌%◌, ◌<◌, ◌≤◌, ◌&&◌, ◌||◌, ◌==◌, [], ◌∷◌, ◌∙◌, ◌⊎◌}
 use Rattle.adc_serving.specs.Terms
-use Terms.{AdcState, AdcTable, Agrees, AllRight, ap, arith, Bank, bank_below, bank_number, bank_word, bit_of, Bool}
-use Terms.{buffer_by, buffer_in, Call, Chip, chip_after, claim_right, Column, column_word, Copies}
-use Terms.{CopiesRight, Entered, eq_is, false, Fills, FitsAdc, Full, Group, group_of, HasWords, HeldRight, inl}
-use Terms.{inputs_of, inr, is_owed, is_same, is_some, Keeps, length, mod-add-div, mul-le-mul, mul-le-mul_right}
+use Terms.{AdcState, AdcTable, Agrees, all_stay, AllRight, AllStay, ap, arith, Bank, bank_below, bank_number}
+use Terms.{bank_word, banks_stay, BankStays, bit_of, Bool, buffer_by, buffer_in, Call, Chip, chip_after, claim_right}
+use Terms.{Column, column_word, Copies, CopiesRight, core_place, CoreStays, Entered, eq_is, false, Fills, FitsAdc}
+use Terms.{Full, Group, group_of, HasWords, HeldRight, holds_anew, HoldStays, inl, inputs_of, inr, is_owed, is_same}
+use Terms.{is_some, Keeps, kept_place, kept_within, KeptStays, length, mod-add-div, mul-le-mul, mul-le-mul_right}
 use Terms.{mul_comm, nat_le, nat_tests, None, on_there, Option, or_parts, own-control, own-word, own_of, place_count}
 use Terms.{place_value, place_words, Reads, refl, Reservation, Reservations, ReservedBy, result_word, ResultBuffer}
-use Terms.{rounds_of, same_or_other, samples_of, Some, some_hold, stands-agree, Starts, Store, stored_other}
-use Terms.{stored_same, subst, sym, trio_of, true, unit_of, unit_small, unit_within, USERS, Whole, word_number, word_of}
-use Terms.{word_there, World, ℕ}
-use Rattle.adc_serving.specs.laws.{services.ClaimRight.{claiming}, words.WordsChange.{BankStays, HoldStays, AllStay}}
-use Rattle.adc_serving.specs.laws.{words.WordsChange.{CoreStays, all_stay, stays_agree, core_place, trio_far}}
+use Terms.{rounds_of, same_or_other, samples_of, Some, some_hold, Starts, stays_agree, Store, stored_other}
+use Terms.{stored_same, subst, sym, trio_far, trio_of, true, unit_of, unit_small, unit_within, USERS, Whole}
+use Terms.{word_number, word_of, word_there, World, ℕ}
+use Rattle.adc_serving.specs.laws.services.ClaimRight.{claiming}
 use Rattle.adc_machine.specs.declared.call.ResultBuffer.TheVariants as buffers
 use Rattle.adc_groups.specs.declared.words.Word.TheVariants as words
 
@@ -77,20 +77,8 @@ teller u b c i v below = claiming u (Copies b c i v) below
 module _ (d : AdcTable) (below : Reservations) (chip : Chip) (w : World) (s : AdcState) (u : ℕ) (b : Bank) (c : Column) where
   -- one more value was read
   pub tells_value : (i : ℕ) (v x : Option ℕ) → ((n : ℕ) → x ≡ Some n → n ≡ place_value s c.group (buffer_in c) (i * c.samples + c.place)) → Agrees d (teller u b c i v below) chip w s → Agrees d (teller u b c i x below) chip w s
-  tells_value i v x next h = record {
-    sound = h.sound;
-    outside = h.outside;
-    state = h.state;
-    right = ((h.right.0.0, h.right.0.1, h.right.0.2, (let q = h.right.0.3 in record { newest = q.newest; values = q.values; next = next })), h.right.1);
-    banks = λ k there. (let q = h.banks k there in record { banks = q.banks; stands = q.stands; newest = q.newest; put = q.put; take = q.take });
-    block = h.block;
-    rounds = h.rounds;
-    triggers = h.triggers;
-    places = λ k n p lt free. h.places k n p lt free;
-    backed = (λ n e. absurd (cc), h.backed.1);
-    settled = λ f. (let q = h.settled f in record { groups = q.groups; units = q.units; claims = λ n lt. q.claims n lt; lines = q.lines; promised = λ n. (let z = q.promised n in record { starts = z.starts; yields = z.yields }) });
-    left = λ off. absurd (let on = h.right.0.1 in cc);
-  }
+  tells_value i v x next h = holds_anew h (record { puts = λ k. refl; takes = λ k. refl; owed = λ k n p lt free. free; claims = λ n v e. e; clears = λ e. e })
+      ((h.right.0.0, h.right.0.1, h.right.0.2, (let q = h.right.0.3 in record { newest = q.newest; values = q.values; next = next })), h.right.1) (λ n e. absurd (cc), h.backed.1) (λ n z. record { starts = z.starts; yields = z.yields })
 
   -- all are in the buffer
   module _ (fits : FitsAdc d) (samples : c.samples ≡ samples_of (group_of d c.group)) (within : c.place < c.samples) (h : Agrees d (teller u b c (length (inputs_of (group_of d c.group))) None below) chip w s) where
@@ -98,30 +86,18 @@ module _ (d : AdcTable) (below : Reservations) (chip : Chip) (w : World) (s : Ad
     there = h.right.0.2
 
     free_again : (k : ℕ) (n : ResultBuffer) (p : ℕ) → p < place_count d k → is_owed k n p (Copies b c (length (inputs_of (group_of d c.group))) None) ≡ false
-    free_again k n p lt = by (c.group == k) refl (is_same (buffer_in c) n) (p % c.samples == c.place) (nat_le (length (inputs_of (group_of d c.group))) (p / c.samples)) refl
+    free_again k n p lt = not_owed (c.group == k) refl (is_same (buffer_in c) n) (p % c.samples == c.place) (nat_le (length (inputs_of (group_of d c.group))) (p / c.samples)) refl
       where
-        by : (q : Bool) → (c.group == k) ≡ q → (a z o : Bool) → nat_le (length (inputs_of (group_of d c.group))) (p / c.samples) ≡ o → q && (a && (z && o)) ≡ false
-        by true e true true true i = absurd (owed_none d fits c there samples within p (subst (λ m. p < place_count d m) (sym (eq_is c.group k e)) lt) (le (length (inputs_of (group_of d c.group))) (p / c.samples) i))
+        not_owed : (q : Bool) → (c.group == k) ≡ q → (a z o : Bool) → nat_le (length (inputs_of (group_of d c.group))) (p / c.samples) ≡ o → q && (a && (z && o)) ≡ false
+        not_owed true e true true true i = absurd (owed_none d fits c there samples within p (subst (λ m. p < place_count d m) (sym (eq_is c.group k e)) lt) (le (length (inputs_of (group_of d c.group))) (p / c.samples) i))
           where
             le : (x y : ℕ) → nat_le x y ≡ true → x ≤ y
             le x y f = grind (arith, nat_tests)
-        by _ e _ _ _ i = refl
+        not_owed _ e _ _ _ i = refl
 
     pub tells_all : Agrees d (record { by = Entered (24 + u); what = Starts u; acted = None } ∷ below) chip w s
-    tells_all = record {
-      sound = h.sound;
-      outside = h.outside;
-      state = h.state;
-      right = h.right.1;
-      banks = λ k here. (let q = h.banks k here in record { banks = q.banks; stands = q.stands; newest = q.newest; put = q.put; take = q.take });
-      block = h.block;
-      rounds = h.rounds;
-      triggers = h.triggers;
-      places = λ k n p lt free. h.places k n p lt (ap (λ q. q || some_hold (is_owed k n p) below) (free_again k n p lt) ∙ free);
-      backed = h.backed.1;
-      settled = λ f. (let q = h.settled f in record { groups = q.groups; units = q.units; claims = λ n lt. q.claims n lt; lines = q.lines; promised = λ n. (let z = q.promised n in record { starts = z.starts; yields = z.yields }) });
-      left = λ off. absurd (let on = h.right.0.1 in cc);
-    }
+    tells_all = holds_anew h (record { puts = λ k. refl; takes = λ k. refl; owed = λ k n p lt free. ap (λ q. q || some_hold (is_owed k n p) below) (free_again k n p lt) ∙ free; claims = λ n v e. e; clears = λ e. e })
+        h.right.1 h.backed.1 (λ n z. record { starts = z.starts; yields = z.yields })
 
 -- ---- a value is stored in the buffer
 
@@ -146,6 +122,9 @@ module _ (d : AdcTable) (fits : FitsAdc d) (below : Reservations) (chip : Chip) 
 
   core : CoreStays d chip now
   core = core_place d fits chip x whole c.group (buffer_in c) (i * c.samples + c.place)
+
+  kept_stays : (k : ℕ) → is_some (group_of d k) ≡ true → KeptStays d chip now k
+  kept_stays = kept_place d fits chip x whole c.group (buffer_in c) (i * c.samples + c.place)
 
   counted : i * c.samples + c.place < place_count d c.group
   counted = place_within d fits c here samples within i lt
@@ -172,8 +151,8 @@ module _ (d : AdcTable) (fits : FitsAdc d) (below : Reservations) (chip : Chip) 
   one_stays : (y : ReservedBy Call Reservation) (z : Reservation) → HeldRight d chip w s y z → HoldStays d chip now z
   one_stays y (Fills v k m n j q) r = bank_stays k n (on_there v (group_of d k) r.2)
   one_stays y (Full v k n) r = bank_stays k n (on_there v (group_of d k) r.2)
-  one_stays y (Keeps v k m n j q) r = (λ f. sym (claim_stays v (unit_within d fits v k r.1)) ∙ f, λ f. claim_stays v (unit_within d fits v k r.1) ∙ f)
-  one_stays y (Whole v k n) r = λ f. sym (claim_stays v (unit_within d fits v k r.1)) ∙ f
+  one_stays y (Keeps v k m n j q) r = (λ f. sym (claim_stays v (unit_within d fits v k r.1)) ∙ f, λ f. claim_stays v (unit_within d fits v k r.1) ∙ f, kept_stays k (on_there v (group_of d k) r.1))
+  one_stays y (Whole v k n) r = (λ f. sym (claim_stays v (unit_within d fits v k r.1)) ∙ f, kept_stays k (on_there v (group_of d k) r.1))
   one_stays y (Copies n k j q) r = (ap (λ m. m % 4) (control_stays k.group r.2), bank_stays k.group n r.2)
   one_stays y (Reads k n vs) r = (ap (λ m. m / 4) (control_stays k r.2), bank_stays k n r.2)
   one_stays y _ r = tt
@@ -202,18 +181,18 @@ module _ (d : AdcTable) (fits : FitsAdc d) (below : Reservations) (chip : Chip) 
   same_buffer _ _ e = refl
 
   few_places : (k p : ℕ) → p < place_count d k → p < 2048
-  few_places k p less = by (group_of d k) refl less
+  few_places k p less = place_small (group_of d k) refl less
     where
-      by : (o : Option Group) → group_of d k ≡ o → p < length (inputs_of o) * samples_of o → p < 2048
-      by None e few = absurd (omega (arith, few))
-      by (Some o) e few =
+      place_small : (o : Option Group) → group_of d k ≡ o → p < length (inputs_of o) * samples_of o → p < 2048
+      place_small None e few = absurd (omega (arith, few))
+      place_small (Some o) e few =
           let g = fits.groups k o e in
           let a = mul-le-mul g.few g.places.1 in
           omega (arith, few, a)
 
   -- a place that is owed no value any more, and isn't this one, was owed none before
   owed_before : (k : ℕ) (n : ResultBuffer) (p : ℕ) → (result_word k n p ≡ word → ⊥) → is_owed k n p (Copies b c (i + 1) None) ≡ false → is_owed k n p (Copies b c i (Some x)) ≡ false
-  owed_before k n p ne free = by (c.group == k) refl (is_same (buffer_in c) n) refl (p % c.samples == c.place) refl (nat_le i (p / c.samples)) refl free
+  owed_before k n p ne free = free_before (c.group == k) refl (is_same (buffer_in c) n) refl (p % c.samples == c.place) refl (nat_le i (p / c.samples)) refl free
     where
       le : (x y : ℕ) → nat_le x y ≡ true → x ≤ y
       le x y f = grind (arith, nat_tests)
@@ -221,11 +200,11 @@ module _ (d : AdcTable) (fits : FitsAdc d) (below : Reservations) (chip : Chip) 
       past : (x y : ℕ) → nat_le x y ≡ false → x ≤ y → ⊥
       past x y f g = grind (arith, nat_tests)
 
-      by : (q : Bool) → (c.group == k) ≡ q → (a : Bool) → is_same (buffer_in c) n ≡ a → (z : Bool) → (p % c.samples == c.place) ≡ z → (o : Bool) → nat_le i (p / c.samples) ≡ o → q && (a && (z && nat_le (i + 1) (p / c.samples))) ≡ false → q && (a && (z && o)) ≡ false
-      by true e true f true g true j free = absurd (ne (
+      free_before : (q : Bool) → (c.group == k) ≡ q → (a : Bool) → is_same (buffer_in c) n ≡ a → (z : Bool) → (p % c.samples == c.place) ≡ z → (o : Bool) → nat_le i (p / c.samples) ≡ o → q && (a && (z && nat_le (i + 1) (p / c.samples))) ≡ false → q && (a && (z && o)) ≡ false
+      free_before true e true f true g true j free = absurd (ne (
           let is = owed_place d fits c here samples within i p (eq_is (p % c.samples) c.place g) (le i (p / c.samples) j) (past (i + 1) (p / c.samples) free) in
           ap (λ m. result_word m n p) (sym (eq_is c.group k e)) ∙ (ap (λ m. result_word c.group m p) (sym (same_buffer (buffer_in c) n f)) ∙ ap (λ m. result_word c.group (buffer_in c) m) is)))
-      by _ e _ f _ g _ j free = refl
+      free_before _ e _ f _ g _ j free = refl
 
   places_by : (k : ℕ) (n : ResultBuffer) (p : ℕ) → p < place_count d k → some_hold (is_owed k n p) after ≡ false → (result_word k n p ≡ word) ⊎ (result_word k n p ≢ word) → word_of now (result_word k n p) ≡ place_value s k n p
   places_by k n p less free (inl e) =
@@ -250,10 +229,11 @@ module _ (d : AdcTable) (fits : FitsAdc d) (below : Reservations) (chip : Chip) 
       ),
       (h.right.1.0, all_stay d fits (teller u b c i (Some x) below) chip now w s h on core below (below_stay below h.right.1.1) h.right.1.1),
     );
-    banks = λ k there. (let q = h.banks k there in record { banks = q.banks; stands = stands-agree (trio_of (rounds_of d k)) (word_of chip) (word_of now) q.banks (λ j own. sym (trio_stays k j there own)) q.stands; newest = q.newest; put = q.put; take = q.take });
+    banks = λ k there. banks_stay chip now (h.banks k there) (λ j own. trio_stays k j there own) refl refl;
     places = λ k n p less free. places_by k n p less free (same_or_other (result_word k n p) word);
     backed = (λ n e. absurd (cc), h.backed.1);
     claimed = λ k there ne same. ne (claim_stays (unit_of (group_of d k)) (unit_small d fits k there) ∙ same);
     claims = λ v less. ap (λ n. claim_right (teller u b c i (Some x) below) v n) (claim_stays v less) ∙ (h.settled on).claims v less;
     promised = λ v. (let q = (h.settled on).promised v in record { starts = q.starts; yields = q.yields });
+    kept = λ k there off j v is. kept_stays k there j (kept_within d w s h.sound k j v is);
   })

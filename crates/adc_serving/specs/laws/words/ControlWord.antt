@@ -1,19 +1,19 @@
 -- The control word of a group's banks is stored: the newest bank is pinned, or a pin ends.
--- From words.WordsChange, adc_groups: words.WordsOfModule, service_outline: Words, adc_groups: words.Cases and 2 more.
+-- From adc_groups: words.WordsChange, adc_groups: words.WordsOfModule, service_outline: Words, adc_groups: words.Cases and 2 more.
 -- Used by services.PinRight, services.ReadRight, services.CopyRight, services.TakeRoundSteps, words.CommittedWords.
 use Rattle.std.proofs.Common.{◌≡◌, ◌≢◌, ◌+◌, ◌*◌, ◌/◌, ◌%◌, ◌<◌, ◌==◌, [], ◌∷◌, ◌∙◌, ◌⊎◌, if◌then◌else◌}
 use Rattle.adc_serving.specs.Terms
-use Terms.{AdcState, AdcTable, Agrees, AllRight, ap, arith, Bank, bank_below, bank_number, bank_of, bank_word, Banks}
-use Terms.{BanksAgree, Bool, Call, Called, cases, Chip, chip_after, claim_right, control-apart, Copies, EOk, eq_other}
-use Terms.{eq_self, false, Fills, first_held, Fits, FitsAdc, Full, group_of, HasWords, HeldRight, inl, inputs_of, inr}
-use Terms.{is_some, IsBank, Keeps, length, List, listed, named_with, nat_tests, newest-in, None, on_there, Option}
-use Terms.{option_map, or_else, own-control, own-word, own_of, pinning, pins, put_of, ReadGroup, Reads, refl}
+use Terms.{AdcState, AdcTable, Agrees, all_stay, AllRight, AllStay, ap, arith, Bank, bank_below, bank_number, bank_of}
+use Terms.{bank_word, Banks, banks_stay, BanksAgree, BankStays, Bool, Call, Called, cases, Chip, chip_after}
+use Terms.{claim_right, control-apart, Copies, core_trio, CoreStays, EOk, eq_other, eq_self, false, Fills, first_held}
+use Terms.{Fits, FitsAdc, Full, group_of, HasWords, HeldRight, HoldStays, inl, inputs_of, inr, is_some, IsBank, Keeps}
+use Terms.{kept_trio, kept_within, KeptStays, length, List, listed, named_with, nat_tests, newest-in, None, on_there}
+use Terms.{Option, option_map, or_else, own-control, own-word, own_of, pinning, pins, put_of, ReadGroup, Reads, refl}
 use Terms.{releases, releasing, Reservation, Reservations, ReservedBy, result_word, ResultBuffer, rounds_of}
-use Terms.{same_or_other, Some, Stands, stands-agree, start_from, Store, stored, stored_other, stored_same, subst}
-use Terms.{sym, take_of, Taking, trio_of, trio_words, TripleBuffer, true, unit_of, unit_small, unit_within, Whole}
-use Terms.{word_at, word_number, word_of, word_there, WORDS, words-after, World, ℕ}
-use Rattle.adc_serving.specs.laws.words.WordsChange.{BankStays, HoldStays, AllStay, CoreStays, all_stay, stays_agree}
-use Rattle.adc_serving.specs.laws.words.WordsChange.{core_trio, trio_other, trio_claim, trio_result}
+use Terms.{same_or_other, Some, Stands, stands-agree, start_from, stays_agree, Store, stored, stored_other}
+use Terms.{stored_same, subst, sym, take_of, Taking, trio_claim, trio_of, trio_other, trio_result, trio_words}
+use Terms.{TripleBuffer, true, unit_of, unit_small, unit_within, Whole, word_at, word_number, word_of, word_there}
+use Terms.{WORDS, words-after, World, ℕ}
 use Rattle.adc_machine.specs.declared.call.Call.TheVariants as calls
 use Rattle.adc_groups.specs.declared.words.Word.TheVariants as words
 
@@ -73,6 +73,9 @@ module _ (d : AdcTable) (fits : FitsAdc d) (g : ℕ) (there : is_some (group_of 
     claim_stays : (u : ℕ) → u < 2 → word_of now (word_number d (words.Claim u)) ≡ word_of c (word_number d (words.Claim u))
     claim_stays u few = trio_claim d fits c value whole g (trio_of (rounds_of d g)).control there (own-control (trio_of (rounds_of d g))) u few
 
+    kept_stays : (k : ℕ) → is_some (group_of d k) ≡ true → KeptStays d c now k
+    kept_stays = kept_trio d fits c value whole g (trio_of (rounds_of d g)).control there (own-control (trio_of (rounds_of d g)))
+
     place_stays : (k : ℕ) (n : ResultBuffer) (p : ℕ) → word_of now (result_word k n p) ≡ word_of c (result_word k n p)
     place_stays k n p = trio_result d fits c value whole g (trio_of (rounds_of d g)).control there (own-control (trio_of (rounds_of d g))) k n p
 
@@ -91,8 +94,8 @@ module _ (d : AdcTable) (fits : FitsAdc d) (g : ℕ) (there : is_some (group_of 
       one_stays : (w : World) (s : AdcState) (x : ReservedBy Call Reservation) (z : Reservation) → HeldRight d c w s x z → take_of g z ≡ None → HoldStays d c now z
       one_stays w s x (Fills u k e n i y) r none = bank_stays k n (on_there u (group_of d k) r.2)
       one_stays w s x (Full u k n) r none = bank_stays k n (on_there u (group_of d k) r.2)
-      one_stays w s x (Keeps u k e n i y) r none = (λ e. sym (claim_stays u (unit_within d fits u k r.1)) ∙ e, λ e. claim_stays u (unit_within d fits u k r.1) ∙ e)
-      one_stays w s x (Whole u k n) r none = λ e. sym (claim_stays u (unit_within d fits u k r.1)) ∙ e
+      one_stays w s x (Keeps u k e n i y) r none = (λ e. sym (claim_stays u (unit_within d fits u k r.1)) ∙ e, λ e. claim_stays u (unit_within d fits u k r.1) ∙ e, kept_stays k (on_there u (group_of d k) r.1))
+      one_stays w s x (Whole u k n) r none = (λ e. sym (claim_stays u (unit_within d fits u k r.1)) ∙ e, kept_stays k (on_there u (group_of d k) r.1))
       one_stays w s x (Copies n k i y) r none = (control_low k.group r.2, bank_stays k.group n r.2)
       one_stays w s x (Reads k n vs) r none = (ap (λ v. v / 4) (other_trio k (trio_of (rounds_of d k)).control r.2 (λ e. other (g == k) refl none (sym e)) (own-control (trio_of (rounds_of d k)))), bank_stays k n r.2)
         where
@@ -106,13 +109,7 @@ module _ (d : AdcTable) (fits : FitsAdc d) (g : ℕ) (there : is_some (group_of 
       control_stays w s (x ∷ xs) r none = let both = none_first (take_of g x.what) (first_held (take_of g) xs) none in (one_stays w s x x.what r.0 both.0, control_stays w s xs r.1 both.1)
 
       pub others_agree : (before after : Reservations) (s : AdcState) (k : ℕ) → is_some (group_of d k) ≡ true → k ≢ g → (q : BanksAgree d before (word_of c) s k) → first_held (put_of d k) after ≡ first_held (put_of d k) before → first_held (take_of k) after ≡ first_held (take_of k) before → BanksAgree d after (word_of now) s k
-      others_agree before after s k here ne q put taken = record {
-        banks = q.banks;
-        stands = stands-agree (trio_of (rounds_of d k)) (word_of c) (word_of now) q.banks (λ j own. sym (other_trio k j here ne own)) q.stands;
-        newest = q.newest;
-        put = q.put ∙ sym put;
-        take = q.take ∙ sym taken;
-      }
+      others_agree before after s k here ne q put taken = banks_stay c now q (λ j own. other_trio k j here ne own) (sym put) (sym taken)
 
 none_mapped : {A B : Type 0} (f : A → B) (q : Option A) → option_map f q ≡ None → q ≡ None
 none_mapped f None e = refl
@@ -208,6 +205,7 @@ module _ (d : AdcTable) (fits : FitsAdc d) (g : ℕ) (there : is_some (group_of 
       claimed = λ k here ne same. ne (claim_stays d fits g there c h.outside.all.words value (unit_of (group_of d k)) (unit_small d fits k here) ∙ same);
       claims = λ u few. ap (λ x. claim_right below u x) (claim_stays d fits g there c h.outside.all.words value u few) ∙ (h.settled on).claims u few;
       promised = λ u. (let q = (h.settled on).promised u in record { starts = q.starts; yields = q.yields });
+      kept = λ k here off j x is. kept_stays d fits g there c h.outside.all.words value k here j (kept_within d w s h.sound k j x is);
     })
 
   -- ---- the pin ends
@@ -245,4 +243,5 @@ module _ (d : AdcTable) (fits : FitsAdc d) (g : ℕ) (there : is_some (group_of 
       claimed = λ k here ne same. ne (claim_stays d fits g there c h.outside.all.words (v % 4) (unit_of (group_of d k)) (unit_small d fits k here) ∙ same);
       claims = λ u few. ap (λ x. claim_right below u x) (claim_stays d fits g there c h.outside.all.words (v % 4) u few) ∙ (h.settled on).claims u few;
       promised = λ u. (let q = (h.settled on).promised u in record { starts = q.starts; yields = q.yields });
+      kept = λ k here off j x is. kept_stays d fits g there c h.outside.all.words (v % 4) k here j (kept_within d w s h.sound k j x is);
     })

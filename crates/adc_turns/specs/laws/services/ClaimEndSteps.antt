@@ -42,7 +42,7 @@ module _ (d : AdcTable) (fits : FitsAdc d) (f r : AdcBody → ℕ) (below : Rese
 
   -- the claim of a frame ends with what waits first, or alone
   leave_sought : (u : ℕ) (o : Origin Call) (p : FrameHistory) → MaySeek d (windows.Leave u) below w s o p → Agrees d (with_holds o p.acted (hold_in (windows.Leave u)) below) chip w s → (xs : List Entry) → HoldsOrder (order_of u) (word_of chip) xs → (K : Place) (k v : ℕ) → DecidedRight d f r below chip w s o (Load k) false v y p missed K (sought d (windows.Leave u) (choice (ranks_of d) xs))
-  leave_sought u o p is h xs holds K k v = by (next_group d s u) refl
+  leave_sought u o p is h xs holds K k v = starts_or_leaves (next_group d s u) refl
     where
       unit : UnitAgrees d (word_of chip) s u
       unit = (h.settled is.2).units u is.1
@@ -50,11 +50,11 @@ module _ (d : AdcTable) (fits : FitsAdc d) (f r : AdcBody → ℕ) (below : Rese
       same : xs ≡ unit.order.0
       same = sym holds.is ∙ unit.order.1.is
 
-      by : (q : Option ℕ) → next_group d s u ≡ q → DecidedRight d f r below chip w s o (Load k) false v y p missed K (sought d (windows.Leave u) (choice (ranks_of d) xs))
-      by None e =
+      starts_or_leaves : (q : Option ℕ) → next_group d s u ≡ q → DecidedRight d f r below chip w s o (Load k) false v y p missed K (sought d (windows.Leave u) (choice (ranks_of d) xs))
+      starts_or_leaves None e =
           let none : choice (ranks_of d) xs ≡ 16 = ap (λ z. choice (ranks_of d) z) same ∙ choice_none d s u unit.order.0 unit.order.2 (holds-below (order_of u) (word_of chip) unit.order.0 unit.order.1) e in
           subst (λ n. DecidedRight d f r below chip w s o (Load k) false v y p missed K (sought d (windows.Leave u) n)) (sym none) ((h, (refl, (is, e))), refl)
-      by (Some g) e =
+      starts_or_leaves (Some g) e =
           let first = choice_next d s u unit.order.0 unit.order.2 (holds-below (order_of u) (word_of chip) unit.order.0 unit.order.1) g e in
           let waits = and_parts (is_on u (group_of d g)) (is_some (group_at s g).waiting) (next_is d s u g e).waits in
           let small : nat_lt g 16 ≡ true = (let lt = first.1 in grind (arith, nat_tests)) in

@@ -4,23 +4,23 @@
 use Rattle.std.proofs.Common.{◌≡◌, ◌≢◌, ◌+◌, ◌-◌, ◌*◌, ◌/◌, ◌%◌, ◌<◌, ◌≤◌, ◌&&◌, ◌||◌, ◌==◌, [], ◌∷◌, ◌++◌, ◌∙◌, ◌⊎◌}
 use Rattle.std.proofs.Common.{if◌then◌else◌}
 use Rattle.adc_turns.specs.Terms
-use Terms.{AdcBody, AdcState, AdcTable, after_list, Agrees, all_changed, AllOf, AllSpare, and_second, ap, arith, Bool}
-use Terms.{Call, changed, Chip, claim_right, claim_stays, claim_words, claims_on, Closes, CommitsAfter, Continuation}
-use Terms.{Converters, Decided, DecidedRight, deed_move, deeds_listed, deeds_low, deeds_other, deeds_unit, eq_is}
-use Terms.{eq_isnt, eq_other, eq_self, false, FitsAdc, FrameHistory, Fresh, group_of, group_word, GroupAgrees}
-use Terms.{has_bit, has_turn, HasDone, HasWords, hold_in, holds-agree, inl, inputs_of, inr, is_on, is_some, is_word}
-use Terms.{IsBlock, keep, kept_in, kept_where, kept_word, length, List, Load, low_words, makes, making, making_owed}
-use Terms.{nat_tests, None, not, on_there, order_of, Origin, owed_of, owed_own, own_named, own_of, Place, place_stays}
-use Terms.{refl, Reservations, round_at, RoundAgrees, rounds_of, same_or_other, Set, set_at, settles_list, slice_get}
-use Terms.{Some, some_hold, stands-agree, stands_list, start_from, STATE, Stays, Store, subst, sym, TriggersAgree}
-use Terms.{trio_group, trio_of, true, unit_is, whether_as, WindowWrite, with_holds, word_number, word_of, World, ℕ}
+use Terms.{AdcBody, AdcState, AdcTable, after_list, Agrees, all_changed, AllOf, AllSpare, ap, arith, banks_stay, Bool}
+use Terms.{Call, changed, Chip, claim_right, claim_stays, claim_tells, claim_words, claims_on, Closes, CommitsAfter}
+use Terms.{Continuation, Converters, Decided, DecidedRight, deed_move, deeds_listed, deeds_low, deeds_other}
+use Terms.{deeds_unit, eq_is, eq_isnt, eq_other, false, FitsAdc, FrameHistory, Fresh, group_of, group_word}
+use Terms.{GroupAgrees, has_bit, has_turn, HasDone, HasWords, hold_in, holds-agree, inl, inputs_of, inr, is_on}
+use Terms.{is_some, is_word, IsBlock, keep, kept_in, kept_where, kept_word, length, List, Load, low_words, makes}
+use Terms.{making, making_owed, nat_tests, None, not, on_there, order_of, order_within, Origin, owed_of, owed_own}
+use Terms.{own_named, own_of, Place, place_stays, refl, Reservations, round_at, RoundAgrees, rounds_of, same_or_other}
+use Terms.{Set, set_at, settles_list, slice_get, Some, some_hold, stands_list, start_from, STATE, Stays, Store, subst}
+use Terms.{sym, TriggersAgree, trio_group, true, unit_is, whether_as, WindowWrite, with_holds, word_number, word_of}
+use Terms.{World, ℕ}
 use Rattle.adc_turns.specs.laws.services.ClaimEndRight.{claim_none}
 use Rattle.chip_converter.specs.Converters as chips
 use Rattle.adc_groups.specs.declared.making.Continuation.TheVariants as thens
 use Rattle.adc_groups.specs.declared.window.Window.TheVariants as windows
 use Rattle.adc_groups.specs.declared.words.Word.TheVariants as words
-use Rattle.mcal_base.specs.facts.Truths.{and_first}
-use Rattle.std.proofs.lemmas.Bool.{not-true, or_parts}
+use Rattle.std.proofs.lemmas.Bool.{or_parts}
 
 -- a word that keeps values is of that group, or the claim was lost
 of_group : (v k g : ℕ) → v ≡ 2 + k → (v == 2 + g) || (v == 1) ≡ true → k ≡ g
@@ -45,14 +45,8 @@ module _ (d : AdcTable) (fits : FitsAdc d) (f r : AdcBody → ℕ) (below : Rese
   free : round_at s u ≡ None
   free = h.right.0.2
 
-  top : ((claimed == 2 + g) || (claimed == 1)) && not (some_hold (claims_on u) below) ≡ true
-  top = sym (ap (λ q. if q then ((claimed == 2 + g) || (claimed == 1)) && not (some_hold (claims_on u) below) else claim_right below u claimed) (eq_self u)) ∙ (h.settled on).claims u few
-
-  fits_claim : (claimed == 2 + g) || (claimed == 1) ≡ true
-  fits_claim = and_first ((claimed == 2 + g) || (claimed == 1)) (not (some_hold (claims_on u) below)) top
-
-  none_below : some_hold (claims_on u) below ≡ false
-  none_below = not-true (some_hold (claims_on u) below) (and_second ((claimed == 2 + g) || (claimed == 1)) (not (some_hold (claims_on u) below)) top)
+  tells : ((claimed == 2 + g) || (claimed == 1) ≡ true) × (some_hold (claims_on u) below ≡ false)
+  tells = claim_tells u ((claimed == 2 + g) || (claimed == 1)) (claim_right below u claimed) below ((h.settled on).claims u few)
 
   -- by whether its values are kept
   module _ (q : Bool) (is : (claimed == 2 + g) ≡ q) where
@@ -112,16 +106,13 @@ module _ (d : AdcTable) (fits : FitsAdc d) (f r : AdcBody → ℕ) (below : Rese
     running_same = let at : STATE + 8 + 8 * u + 0 ≡ word_number d (words.Running u) = omega arith in subst (λ k. word_of b k ≡ word_of chip k) at (unit_word 0 (omega arith))
 
     order_same : (k : ℕ) → own_of (order_of u) k ≡ true → word_of chip k ≡ word_of b k
-    order_same k own = sym (by (within_order (STATE + 10 + 8 * u) k own))
+    order_same k own = sym (word_in_order_stays (order_within k (STATE + 10 + 8 * u) own))
       where
-        within_order : (at k : ℕ) → k == at || (k == at + 1 || k == at + 2) ≡ true → (at ≤ k) × (k ≤ at + 2)
-        within_order at k e = (grind (arith, nat_tests), grind (arith, nat_tests))
-
         kept_high : (j x : ℕ) → 2 ≤ j → set_at 1 0 j x ≡ x
         kept_high j x le = let off : (1 == j) ≡ false = grind (arith, nat_tests) in ap (λ c. if c then 0 else x) off
 
-        by : (STATE + 10 + 8 * u ≤ k) × (k ≤ STATE + 10 + 8 * u + 2) → word_of b k ≡ word_of chip k
-        by x =
+        word_in_order_stays : (STATE + 10 + 8 * u ≤ k) × (k ≤ STATE + 10 + 8 * u + 2) → word_of b k ≡ word_of chip k
+        word_in_order_stays x =
             let low = x.0 in
             let high = x.1 in
             let is : STATE + 8 + 8 * u + (k - (STATE + 8 + 8 * u)) ≡ k = omega (arith, low) in
@@ -147,7 +138,7 @@ module _ (d : AdcTable) (fits : FitsAdc d) (f r : AdcBody → ℕ) (below : Rese
       results = λ k ne i j. refl;
       elsewhere = elsewhere;
       claim_from = λ k ne e. absurd (let zero_is : 0 ≡ 2 + k = sym claim_now ∙ e in omega (arith, zero_is));
-      claim_to = λ k ne e. absurd (ne (of_group claimed k g e fits_claim));
+      claim_to = λ k ne e. absurd (ne (of_group claimed k g e tells.0));
       unit = λ k ne e. ap (λ c. chips.unit_at c u) block;
       units = λ v less ne. ap (λ c. chips.unit_at c v) block;
       levels = ap (λ (c : Converters). c.levels) block;
@@ -182,11 +173,11 @@ module _ (d : AdcTable) (fits : FitsAdc d) (f r : AdcBody → ℕ) (below : Rese
         by false e = was.values turn (λ j. eq_isnt claimed (2 + g) e (ap (λ v. word_of chip (word_number d (words.Claim v))) (sym (unit_is d fits u (group_of d g) at)) ∙ j)) i v there
 
     claims : (v : ℕ) → v < 2 → claim_right after v (word_of b (word_number d (words.Claim v))) ≡ true
-    claims v less = by (same_or_other v u)
+    claims v less = claim_holds (same_or_other v u)
       where
-        by : (v ≡ u) ⊎ (v ≢ u) → claim_right below v (word_of b (word_number d (words.Claim v))) ≡ true
-        by (inl e) = subst (λ k. claim_right below k (word_of b (word_number d (words.Claim k))) ≡ true) (sym e) (subst (λ x. claim_right below u x ≡ true) (sym claim_now) (claim_none u below none_below))
-        by (inr ne) =
+        claim_holds : (v ≡ u) ⊎ (v ≢ u) → claim_right below v (word_of b (word_number d (words.Claim v))) ≡ true
+        claim_holds (inl e) = subst (λ k. claim_right below k (word_of b (word_number d (words.Claim k))) ≡ true) (sym e) (subst (λ x. claim_right below u x ≡ true) (sym claim_now) (claim_none u below tells.1))
+        claim_holds (inr ne) =
             let x = word_of chip (word_number d (words.Claim v)) in
             subst (λ x. claim_right below v x ≡ true) (sym (claim_stays d fits before after chip b w s s h g u at stays v less ne))
             (sym (ap (λ c. if c then ((word_of chip (word_number d (words.Claim v)) == 2 + g) || (word_of chip (word_number d (words.Claim v)) == 1)) && not (some_hold (claims_on v) below) else claim_right below v (word_of chip (word_number d (words.Claim v)))) (eq_other v u ne)) ∙ (h.settled on).claims v less)
@@ -202,14 +193,8 @@ module _ (d : AdcTable) (fits : FitsAdc d) (f r : AdcBody → ℕ) (below : Rese
       block = subst (λ c. IsBlock c w) (sym block) h.block;
       round = subst (λ c. RoundAgrees d c w (chips.unit_at c u) (round_at s u)) (sym block) (h.rounds u few);
       triggers = subst (λ c. TriggersAgree d c s) (sym block) h.triggers;
-      right = (on, all_changed d fits before after chip b w s s h g u at stays below (spares below none_below) h.right.1.1);
-      banks = (let k = h.banks g there in record {
-        banks = k.banks;
-        stands = stands-agree (trio_of (rounds_of d g)) (word_of chip) (word_of b) k.banks (trio_group d fits before after chip b w s s h g u at stays (low_one 7 refl)) k.stands;
-        newest = k.newest;
-        put = k.put;
-        take = k.take;
-      });
+      right = (on, all_changed d fits before after chip b w s s h g u at stays below (spares below tells.1) h.right.1.1);
+      banks = banks_stay chip b (h.banks g there) (λ j own. sym (trio_group d fits before after chip b w s s h g u at stays (low_one 7 refl) j own)) refl refl;
       places = λ k i j less left. place_stays d fits before after chip b w s s h g u at stays k i j ∙ h.places k i j less left;
       backed = h.backed.1;
       group = record {

@@ -1,20 +1,20 @@
 -- The last move of a start: the unit starts its round, and the frame is done. And a window that is to start a group, as a whole.
 -- From adc_groups: services.Decisions, services.StartRight, adc_groups: bookkeeping.TurnsOfUnit and 10 more.
 -- Used by adc_driver: bookkeeping.NoneWaitsMaking, adc_driver: services.LookRight, adc_driver: services.MakeRight.
-use Rattle.std.proofs.Common.{◌≡◌, ◌≢◌, ◌+◌, ◌-◌, ◌*◌, ◌<◌, ◌≤◌, ◌&&◌, ◌==◌, [], ◌∷◌, ◌∙◌, ◌⊎◌, if◌then◌else◌}
+use Rattle.std.proofs.Common.{◌≡◌, ◌≢◌, ◌+◌, ◌-◌, ◌*◌, ◌<◌, ◌≤◌, ◌==◌, [], ◌∷◌, ◌∙◌, ◌⊎◌, if◌then◌else◌}
 use Rattle.adc_turns.specs.Terms
 use Terms.{acted, adc_bodies, adc_machine, AdcBody, AdcGround, AdcRepresents, AdcState, AdcTable, Agrees, ap, arith}
 use Terms.{AssertedAt, body_ends, body_work, Bool, Call, Called, cases, Chip, chip_after, choice_next, claim_right}
-use Terms.{claims_on, conversion, convert, ConverterGo, DecidedRight, done, ended_at, ends_claim, Entered, Entry}
-use Terms.{eq_is, false, FitsAdc, foot_of, four_from, FrameHistory, group_at, group_of, Has_acted, Has_served}
-use Terms.{has_served, HasMade, hold_in, holds-below, HoldsOrder, inl, inputs_of, inr, InWindow, is_some}
+use Terms.{claimed_parts, claims_on, conversion, convert, ConverterGo, DecidedRight, done, ended_at, ends_claim}
+use Terms.{Entered, Entry, eq_is, false, FitsAdc, foot_of, four_from, FrameHistory, group_at, group_of, Has_acted}
+use Terms.{Has_served, has_served, HasMade, hold_in, holds-below, HoldsOrder, inl, inputs_of, inr, InWindow, is_some}
 use Terms.{Is_this_frame, IsFirst, IsOrder, IsStart, IsStarting, kept_in, kept_request, length, List, list_any}
 use Terms.{lists_for, Load, Looks, looks_right, Makes, makes, MakesTo, may_end, missed_after, moves_ahead}
 use Terms.{named_converter, named_number, named_of, nat_lt, nat_tests, next-ends, next_group, next_start, no_answer}
-use Terms.{None, not, nothing_more, on_there, Option, order_of, Orders, Origin, Place, Prepares, ranks_of, refl}
-use Terms.{Request, Reservations, RightOr, same_or_other, slice_index, Some, some_hold, start_deeds, started}
-use Terms.{starting, starts_by, steps_so, subst, sym, tells_nothing, true, unclaimed, unit_is, unit_named, UnitAgrees}
-use Terms.{value_of, waiting, waits_turn, with_holds, within, word_number, word_of, World, Write, WriteBatch, ℕ}
+use Terms.{None, nothing_more, on_there, Option, order_of, Orders, Origin, Place, Prepares, ranks_of, refl, Request}
+use Terms.{Reservations, RightOr, same_or_other, slice_index, Some, some_hold, start_deeds, started, starting}
+use Terms.{starts_by, steps_so, subst, sym, tells_nothing, true, unclaimed, unit_is, unit_named, UnitAgrees, value_of}
+use Terms.{waiting, waits_turn, with_holds, within, word_number, word_of, World, Write, WriteBatch, ℕ}
 use Rattle.adc_machine.specs.Machine.{starts_on}
 use Rattle.adc_turns.specs.laws.{words.BegunWords.{started_agrees}, services.WriteBatchRight.{deed_work, last_takes}}
 use Rattle.adc_turns.specs.laws.{services.WriteBatchRight.{claim_among, len_start, go_at}}
@@ -26,8 +26,6 @@ use Rattle.adc_groups.specs.declared.making.StructureOp.TheVariants as shapes
 use Rattle.adc_groups.specs.declared.window.Window.TheVariants as windows
 use Rattle.adc_groups.specs.declared.words.Word.TheVariants as words
 use Rattle.std.proofs.lemmas.Bool.{not-false}
-use Rattle.mcal_base.specs.facts.Truths.{and_first}
-use Rattle.mcal_base.specs.facts.Numbers.{eq_self}
 
 some_ahead : (left : ℕ) (c : Bool) → 0 < moves_ahead left c
 some_ahead left true = omega arith
@@ -134,7 +132,7 @@ module _ (d : AdcTable) (fits : FitsAdc d) (f r : AdcBody → ℕ) (below : Rese
   -- ---- each step
 
   prepares : (g e left : ℕ) (c : Bool) (j : ℕ) → j ≤ moves_ahead left c → IsStart d below w s o p u g e left c → AdcRepresents d (held c) (Some u) chip w s → (xs : List Entry) → IsOrder d s u xs → HoldsOrder (order_of u) (word_of chip) (waiting g false xs) → HasMade d (foot_of chip) u g e left c j → StepRight (body g e left c j)
-  prepares g e left c j le start h xs is_order holds made = by (nat_lt j (lists_for left)) refl
+  prepares g e left c j le start h xs is_order holds made = list_or_further (nat_lt j (lists_for left)) refl
     where
       -- the last ones
       last : (q : Bool) → c ≡ q → lists_for left < j → StepRight (body g e left c j)
@@ -150,9 +148,9 @@ module _ (d : AdcTable) (fits : FitsAdc d) (f r : AdcBody → ℕ) (below : Rese
               let same : moves_ahead left c ≡ j = (let n = ap (λ z. moves_ahead left z) i in omega (arith, n, lt, le, ne)) in
               subst (λ n. StepRight (body g e left c n)) same (go_step g e left c start h xs is_order holds (subst (λ n. HasMade d (foot_of chip) u g e left c n) (sym same) made))
 
-      by : (q : Bool) → nat_lt j (lists_for left) ≡ q → StepRight (body g e left c j)
-      by true i = list_step d fits f r below w s o p u few chip m y g e left c start h xs is_order holds j (grind (arith, nat_tests)) made
-      by false i = cases (same_or_other j (lists_for left))
+      list_or_further : (q : Bool) → nat_lt j (lists_for left) ≡ q → StepRight (body g e left c j)
+      list_or_further true i = list_step d fits f r below w s o p u few chip m y g e left c start h xs is_order holds j (grind (arith, nat_tests)) made
+      list_or_further false i = cases (same_or_other j (lists_for left))
           (λ k. subst (λ n. StepRight (body g e left c n)) (sym k) (running_step d fits f r below w s o p u few chip m y g e left c start h xs is_order holds (subst (λ n. HasMade d (foot_of chip) u g e left c n) k made)))
           (λ ne. last c refl (let ge : lists_for left ≤ j = grind (arith, nat_tests) in omega (arith, ge, ne)))
 
@@ -185,14 +183,11 @@ module _ (d : AdcTable) (fits : FitsAdc d) (f r : AdcBody → ℕ) (below : Rese
 
     -- the claim is none, or the frame's own
     claim_small : word_of chip (word_number d (words.Claim u)) ≢ 2 + g
-    claim_small i = by c facts.2 h
+    claim_small i = not_lost c facts.2 h
       where
-        by : (z : Bool) → (z ≡ false → some_hold (claims_on u) below ≡ false) → Agrees d (with_holds o p.acted (hold_in (windows.Convert u g z)) below) chip w s → ⊥
-        by false none k = let zero_is = eq_is (word_of chip (word_number d (words.Claim u))) 0 (not-false (word_of chip (word_number d (words.Claim u)) == 0) (sym (unclaimed u (word_of chip (word_number d (words.Claim u))) below ((k.settled facts.0).claims u few)) ∙ none refl)) in omega (arith, zero_is, i)
-        by true none k =
-            let top : (word_of chip (word_number d (words.Claim u)) == 1) && not (some_hold (claims_on u) below) ≡ true = sym (ap (λ q. if q then (word_of chip (word_number d (words.Claim u)) == 1) && not (some_hold (claims_on u) below) else claim_right below u (word_of chip (word_number d (words.Claim u)))) (eq_self u)) ∙ (k.settled facts.0).claims u few in
-            let one = eq_is (word_of chip (word_number d (words.Claim u))) 1 (and_first (word_of chip (word_number d (words.Claim u)) == 1) (not (some_hold (claims_on u) below)) top) in
-            omega (arith, one, i)
+        not_lost : (z : Bool) → (z ≡ false → some_hold (claims_on u) below ≡ false) → Agrees d (with_holds o p.acted (hold_in (windows.Convert u g z)) below) chip w s → ⊥
+        not_lost false none k = let zero_is = eq_is (word_of chip (word_number d (words.Claim u))) 0 (not-false (word_of chip (word_number d (words.Claim u)) == 0) (sym (unclaimed u (word_of chip (word_number d (words.Claim u))) below ((k.settled facts.0).claims u few)) ∙ none refl)) in omega (arith, zero_is, i)
+        not_lost true none k = let one = (claimed_parts u (word_of chip (word_number d (words.Claim u))) below (claim_right below u (word_of chip (word_number d (words.Claim u)))) ((k.settled facts.0).claims u few)).0 in omega (arith, one, i)
 
     kept_is : word_of chip (word_number d (words.Kept g)) ≡ length (kept_in d s g)
     kept_is = ((h.settled facts.0).groups g there).kept (waits_turn s g facts.1.2) (λ i. claim_small (ap (λ v. word_of chip (word_number d (words.Claim v))) (sym (unit_is d fits u (group_of d g) facts.1.1)) ∙ i))

@@ -160,10 +160,10 @@ module _ (d : AdcTable) (fits : FitsAdc d) (f r : AdcBody → ℕ) (below : Rese
       -- a step of the order's change
       pub order_step : (n : ℕ) (k : Next) → Ends choosing_next (own_of (order_of u)) n k (word_of chip) Done → Right (Some (shapes.Next k)) 0
       order_step zero k ends = absurd ends
-      order_step (suc n) k ends = by (next_move k) refl ends.0
+      order_step (suc n) k ends = step_of_move (next_move k) refl ends.0
         where
-          by : (move : Move) → next_move k ≡ move → NamesOwn (own_of (order_of u)) (next_move k) → Right (Some (shapes.Next k)) 0
-          by move is own = on (next_gave k (value_of chip (next_move k))).ended refl
+          step_of_move : (move : Move) → next_move k ≡ move → NamesOwn (own_of (order_of u)) (next_move k) → Right (Some (shapes.Next k)) 0
+          step_of_move move is own = on (next_gave k (value_of chip (next_move k))).ended refl
             where
               v : ℕ
               v = value_of chip (next_move k)

@@ -151,7 +151,7 @@ module _ (d : AdcTable) (fits : FitsAdc d) (f r : AdcBody → ℕ) (below : Rese
       }
 
     pub round_right : (o : Origin Call) (p : FrameHistory) → HasDone u below o p → Agrees d (with_holds o p.acted (hold_in (windows.Suspend u x.group)) below) chip w s → StepRight q o p
-    round_right o p has h = by runs refl
+    round_right o p has h = step_by_runs runs refl
       where
         run_was : (u < 2) × (is_on u (group_of d x.group) ≡ true)
         run_was = let k = h.sound.runs u x is in (k.0, k.1)
@@ -183,8 +183,8 @@ module _ (d : AdcTable) (fits : FitsAdc d) (f r : AdcBody → ℕ) (below : Rese
         over true = refl
         over false = refl
 
-        by : (z : Bool) → runs ≡ z → StepRight q o p
-        by z e =
+        step_by_runs : (z : Bool) → runs ≡ z → StepRight q o p
+        step_by_runs z e =
             steps_so d f r below chip w s m y o p (body q) (record { table = d; place = (aborted_in d q (bit_of z)).1 }) (step (aborted_in d q (bit_of z)).0)
             (ap (λ b. (record { table = d; place = (aborted_in d q (bit_of b)).1 }, step (aborted_in d q (bit_of b)).0)) e) (ap (λ a. ended_by a None) (over z))
             (subst (λ b. MakesTo (AdcGround d) (adc_bodies d f r) below chip (chip_after chip (Read (ConverterAbort u)) y) w s o (Read (ConverterAbort u)) false (bit_of b) y p (missed_after (adc_machine d) w s m) (record { table = d; place = (aborted_in d q (bit_of z)).1 }, step (aborted_in d q (bit_of z)).0)) (sym e) (left z e))

@@ -6,18 +6,18 @@ use Rattle.std.proofs.Common.{if◌then◌else◌}
 use Rattle.adc_turns.specs.Terms
 use Terms.{aborts, aborts_by, AdcState, AdcTable, Agrees, all_changed, AllRight, AllSpare, any_off, ap, arith, Backed}
 use Terms.{BanksAgree, begun, bit_of, Bool, Call, cases, changed, Chip, chip_after, chosen_of, claim_right}
-use Terms.{claim_stays, claims_on, cond, Converter, ConverterGo, Entry, eq_is, eq_other, eq_self, false, few_inputs}
-use Terms.{first_held, FitsAdc, four_from, FrameHistory, Fresh, group_at, group_of, group_same, group_word}
-use Terms.{GroupAgrees, GroupState, has_turn, HasUnit, HasWords, hold_in, HoldsOrder, inl, inputs_of, inr, is_ahead}
-use Terms.{is_finished, is_handler, is_on, is_outranked, is_owed, is_round_of, is_some, IsBefore, IsBlock, IsOrder}
-use Terms.{IsOver, IsRound, IsSound, IsSoundGroup, IsSoundRequest, kept_by, kept_in, kept_of_round, kept_request}
-use Terms.{kept_word, length, length-drop, List, listener, listener_as, min, nat_lt, nat_tests, newest, next_group}
-use Terms.{next_is, None, none_past, not, now_here, number_at, number_by, off_unit, on_there, Option, order_of}
-use Terms.{order_waiting, Origin, other_at, phase_of, place_stays, Promised, promised_same, put_of, rank_of, refl}
-use Terms.{Request, Reservations, ResultBuffer, Round, round_at, round_other, round_same, round_turn, RoundAgrees}
-use Terms.{rounds_of, running_of, same_or_other, samples_of, slice_get, slice_index, Some, some_hold, sound_past}
-use Terms.{SoundGroup, stands-agree, stands-move, stands_words, start_from, started, starts, starts_by, starts_on}
-use Terms.{STATE, Stays, subst, sym, take_of, trio_group, trio_of, true, turn_round, turn_same, unclaimed}
+use Terms.{claim_stays, claimed_parts, claims_on, cond, Converter, ConverterGo, Entry, eq_is, eq_other, eq_self}
+use Terms.{false, few_inputs, first_held, FitsAdc, four_from, FrameHistory, Fresh, group_at, group_of, group_same}
+use Terms.{group_word, GroupAgrees, GroupState, has_turn, HasUnit, HasWords, hold_in, HoldsOrder, inl, inputs_of, inr}
+use Terms.{is_ahead, is_finished, is_handler, is_on, is_outranked, is_owed, is_round_of, is_some, IsBefore, IsBlock}
+use Terms.{IsOrder, IsOver, IsRound, IsSound, IsSoundGroup, IsSoundRequest, kept_by, kept_in, kept_of_round}
+use Terms.{kept_request, kept_word, length, length-drop, List, listener, listener_as, min, nat_lt, nat_tests, newest}
+use Terms.{next_group, next_is, None, none_past, not, now_here, number_at, number_by, off_unit, on_there, Option}
+use Terms.{order_of, order_waiting, Origin, other_at, phase_of, place_stays, Promised, promised_same, put_of, rank_of}
+use Terms.{refl, Request, Reservations, ResultBuffer, Round, round_at, round_other, round_same, round_turn}
+use Terms.{RoundAgrees, rounds_of, running_of, same_or_other, samples_of, slice_get, slice_index, Some, some_hold}
+use Terms.{sound_past, SoundGroup, stands-agree, stands-move, stands_words, start_from, started, starts, starts_by}
+use Terms.{starts_on, STATE, Stays, subst, sym, take_of, trio_group, trio_of, true, turn_round, turn_same, unclaimed}
 use Terms.{unit_at-begun, unit_block, unit_is, unit_of, unit_other, unit_set, waiting, waiting_sound, waits_for}
 use Terms.{waits_other, waits_turn, will_yield, with_holds, with_waiting, within, word_number, word_of, World, Write}
 use Terms.{yields_below, ℕ}
@@ -32,18 +32,18 @@ use Rattle.std.proofs.lemmas.Bool.{not-false, or_parts}
 
 -- a word behind a unit's five isn't one that is stored ahead
 not_ahead : (u k : ℕ) → ((i : ℕ) → i < 5 → k ≢ STATE + 8 + 8 * u + i) → is_ahead u k ≡ false
-not_ahead u k h = by (is_ahead u k) refl
+not_ahead u k h = is_off (is_ahead u k) refl
   where
     low_high : (n k : ℕ) → k == STATE + 8 + n || (k == STATE + 9 + n || (k == STATE + 10 + n || (k == STATE + 10 + n + 1 || k == STATE + 10 + n + 2))) ≡ true → (STATE + 8 + n ≤ k) × (k ≤ STATE + 12 + n)
     low_high n k e = (grind (arith, nat_tests), grind (arith, nat_tests))
 
-    by : (q : Bool) → is_ahead u k ≡ q → q ≡ false
-    by true e =
+    is_off : (q : Bool) → is_ahead u k ≡ q → q ≡ false
+    is_off true e =
         let both = low_high (8 * u) k e in
         let low = both.0 in
         let high = both.1 in
         absurd (h (k - (STATE + 8 + 8 * u)) (omega (arith, low, high)) (omega (arith, low)))
-    by false e = refl
+    is_off false e = refl
 
 -- a unit that starts what waits first on it has nothing more to start, and nothing to abort
 module _ (d : AdcTable) (w : World) (s : AdcState) (u g : ℕ) (few : u < 2) (sound : IsSound d w s) (free : round_at s u ≡ None) (at : is_on u (group_of d g) ≡ true) (q : Request) (asks : (group_at s g).waiting ≡ Some q) (next : starts d s u ≡ Some g) where
@@ -181,18 +181,11 @@ module _ (d : AdcTable) (fits : FitsAdc d) (below : Reservations) (z : Chip) (ws
   -- ---- claims before
 
   claim_before : (word_of a (word_number d (words.Claim u)) ≡ (if c then 1 else 0)) × (some_hold (claims_on u) below ≡ false)
-  claim_before = by c claims_below h
+  claim_before = claim_was c claims_below h
     where
-      parts : (i j : Bool) → i && not j ≡ true → (i ≡ true) × (j ≡ false)
-      parts true false f = (refl, refl)
-      parts _ _ f = absurd (cc)
-
-      by : (v : Bool) → (v ≡ false → some_hold (claims_on u) below ≡ false) → Agrees d (with_holds o p.acted (hold_in (windows.Convert u g v)) below) a w s → (word_of a (word_number d (words.Claim u)) ≡ (if v then 1 else 0)) × (some_hold (claims_on u) below ≡ false)
-      by true none k =
-          let top : (word_of a (word_number d (words.Claim u)) == 1) && not (some_hold (claims_on u) below) ≡ true = sym (ap (λ r. if r then (word_of a (word_number d (words.Claim u)) == 1) && not (some_hold (claims_on u) below) else claim_right below u (word_of a (word_number d (words.Claim u)))) (eq_self u)) ∙ (k.settled on).claims u few in
-          let both = parts (word_of a (word_number d (words.Claim u)) == 1) (some_hold (claims_on u) below) top in
-          (eq_is (word_of a (word_number d (words.Claim u))) 1 both.0, both.1)
-      by false none k = (eq_is (word_of a (word_number d (words.Claim u))) 0 (not-false (word_of a (word_number d (words.Claim u)) == 0) (sym (unclaimed u (word_of a (word_number d (words.Claim u))) below ((k.settled on).claims u few)) ∙ none refl)), none refl)
+      claim_was : (v : Bool) → (v ≡ false → some_hold (claims_on u) below ≡ false) → Agrees d (with_holds o p.acted (hold_in (windows.Convert u g v)) below) a w s → (word_of a (word_number d (words.Claim u)) ≡ (if v then 1 else 0)) × (some_hold (claims_on u) below ≡ false)
+      claim_was true none k = claimed_parts u (word_of a (word_number d (words.Claim u))) below (claim_right below u (word_of a (word_number d (words.Claim u)))) ((k.settled on).claims u few)
+      claim_was false none k = (eq_is (word_of a (word_number d (words.Claim u))) 0 (not-false (word_of a (word_number d (words.Claim u)) == 0) (sym (unclaimed u (word_of a (word_number d (words.Claim u))) below ((k.settled on).claims u few)) ∙ none refl)), none refl)
 
   claim_small : (k : ℕ) → word_of a (word_number d (words.Claim u)) ≢ 2 + k
   claim_small k i = by c (sym claim_before.0 ∙ i)

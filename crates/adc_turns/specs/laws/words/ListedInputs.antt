@@ -25,17 +25,17 @@ input_small (x ∷ xs) small (suc i) = input_small xs (λ j y e. small (suc j) y
 
 -- a byte of a list register is the input at its place
 byte_is : (inputs : List ℕ) (j m : ℕ) → ((i x : ℕ) → slice_get inputs i ≡ Some x → x < 32) → m < 4 → four_from inputs j / 2 ^ (8 * m) % 256 ≡ input_at inputs (j + m)
-byte_is inputs j m small lt = by m lt
+byte_is inputs j m small lt = byte_at m lt
   where
     all : ((input_at inputs (j + 0) + 256 * input_at inputs (j + 1) + 65536 * input_at inputs (j + 2) + 16777216 * input_at inputs (j + 3)) / 1 % 256 ≡ input_at inputs (j + 0)) × ((input_at inputs (j + 0) + 256 * input_at inputs (j + 1) + 65536 * input_at inputs (j + 2) + 16777216 * input_at inputs (j + 3)) / 256 % 256 ≡ input_at inputs (j + 1)) × ((input_at inputs (j + 0) + 256 * input_at inputs (j + 1) + 65536 * input_at inputs (j + 2) + 16777216 * input_at inputs (j + 3)) / 65536 % 256 ≡ input_at inputs (j + 2)) × ((input_at inputs (j + 0) + 256 * input_at inputs (j + 1) + 65536 * input_at inputs (j + 2) + 16777216 * input_at inputs (j + 3)) / 16777216 % 256 ≡ input_at inputs (j + 3))
     all = bytes (input_at inputs (j + 0)) (input_at inputs (j + 1)) (input_at inputs (j + 2)) (input_at inputs (j + 3)) (input_small inputs small (j + 0)) (input_small inputs small (j + 1)) (input_small inputs small (j + 2)) (input_small inputs small (j + 3))
 
-    by : (m : ℕ) → m < 4 → four_from inputs j / 2 ^ (8 * m) % 256 ≡ input_at inputs (j + m)
-    by zero lt = all.0
-    by (suc zero) lt = all.1
-    by (suc (suc zero)) lt = all.2
-    by (suc (suc (suc zero))) lt = all.3
-    by (suc (suc (suc (suc m)))) lt = absurd (omega (arith, lt))
+    byte_at : (m : ℕ) → m < 4 → four_from inputs j / 2 ^ (8 * m) % 256 ≡ input_at inputs (j + m)
+    byte_at zero lt = all.0
+    byte_at (suc zero) lt = all.1
+    byte_at (suc (suc zero)) lt = all.2
+    byte_at (suc (suc (suc zero))) lt = all.3
+    byte_at (suc (suc (suc (suc m)))) lt = absurd (omega (arith, lt))
 
 input_there : (inputs : List ℕ) (i x : ℕ) → slice_get inputs i ≡ Some x → input_at inputs i ≡ x
 input_there [] i x e = absurd (cc)

@@ -7,12 +7,12 @@ use Terms.{All, and_first, and_parts, ap, arith, Asked, basis_right, Bool, Call,
 use Terms.{EnableClear, EnableSet, EnablesOthers, EnablesWithin, entering, enumerate_from, false, FitsSpi, has_bit}
 use Terms.{has_lines, inl, inr, is_for_lines, is_line_of, is_number, is_of, is_own_word, is_polling, is_serial}
 use Terms.{is_some, is_used, is_users_place, is_users_word, is_within, is_word_of, IsSome, KeepsTo, length, length_by}
-use Terms.{List, list_all, list_any, Load, may_name, may_write, module_of_line, module_of_register, module_of_unit}
-use Terms.{module_of_word, Move, names_there, NamesOthers, NamesWithin, nat_lt, nat_tests, None, not, not-unless}
-use Terms.{only, Option, own_words, owns_written, polls, Read, refl, Reg, SerialAck, SerialData, SerialReceived}
-use Terms.{SerialSelect, SerialState, SerialWait, SerialWidth, services_driver, Some, Source, Spi, Spi0, Spi1}
-use Terms.{spi_machine, spi_owns, SpiState, SpiTable, start_of, Starts, Store, subst, suc, sym, true, uses_by}
-use Terms.{whether, World, Write, WritesOthers, WritesWithin, ℕ}
+use Terms.{List, list_all, list_any, Load, lt_from, may_name, may_write, module_of_line, module_of_register}
+use Terms.{module_of_unit, module_of_word, Move, names_there, NamesOthers, NamesWithin, nat_lt, nat_tests, None, not}
+use Terms.{not-unless, only, Option, own_words, owns_written, polls, Read, refl, Reg, SerialAck, SerialData}
+use Terms.{SerialReceived, SerialSelect, SerialState, SerialWait, SerialWidth, services_driver, Some, Source, Spi}
+use Terms.{Spi0, Spi1, spi_machine, spi_owns, SpiState, SpiTable, start_of, Starts, Store, subst, suc, sym, true}
+use Terms.{uses_by, whether, World, Write, WritesOthers, WritesWithin, ℕ}
 use Rattle.run_model.specs.Frame.{is_wait}
 use Rattle.spi_sequences.specs.laws.bookkeeping.RefinementRight.{FrameMoves, frame_moves}
 use Rattle.spi_driver.specs.laws.{bookkeeping.Joined.{joined}, bookkeeping.Lawful.{handled_by}}
@@ -123,10 +123,7 @@ module _ (d : SpiTable) (fits : FitsSpi d) where
   enables_none v h =
       ap (λ q. q || has_bit v 27 || not (nat_lt v 4294967296)) (h.lines 26 refl)
       ∙ ap (λ q. q || not (nat_lt v 4294967296)) (h.lines 27 refl)
-      ∙ small v h.fits
-    where
-      small : (v : ℕ) → v < 2 ^ 32 → not (nat_lt v 4294967296) ≡ false
-      small v lt = grind (arith, nat_tests)
+      ∙ ap (λ b. not b) (lt_from v 4294967296 h.fits)
 
   -- ---- moves
 

@@ -127,12 +127,9 @@ module _ (d : SpiTable) (mode : Mode) (cs : List ChannelState) (on : is_off mode
   not_written : (p : Pointer) (sources : ℕ → List ℕ) (h : ReservedBy Call Reservation) (x : Reservation) → HeldRight d mode cs h x → blocks (class_of (calls.Channel c (WriteIb p))) (mark_of (spi_setting d) h.by) ≡ false → put_by d sources c false x ≡ None
   not_written p sources h (Preparing stored readied x) right l = absurd (let off = right.1 in cc)
   not_written p sources h (Writing n q b i x) right l = whether (n == c)
-      (λ e. absurd (let f = same e in let g = other in cc))
+      (λ e. absurd (let f = ap (λ k. c == k) (is_number n c e) ∙ same_number c in let g = other in cc))
       (λ e. ap (λ a. if a then Some (record { bank = b; filled = take i (to_write (channel_of d c) q (sources c)) }) else None) e)
     where
-      same : (n == c) ≡ true → (c == n) ≡ true
-      same e = ap (λ k. c == k) (is_number n c e) ∙ same_number c
-
       other : (c == n) ≡ false
       other = subst (λ o. blocks (class_of (calls.Channel c (WriteIb p))) (mark_of (spi_setting d) o) ≡ false) right.0 l
   not_written p sources h _ right l = refl
@@ -144,12 +141,9 @@ module _ (d : SpiTable) (mode : Mode) (cs : List ChannelState) (on : is_off mode
   -- or reads it
   not_read : (h : ReservedBy Call Reservation) (x : Reservation) → HeldRight d mode cs h x → blocks (class_of (calls.Channel c ReadIb)) (mark_of (spi_setting d) h.by) ≡ false → take_by c h.acted x ≡ None
   not_read h (Reading n b) right l = whether (n == c)
-      (λ e. absurd (let f = same e in let g = other in cc))
+      (λ e. absurd (let f = ap (λ k. c == k) (is_number n c e) ∙ same_number c in let g = other in cc))
       (λ e. ap (λ a. if a then Some (record { bank = b; kept = words_in h.acted }) else None) e)
     where
-      same : (n == c) ≡ true → (c == n) ≡ true
-      same e = ap (λ k. c == k) (is_number n c e) ∙ same_number c
-
       other : (c == n) ≡ false
       other = subst (λ o. blocks (class_of (calls.Channel c ReadIb)) (mark_of (spi_setting d) o) ≡ false) right.0 l
   not_read h _ right l = refl
@@ -237,19 +231,17 @@ module _ (d : SpiTable) (unit_bodies : LongBodies (spi_basis d) UnitBody) (sync_
         found _ _ _ f g h = absurd (cc)
 
         other : (x : Carrying) → carried_for d s q ≡ Some x → is_of q x.entry ≡ false
-        other x f = not_true (is_of q x.entry) (λ own. none (carried-right d s q x f) own)
+        other x f = not_true (is_of q x.entry) (λ own.
+            let r : (is_off s.mode ≡ false) × (is_sync_sequence d q ≡ true) = carried-right d s q x f in
+            let begun : (view s).begun (unit_of_sequence d q) ≡ Some x.entry = ap entry_carried (sym (ap (λ z. if z || not (is_sync_sequence d q) then None else carried_at s (unit_of_sequence d q)) r.0 ∙ ap (λ z. if not z then None else carried_at s (unit_of_sequence d q)) r.1) ∙ f) in
+            let there = all_carried (view s) (unit_of_sequence d q) x.entry (unit_few d fits q) begun in
+            let next = (h.sound.entries x.entry there).next in
+            let unknown = found (is_off s.mode) (is_some (sequence_of d q)) (is_sync_sequence d q) r.0 r.1 is in
+            no_jobs (sequence_of d q) unknown (subst (λ n. x.entry.next < length (jobs_of d n)) (is_number x.entry.sequence q own) next))
           where
             no_jobs : (o : Option Sequence) → is_some o ≡ false → {n : ℕ} → n < length (jobs_by o) → ⊥
             no_jobs None e lt = omega (arith, lt)
             no_jobs (Some k) e lt = absurd (cc)
-
-            none : (is_off s.mode ≡ false) × (is_sync_sequence d q ≡ true) → is_of q x.entry ≡ true → ⊥
-            none r own =
-                let begun : (view s).begun (unit_of_sequence d q) ≡ Some x.entry = ap entry_carried (sym (ap (λ z. if z || not (is_sync_sequence d q) then None else carried_at s (unit_of_sequence d q)) r.0 ∙ ap (λ z. if not z then None else carried_at s (unit_of_sequence d q)) r.1) ∙ f) in
-                let there = all_carried (view s) (unit_of_sequence d q) x.entry (unit_few d fits q) begun in
-                let next = (h.sound.entries x.entry there).next in
-                let unknown = found (is_off s.mode) (is_some (sequence_of d q)) (is_sync_sequence d q) r.0 r.1 is in
-                no_jobs (sequence_of d q) unknown (subst (λ n. x.entry.next < length (jobs_of d n)) (is_number x.entry.sequence q own) next)
 
         by : (o : Option Carrying) → carried_for d s q ≡ o → sending_ends d w s q o ≡ Some (outcome s (tells_error (answer_refused (calls.Sequence q SyncTransmit)) e))
         by None f = refused
@@ -430,21 +422,21 @@ module _ (d : SpiTable) (unit_bodies : LongBodies (spi_basis d) UnitBody) (sync_
       sequence_begins q Cancel lets clear =
           let facts = clear_sequence (is_off s.mode) (is_wrong_sequence d q Cancel) errors.SpiUninit errors.SpiParamSeq clear in
           let lt = sequence_small q (neither (is_some (sequence_of d q)) false facts.1).0 in
-          subst (λ n. Looks (calls.Sequence q Cancel) (sequence_begun d n Cancel)) (sym (below_byte q (omega (arith, lt)))) (by lt facts.0 (is_sync_sequence d q) refl)
+          subst (λ n. Looks (calls.Sequence q Cancel) (sequence_begun d n Cancel)) (sym (below_byte q (omega (arith, lt)))) (cancel_begins lt facts.0 (is_sync_sequence d q) refl)
         where
           -- one that is sent at once isn't pending
           none : is_sync_sequence d q ≡ true → is_pending q s.pending ≡ false
           none sync = none_any (is_of q) s.pending (λ p there. not_true (is_of q p) (λ own. let async = h.sound.carries.asked p there in let f = sym sync ∙ ap (is_sync_sequence d) (sym (is_number p.sequence q own)) ∙ async in cc))
 
-          by : q < 8 → is_off s.mode ≡ false → (b : Bool) → is_sync_sequence d q ≡ b → Looks (calls.Sequence q Cancel) (cancel_begun d q b)
-          by lt on true sync = record {
+          cancel_begins : q < 8 → is_off s.mode ≡ false → (b : Bool) → is_sync_sequence d q ≡ b → Looks (calls.Sequence q Cancel) (cancel_begun d q b)
+          cancel_begins lt on true sync = record {
             told = tells_nothing;
             is = λ times. ap (λ y. Some (acts_by d s (calls.Sequence q Cancel) y)) clear ∙ ap (λ o. Some (cancelled d s o)) (found_none q s.pending (none sync));
             tells = (refl, refl, refl);
             reset = asks_no (spi_machine d) (calls.Sequence q Cancel) (Some Act) (Some (outcome s tells_nothing)) refl;
             polls = refl;
           }
-          by lt on false async = record {
+          cancel_begins lt on false async = record {
             at = (h, (q, (Is_this_frame, lt, clear, on), record { async = async; sequence = refl; unit = refl; notes = refl }));
             closed = refl;
             fuel = omega arith;
@@ -462,28 +454,20 @@ module _ (d : SpiTable) (unit_bodies : LongBodies (spi_basis d) UnitBody) (sync_
           by [] f g = record { at = (g, ((Is_this_frame, refl, refl), off_of (is_off s.mode) clear)); closed = refl; fuel = init_within d fits; room = omega arith }
           by (x ∷ xs) f g = absurd (cc)
 
+      -- where nothing is polled it has nothing to do
+      nothing_polled : is_polling s.mode ≡ false → Declines spi w s calls.MainFunctionHandling (record { answer = no_answer; owed = Nothing })
+      nothing_polled e = record {
+        told = tells_nothing;
+        is = λ times. refl;
+        tells = (refl, refl, refl);
+        reset = refl;
+        polls = ap (λ b. if b then 26 ∷ 27 ∷ [] else []) e;
+      }
+
       main_begins : (m : Mode) → s.mode ≡ m → Looks calls.MainFunctionHandling (begins d calls.MainFunctionHandling (mode_word m))
       main_begins Polling e = a.begins_main below chip w s (ap is_polling e) h
-      main_begins Off e = declined (ap is_polling e)
-        where
-          declined : is_polling s.mode ≡ false → Declines spi w s calls.MainFunctionHandling (record { answer = no_answer; owed = Nothing })
-          declined f = record {
-            told = tells_nothing;
-            is = λ times. refl;
-            tells = (refl, refl, refl);
-            reset = refl;
-            polls = ap (λ b. if b then 26 ∷ 27 ∷ [] else []) f;
-          }
-      main_begins Interrupt e = declined (ap is_polling e)
-        where
-          declined : is_polling s.mode ≡ false → Declines spi w s calls.MainFunctionHandling (record { answer = no_answer; owed = Nothing })
-          declined f = record {
-            told = tells_nothing;
-            is = λ times. refl;
-            tells = (refl, refl, refl);
-            reset = refl;
-            polls = ap (λ b. if b then 26 ∷ 27 ∷ [] else []) f;
-          }
+      main_begins Off e = nothing_polled (ap is_polling e)
+      main_begins Interrupt e = nothing_polled (ap is_polling e)
 
       goes_on : (call : Call) → Beside (spi_setting d) (Called call) below → error_by d call (is_off s.mode) false ≡ None → Looks call (begins d call (mode_word s.mode))
       goes_on calls.Init lets clear = init_begins (whole_begins calls.Init refl lets) clear

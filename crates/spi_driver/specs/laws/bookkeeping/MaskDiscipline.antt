@@ -1,23 +1,24 @@
 -- Frames of units: how their steps turn the mask, and the moves that their windows have left.
--- From services.UnitFrames, spi_sequences: services.ServeSteps, services.UnitParts and 7 more.
+-- From spi_sequences: services.ServeSteps, spi_sequences: services.UnitSteps, services.UnitParts and 10 more.
 -- Used by services.UnitBounds.
 use Rattle.std.proofs.Common.{◌≡◌, ◌+◌, ◌-◌, ◌/◌, ◌%◌, ◌<◌, ◌≤◌, ◌==◌, ◌&&◌, ◌||◌, ◌∷◌, if◌then◌else◌}
 use Rattle.spi_driver.specs.Terms
-use Terms.{after_request, after_serve, after_start, Answer, arith, Arrived, begins_by, begins_of, BodyTaken, Bool}
-use Terms.{Call, channel_next, channel_served, Chip, false, find_gave, FitsSpi, FrameHistory, FrameRole, front_gave}
-use Terms.{further_of, gave, Handler, has_ended, is_below, is_closed, is_last_place, is_shared, is_sync_unit, keep_of}
-use Terms.{KeepsMask, lets_of, LongBodies, Main, main_over, nat_lt, None, Notice, Option, or_owed, Origin, PENDING}
-use Terms.{plain_turns, Position, refl, releasing, request_looked, requested_by, Reservations, Rest, run_in, Running}
-use Terms.{Sent, sequence_word, serve_finds, serve_more, serve_move, serve_owes, serve_run, serve_takes, ServePlace}
-use Terms.{ServeStep, shares, Some, spi_basis, spi_owing, SpiRepresents, SpiState, SpiTable, spot_or, start_finds}
-use Terms.{start_found, start_looks, start_more, start_move, start_owes, start_takes, Started, StartPlace, told_first}
-use Terms.{Transmit, true, TurnsMask, TurnsTo, unit_acts, unit_move, unit_over, unit_owes, unit_takes, UnitBody}
-use Terms.{UnitPlace, Units, Unmask, value_of, where_owed, whether_as, with_holds, word_of, World, zero, ℕ}
-use Rattle.spi_driver.specs.laws.services.UnitFrames.{IsFor, RequestAt, Transmits, Handles, Mains, Rests, at, holds_by}
+use Terms.{after_request, after_serve, after_start, Answer, arith, Arrived, asking_plain, begins_by, begins_of}
+use Terms.{BodyTaken, Bool, Call, channel_next, channel_served, Chip, debt_of, false, find_gave, find_plain, FitsSpi}
+use Terms.{FrameHistory, FrameRole, front_gave, further_of, gave, has_ended, is_below, is_closed, is_last_place}
+use Terms.{is_shared, is_sync_unit, keep_of, KeepsMask, lets_of, LongBodies, Main, main_over, nat_lt, None, Notice}
+use Terms.{Option, or_owed, Origin, PENDING, plain_turns, Position, refl, releasing, request_looked, requested_by}
+use Terms.{Reservations, run_in, Running, Sent, sequence_word, serve_finds, serve_more, serve_move, serve_owes}
+use Terms.{serve_run, serve_takes, ServeLess, ServePlace, ServeStep, shares, Some, spi_basis, spi_owing}
+use Terms.{SpiRepresents, SpiState, SpiTable, spot_or, start_finds, start_found, start_looks, start_more, start_move}
+use Terms.{start_owes, start_takes, Started, StartPlace, told_first, true, TurnsMask, TurnsTo, unit_acts, unit_move}
+use Terms.{unit_over, unit_owes, unit_takes, UnitBody, UnitPlace, Units, Unmask, value_of, where_owed, whether_as}
+use Terms.{with_holds, word_of, World, zero, ℕ}
+use Rattle.spi_driver.specs.laws.services.UnitFrames.{at, holds_by}
 use Rattle.spi_driver.specs.laws.services.UnitFrames.{serve_spot, unit_bodies, unit_windows, start_spot}
-use Rattle.spi_driver.specs.laws.services.UnitParts.{IsServing, IsStarting, ServeLess, Serving, StartLess, Starting}
-use Rattle.spi_driver.specs.laws.services.UnitParts.{debt_of, foot, serve_room_at, start_room_at}
-use Rattle.spi_driver.specs.laws.services.UnitRight.{StandX, asking_plain, find_plain, front_plain}
+use Rattle.spi_driver.specs.laws.services.UnitParts.{IsServing, IsStarting, Serving, StartLess, Starting}
+use Rattle.spi_driver.specs.laws.services.UnitParts.{foot, serve_room_at, start_room_at}
+use Rattle.spi_driver.specs.laws.services.UnitRight.{StandX, look_few, front_plain}
 use Rattle.spi_sequences.specs.declared.service.request.RequestPlace.TheVariants as request
 use Rattle.spi_sequences.specs.declared.service.request.Requested.TheVariants as requested
 use Rattle.spi_sequences.specs.declared.service.serve.ServePlace.TheVariants as serve
@@ -83,13 +84,13 @@ module _ (a : Starting) (b : Serving) (d : SpiTable) (fits : FitsSpi d) (startin
       (λ _. refl)
   start_open x u start.Nexts v i = refl
   start_open x u (start.Marks n) v i = refl
-  start_open x u (start.Front n m f) v i = by (has_ended (front_gave f v))
+  start_open x u (start.Front n m f) v i = front_open (has_ended (front_gave f v))
     where
-      by : (q : Bool) → is_closing (start_looks x n m f v (front_gave f v) q).0 ≡ false
-      by true =
+      front_open : (q : Bool) → is_closing (start_looks x n m f v (front_gave f v) q).0 ≡ false
+      front_open true =
           elim (nat_lt (gave (front_gave f v)) 8) as (λ q. is_closing (start_found x n m f v (gave (front_gave f v)) q).0 ≡ false)
           [ true ↦ refl | false ↦ refl ]
-      by false = refl
+      front_open false = refl
   start_open x u (start.Find c f) v i =
       elim (find_gave f v) as (λ o. is_closing (start_finds c f v o).0 ≡ false)
       [ None ↦ refl | Some n ↦ refl ]
@@ -184,13 +185,7 @@ module _ (a : Starting) (b : Serving) (d : SpiTable) (fits : FitsSpi d) (startin
       by false f = (refl, omega (arith, lt))
 
   pub turns_at : (below : Reservations) (chip : Chip) (w : World) (s : SpiState) (e : FrameRole) (u : ℕ) (p : UnitPlace) (o : Origin Call) (t : FrameHistory) → unit_owes p ≡ false → StandX a b d fits starting serving below chip w s d e u p o t → TurnsX e u p (value_of chip (unit_move (at d e u p) p))
-  turns_at below chip w s e u (place.Request (request.Look k)) o t i h = looked_turns e u k (word_of chip (sequence_word k) == PENDING && (k == requested_by e || shares d (requested_by e) k)) (few e u o h.1.0.of h.1.1)
-    where
-      few : (e : FrameRole) (u : ℕ) (o : Origin Call) → IsFor u e o → RequestAt d e u (request.Look k) s t → k < 8
-      few (Transmit q) u _ (Transmits _) asked = asked.2
-      few Handler u _ Handles asked = absurd asked
-      few Main u _ Mains asked = absurd asked
-      few Rest u _ Rests asked = absurd asked
+  turns_at below chip w s e u (place.Request (request.Look k)) o t i h = looked_turns e u k (word_of chip (sequence_word k) == PENDING && (k == requested_by e || shares d (requested_by e) k)) (look_few d s t k e u o h.1.0.of h.1.1)
   turns_at below chip w s e u (place.Request request.Accept) o t i h = (refl, omega arith)
   turns_at below chip w s e u (place.Request _) o t i h = absurd (cc)
   turns_at below chip w s e u place.Act o t i h =

@@ -51,11 +51,11 @@ module _ (d : SpiTable) (fits : FitsSpi d) where
 
   -- of a sequence that is sent at once: each job has at most four channels of 64 words, and a sequence 16 jobs
   job_few : (j : ℕ) → job_steps d j ≤ 4160
-  job_few j = by (job_of d j) refl
+  job_few j = row_few (job_of d j) refl
     where
-      by : (o : Option Job) → job_of d j ≡ o → 64 + 16 * sum_by (λ c. length_by (channel_of d c)) (channels_by o) ≤ 4160
-      by None e = omega arith
-      by (Some x) e =
+      row_few : (o : Option Job) → job_of d j ≡ o → 64 + 16 * sum_by (λ c. length_by (channel_of d c)) (channels_by o) ≤ 4160
+      row_few None e = omega arith
+      row_few (Some x) e =
           let row = (fits.jobs j x e).row in
           let few = (fits.jobs j x e).few in
           let long = length-take-le x.channels.count x.channels.numbers (omega (arith, row, few)) in
@@ -63,11 +63,11 @@ module _ (d : SpiTable) (fits : FitsSpi d) where
           omega (arith, words, long, few)
 
   sent_few : (q : ℕ) → sent_steps d (sequence_of d q) ≤ 66656
-  sent_few q = by (sequence_of d q) refl
+  sent_few q = row_few (sequence_of d q) refl
     where
-      by : (o : Option SpiSequenceRow) → sequence_of d q ≡ o → sent_steps d o ≤ 66656
-      by None e = omega arith
-      by (Some k) e =
+      row_few : (o : Option SpiSequenceRow) → sequence_of d q ≡ o → sent_steps d o ≤ 66656
+      row_few None e = omega arith
+      row_few (Some k) e =
           let row = (fits.sequences q k e).row in
           let few = (fits.sequences q k e).few in
           let long = length-take-le k.jobs.count k.jobs.numbers (omega (arith, row, few)) in

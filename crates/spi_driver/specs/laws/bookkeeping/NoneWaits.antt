@@ -3,24 +3,23 @@
 -- Used by services.UnitBegins.
 use Rattle.std.proofs.Common.{◌≡◌, ◌+◌, ◌/◌, ◌%◌, ◌<◌, ◌==◌, ◌&&◌, [], ◌∷◌, ◌∙◌, if◌then◌else◌}
 use Rattle.spi_driver.specs.Terms
-use Terms.{Act, after_request, after_serve, after_start, agrees_after, and_false, ap, arith, AssertedAt, AsyncTransmit}
-use Terms.{BodyTaken, Bool, brought_by, by_two, Call, Called, Chip, chip_after, CommitsTo, Done, Either, Entered}
-use Terms.{false, find_gave, FitsSpi, FrameHistory, FrameRole, Front, front_move, gap_at, Handler, happening_at}
-use Terms.{has_line, held_by, holds_at, is_left_waiting, is_owed, is_shared, is_sync_unit, Leaves, LeavesNone, List}
-use Terms.{list_all, Load, Main, main_over, Move, no_answer, None, not, Nothing, Notice, Option, Origin, outcome_of}
-use Terms.{PendingWrites, place_at, polled_by, ReceivedRight, refl, request_takes, Requested, requested_by}
-use Terms.{RequestPlace, Reservations, Rest, run_in, Running, same_number, search_move, serve_finds}
-use Terms.{serve_owes, serve_run, serve_takes, ServePlace, ServeStep, Some, spi_bare, spi_basis, spi_machine}
-use Terms.{spi_owing, SpiRepresents, SpiState, SpiTable, spot_or, start_finds, start_move, start_owes, start_takes}
-use Terms.{Started, StartPlace, STATE, state_by, subst, suc, sym, Transmit, true, unit_acts, unit_over, unit_owes}
-use Terms.{unit_takes, unit_work, UnitBody, UnitPlace, Units, value_of, waits_none, where_owed, with_holds, World}
-use Terms.{zero, ℕ}
+use Terms.{Act, after_request, after_serve, after_start, agrees_after, and_false, ap, arith, AssertedAt}
+use Terms.{AsyncTransmit, BodyTaken, Bool, brought_by, by_two, Call, Called, Chip, chip_after, CommitsTo, Done}
+use Terms.{Either, Entered, false, find_gave, FitsSpi, FrameHistory, FrameRole, Front, front_move, gap_at, Handler}
+use Terms.{happening_at, has_line, held_by, holds_at, is_left_waiting, is_owed, is_shared, is_sync_unit, Leaves}
+use Terms.{LeavesNone, List, list_all, Load, Main, main_over, Move, no_answer, None, not, Nothing, Notice, Option}
+use Terms.{Origin, outcome_of, PendingWrites, place_at, polled_by, ReceivedRight, refl, request_takes, Requested}
+use Terms.{requested_by, RequestPlace, Reservations, Rest, run_in, Running, same_number, search_move, serve_ahead}
+use Terms.{serve_finds, serve_owes, serve_run, serve_takes, ServePlace, ServeStep, Some, spi_bare, spi_basis}
+use Terms.{spi_machine, spi_owing, SpiRepresents, SpiState, SpiTable, spot_or, start_finds, start_move, start_owes}
+use Terms.{start_takes, Started, StartPlace, STATE, state_by, subst, suc, sym, Transmit, true, unit_acts, unit_over}
+use Terms.{unit_owes, unit_takes, unit_work, UnitBody, UnitPlace, Units, value_of, waits_none, where_owed, with_holds}
+use Terms.{World, zero, ℕ}
 use Rattle.spi_driver.specs.laws.services.UnitFrames.{Frame, Handles, HasDone, IsFor, Mains, RequestAt, Rests}
 use Rattle.spi_driver.specs.laws.services.UnitFrames.{Transmits, ahead_holds, ahead_owing, at, holds_by, served_ahead}
 use Rattle.spi_driver.specs.laws.services.UnitFrames.{unit_bodies, unit_spot_at, unit_windows, with_cleared, with_debt}
 use Rattle.spi_driver.specs.laws.bookkeeping.PendingWritesRight.{RequestOn, ServeOn, request_on, serve_on}
 use Rattle.spi_driver.specs.laws.services.UnitParts.{IsServing, IsStarting, Serving, StartLeaves, Starting, foot}
-use Rattle.spi_driver.specs.laws.services.UnitParts.{serve_ahead}
 use Rattle.spi_driver.specs.laws.services.UnitRight.{front_plain}
 use Rattle.spi_driver.specs.laws.bookkeeping.UnpolledFrames.{LeavesBy, PollsNone, Polls_none, leaves_unpolled}
 use Rattle.word_shapes.specs.declared.search.Search.TheVariants as search
@@ -85,37 +84,37 @@ module _ (a : Starting) (b : Serving) (d : SpiTable) (fits : FitsSpi d) where
 
     -- where it has cleared the unit
     cleared_left : (x : SpiTable) (e : FrameRole) (u : ℕ) (k : UnitBody) (q : UnitPlace) (below : Reservations) (o : Origin Call) (t : FrameHistory) → Frame d x e u o → HasDone d e u true [] t → SpiRepresents d (with_holds o t.acted (with_cleared e u) below) chip w s → Left o t (unit_over k q e u).1
-    cleared_left x e u k q below o t frame done h is = by e u o frame.of frame.small done h is
+    cleared_left x e u k q below o t frame done h is = cleared_by_role e u o frame.of frame.small done h is
       where
-        by : (e : FrameRole) (u : ℕ) (o : Origin Call) → IsFor u e o → u < 2 → HasDone d e u true [] t → SpiRepresents d (with_holds o t.acted (with_cleared e u) below) chip w s → Left o t (unit_over k q e u).1
-        by (Transmit i) u _ (Transmits _) lt done h is = over_left (Called (calls.Sequence i AsyncTransmit)) t is (ap (list_all (λ l. not (is_left_waiting (spi_machine d) w s t.served l))) done.polled)
-        by Handler u _ Handles lt done h is = over_left (Entered (26 + u)) t is (unit_left t.served (26 + u) (idle _ chip w s u h lt (ap (λ q. not q && is_owed u below) (same_number u))))
-        by Main zero _ Mains lt done h is = last (is_sync_unit k.table 1) is
+        cleared_by_role : (e : FrameRole) (u : ℕ) (o : Origin Call) → IsFor u e o → u < 2 → HasDone d e u true [] t → SpiRepresents d (with_holds o t.acted (with_cleared e u) below) chip w s → Left o t (unit_over k q e u).1
+        cleared_by_role (Transmit i) u _ (Transmits _) lt done h is = over_left (Called (calls.Sequence i AsyncTransmit)) t is (ap (list_all (λ l. not (is_left_waiting (spi_machine d) w s t.served l))) done.polled)
+        cleared_by_role Handler u _ Handles lt done h is = over_left (Entered (26 + u)) t is (unit_left t.served (26 + u) (idle _ chip w s u h lt (ap (λ q. not q && is_owed u below) (same_number u))))
+        cleared_by_role Main zero _ Mains lt done h is = last (is_sync_unit k.table 1) is
           where
             last : (z : Bool) → (main_over k q z).1.done ≡ Some n → LeavesBy d w s o_main t made y (main_over k q z).1.event n
             last true is = main_left t is done.polled (unit_left t.served 26 (idle _ chip w s 0 h (omega arith) refl)) (unserved_left t.served 27 done.progress.1) refl
             last false is = absurd (cc)
-        by Main (suc zero) _ Mains lt done h is = main_left t is done.polled (unserved_left t.served 26 done.progress.2) (unit_left t.served 27 (idle _ chip w s 1 h (omega arith) refl)) refl
-        by Main (suc (suc u)) _ Mains lt done h is = absurd (omega (arith, lt))
-        by Rest zero _ Rests lt done h is = absurd done.progress
-        by Rest (suc zero) _ Rests lt done h is = main_left t is done.polled (unit_left t.served 26 (idle _ chip w s 0 h (omega arith) refl)) (unit_left t.served 27 (idle _ chip w s 1 h (omega arith) refl)) refl
-        by Rest (suc (suc u)) _ Rests lt done h is = absurd (omega (arith, lt))
+        cleared_by_role Main (suc zero) _ Mains lt done h is = main_left t is done.polled (unserved_left t.served 26 done.progress.2) (unit_left t.served 27 (idle _ chip w s 1 h (omega arith) refl)) refl
+        cleared_by_role Main (suc (suc u)) _ Mains lt done h is = absurd (omega (arith, lt))
+        cleared_by_role Rest zero _ Rests lt done h is = absurd done.progress
+        cleared_by_role Rest (suc zero) _ Rests lt done h is = main_left t is done.polled (unit_left t.served 26 (idle _ chip w s 0 h (omega arith) refl)) (unit_left t.served 27 (idle _ chip w s 1 h (omega arith) refl)) refl
+        cleared_by_role Rest (suc (suc u)) _ Rests lt done h is = absurd (omega (arith, lt))
 
     -- where its line wasn't ready
     missed_left : (x : SpiTable) (e : FrameRole) (u : ℕ) (k : UnitBody) (q : UnitPlace) (below : Reservations) (o : Origin Call) (t : FrameHistory) → Frame d x e u o → HasDone d e u false [] t → SpiRepresents d (with_holds o t.acted (holds_by e) below) chip w s → Left o t (unit_over k q e u).1
-    missed_left x e u k q below o t frame done h is = by e u o frame.of frame.small done h is
+    missed_left x e u k q below o t frame done h is = missed_by_role e u o frame.of frame.small done h is
       where
-        by : (e : FrameRole) (u : ℕ) (o : Origin Call) → IsFor u e o → u < 2 → HasDone d e u false [] t → SpiRepresents d (with_holds o t.acted (holds_by e) below) chip w s → Left o t (unit_over k q e u).1
-        by (Transmit i) u _ (Transmits _) lt done h is = absurd done.progress
-        by Handler u _ Handles lt done h is = over_left (Entered (26 + u)) t is (unserved_left t.served (26 + u) (ap (λ ls. has_line ls (26 + u)) done.progress))
-        by Main zero _ Mains lt done h is = last (is_sync_unit k.table 1) is
+        missed_by_role : (e : FrameRole) (u : ℕ) (o : Origin Call) → IsFor u e o → u < 2 → HasDone d e u false [] t → SpiRepresents d (with_holds o t.acted (holds_by e) below) chip w s → Left o t (unit_over k q e u).1
+        missed_by_role (Transmit i) u _ (Transmits _) lt done h is = absurd done.progress
+        missed_by_role Handler u _ Handles lt done h is = over_left (Entered (26 + u)) t is (unserved_left t.served (26 + u) (ap (λ ls. has_line ls (26 + u)) done.progress))
+        missed_by_role Main zero _ Mains lt done h is = last (is_sync_unit k.table 1) is
           where
             last : (z : Bool) → (main_over k q z).1.done ≡ Some n → LeavesBy d w s o_main t made y (main_over k q z).1.event n
             last true is = main_left t is done.polled (unserved_left t.served 26 (ap (λ ls. has_line ls 26) done.progress.0)) (unserved_left t.served 27 (ap (λ ls. has_line ls 27) done.progress.0)) refl
             last false is = absurd (cc)
-        by Main (suc u) _ Mains lt done h is = main_left t is done.polled (unserved_left t.served 26 (ap (λ ls. has_line ls 26) done.progress.1)) (unserved_left t.served 27 (ap (λ ls. has_line ls 27) done.progress.1)) refl
-        by Rest zero _ Rests lt done h is = absurd done.progress
-        by Rest (suc u) _ Rests lt done h is = main_left t is done.polled (unit_left t.served 26 (idle _ chip w s 0 h (omega arith) refl)) (unserved_left t.served 27 done.progress.1) refl
+        missed_by_role Main (suc u) _ Mains lt done h is = main_left t is done.polled (unserved_left t.served 26 (ap (λ ls. has_line ls 26) done.progress.1)) (unserved_left t.served 27 (ap (λ ls. has_line ls 27) done.progress.1)) refl
+        missed_by_role Rest zero _ Rests lt done h is = absurd done.progress
+        missed_by_role Rest (suc u) _ Rests lt done h is = main_left t is done.polled (unit_left t.served 26 (idle _ chip w s 0 h (omega arith) refl)) (unserved_left t.served 27 done.progress.1) refl
 
   -- ---- at each place
 
@@ -202,7 +201,7 @@ module _ (a : Starting) (b : Serving) (d : SpiTable) (fits : FitsSpi d) where
         later : Chip
         later = chip_after chip (start_move d u p) 0
 
-        by : (z : StartPlace × Started) → StartLeaves a d e held o t.acted u chip later w s (start_move d u p) v 0 z → LeftAt (at d e u (place.Start p)) (after_start (at d e u (place.Start p)) z).1
+        by : (z : StartPlace × Started) → StartLeaves a d e held o t.acted u chip later w s (start_move d u p) 0 z → LeftAt (at d e u (place.Start p)) (after_start (at d e u (place.Start p)) z).1
         by (r1, started.Goes z) k is = absurd (cc)
         by (r1, started.Over) k is = cleared_left later w s (start_move d u p) y n d e u (at d e u (place.Start p)) (place.Start r1) below o t frame done k is
 
@@ -250,10 +249,10 @@ module _ (a : Starting) (b : Serving) (d : SpiTable) (fits : FitsSpi d) where
     left_by x e u (place.Request r) false i h = request_left x e u r h.1.0.of h.1.1
     left_by x e u (place.Start p) false i h = free_start x e u p i h
     left_by x e u (place.Serve p) false i h = free_serve x e u p i h
-    left_by x e u place.Act false i (h, (table, for, main, first, now, polling)) = by (is_sync_unit x u)
+    left_by x e u place.Act false i (h, (table, for, main, first, now, polling)) = acts_left (is_sync_unit x u)
       where
-        by : (z : Bool) → LeftAt (at x e u place.Act) (unit_acts (at x e u place.Act) z).1
-        by true is = over_act is
+        acts_left : (z : Bool) → LeftAt (at x e u place.Act) (unit_acts (at x e u place.Act) z).1
+        acts_left true is = over_act is
           where
             served_none : t.served ≡ []
             served_none = ap (λ (p : FrameHistory). p.served) now
@@ -274,7 +273,7 @@ module _ (a : Starting) (b : Serving) (d : SpiTable) (fits : FitsSpi d) where
 
                 by_served : (ls : List ℕ) → ls ≡ [] → LeavesNone (spi_machine d) w s1 o (polled_by (spi_machine d) w s o t.polled (Some Act)) ls
                 by_served ls none = subst (λ zs. LeavesNone (spi_machine d) w s1 o (polled_by (spi_machine d) w s o t.polled (Some Act)) zs) (sym none) (none_served o (polled_by (spi_machine d) w s o t.polled (Some Act)))
-        by false is = absurd (cc)
+        acts_left false is = absurd (cc)
     left_by x e u (place.Opens z) false i h = λ is. absurd (cc)
     left_by x e u (place.Tell z k) false i h = λ is. absurd (cc)
 

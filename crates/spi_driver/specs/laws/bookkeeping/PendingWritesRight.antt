@@ -9,23 +9,23 @@ use Terms.{clear_over, cleared_of, commit_by, commit_ends, commit_last, Continue
 use Terms.{first_internal, first_pinned, frame_names, FrameHistory, FrameRole, goes, goes_on, GoesFree, GoesOwing}
 use Terms.{Handler, has_ended, has_line, inl, inr, is_simple, is_sync_unit, job_note, job_notice, job_of, keep_ends}
 use Terms.{keep_of, Leaving, List, list_all, list_of, Main, main_over, may, MayStop, nat_le, nat_lt, next_gave}
-use Terms.{no_answer, None, Nothing, Notice, notifies_job, notifies_sequence, Option, Origin, owed_left, owed_move}
-use Terms.{PendingWrites, prepare_at, prepare_by, prepare_ends, prepared, refl, release_by, release_last, releasing}
-use Terms.{request_adds, request_owes, request_takes, Requested, requested_by, RequestPlace, Reservations, Rest}
-use Terms.{rest_after, Running, same_line, Sent, sequence_note, sequence_notice, sequence_of, SequenceNext}
-use Terms.{serve_again, serve_commits, serve_drops, serve_keeps, serve_keeps_last, serve_lets, serve_owes}
-use Terms.{serve_releases, serve_takes, Served, ServePlace, ServeStep, Some, some_is, spi_bare, spi_basis, spi_owing}
-use Terms.{SpiJobEndNotification, SpiRepresents, SpiSeqEndNotification, SpiState, SpiTable, start_chooses, start_owes}
-use Terms.{start_prepares, start_releases, start_takes, Started, StartPlace, subst, suc, sym, take_gave, Transmit}
-use Terms.{true, unit_over, unit_owed, unit_owes, unit_takes, UnitBody, UnitPlace, Units, unless_done, where_owed}
-use Terms.{whether_as, Windows, with_holds, World, zero, ℕ}
+use Terms.{no_answer, None, Nothing, Notice, notices_by, notifies_job, notifies_sequence, Option, Origin, owed_left}
+use Terms.{owed_move, PendingWrites, prepare_at, prepare_by, prepare_ends, prepared, refl, release_by, release_last}
+use Terms.{releasing, request_adds, request_owes, request_takes, Requested, requested_by, RequestPlace, Reservations}
+use Terms.{Rest, rest_after, Running, same_line, Sent, sequence_note, sequence_notice, sequence_of, SequenceNext}
+use Terms.{serve_again, serve_ahead, serve_commits, serve_drops, serve_keeps, serve_keeps_last, serve_lets}
+use Terms.{serve_owes, serve_releases, serve_takes, Served, ServePlace, ServeStep, Some, some_is, spi_bare, spi_basis}
+use Terms.{spi_owing, SpiJobEndNotification, SpiRepresents, SpiSeqEndNotification, SpiState, SpiTable, start_chooses}
+use Terms.{start_owes, start_prepares, start_releases, start_takes, Started, StartPlace, subst, suc, sym, take_gave}
+use Terms.{Transmit, true, unit_over, unit_owed, unit_owes, unit_takes, UnitBody, UnitPlace, Units, unless_done}
+use Terms.{where_owed, whether_as, Windows, with_holds, World, zero, ℕ}
 use Rattle.spi_driver.specs.laws.services.UnitFrames.{About, Ahead, Frame, Handles, HasDone, IsFor, Mains, OwedAt}
 use Rattle.spi_driver.specs.laws.services.UnitFrames.{Rests, ToPass, ToStart, Transmits, about_owed, about_unit}
 use Rattle.spi_driver.specs.laws.services.UnitFrames.{ahead_holds, ahead_of, ahead_owing, all_told, and_other, at}
 use Rattle.spi_driver.specs.laws.services.UnitFrames.{is_met, owed_holds, served_ahead, told_list, unit_after}
 use Rattle.spi_driver.specs.laws.services.UnitFrames.{unit_bodies, unit_windows, with_cleared}
 use Rattle.spi_driver.specs.laws.bookkeeping.MainFunctionHold.{handling_of, handling_over}
-use Rattle.spi_driver.specs.laws.services.UnitParts.{Serving, Starting, notices_by, serve_ahead}
+use Rattle.spi_driver.specs.laws.services.UnitParts.{Serving, Starting}
 use Rattle.spi_machine.specs.declared.call.Call.TheVariants as calls
 use Rattle.spi_sequences.specs.declared.service.request.RequestPlace.TheVariants as request
 use Rattle.spi_sequences.specs.declared.service.request.Requested.TheVariants as requested
@@ -220,26 +220,26 @@ module _ (a : Starting) (b : Serving) (d : SpiTable) where
   passes_so x _ _ p q = inr (refl, refl, tt)
 
   goes_so : (x : SpiTable) (e : FrameRole) (u : ℕ) (p : UnitPlace) (v : ℕ) → unit_owes p ≡ true → GoesSo (about x e u (ahead_of x p)) (unit_takes (at x e u p) v)
-  goes_so x e u (place.Request r) v i = by (request_takes x (requested_by e) r v) (request_on x (requested_by e) r v i)
+  goes_so x e u (place.Request r) v i = request_goes (request_takes x (requested_by e) r v) (request_on x (requested_by e) r v i)
     where
-      by : (z : RequestPlace × Requested) → RequestOn z → GoesSo (about x e u ToStart) (after_request (at x e u (place.Request r)) z)
-      by (r1, requested.Goes None) h = inl (h, refl, refl)
-      by (r1, requested.Goes (Some n)) h = absurd h
-      by (r1, requested.Held) h = absurd h
-      by (r1, requested.Accepted) h = inr (refl, refl, (refl, refl, refl, omega arith, omega arith))
+      request_goes : (z : RequestPlace × Requested) → RequestOn z → GoesSo (about x e u ToStart) (after_request (at x e u (place.Request r)) z)
+      request_goes (r1, requested.Goes None) h = inl (h, refl, refl)
+      request_goes (r1, requested.Goes (Some n)) h = absurd h
+      request_goes (r1, requested.Held) h = absurd h
+      request_goes (r1, requested.Accepted) h = inr (refl, refl, (refl, refl, refl, omega arith, omega arith))
   goes_so x e u (place.Start r) v i = by (start_takes x u r v) (start_on x u r v i)
     where
       by : (z : StartPlace × Started) → StartOn z → GoesSo (about x e u ToPass) (after_start (at x e u (place.Start r)) z)
       by (r1, started.Goes None) h = inl (h, refl, refl)
       by (r1, started.Goes (Some n)) h = absurd h
       by (r1, started.Over) h = passes_so x e u (place.Start r) (place.Start r1)
-  goes_so x e u (place.Serve r) v i = by (serve_takes x u r v) (serve_on x u r v i)
+  goes_so x e u (place.Serve r) v i = serve_goes (serve_takes x u r v) (serve_on x u r v i)
     where
-      by : (z : ServePlace × ServeStep) → ServeOn x (serve_ahead x r) z → GoesSo (about x e u (served_ahead (serve_ahead x r))) (after_serve (at x e u (place.Serve r)) z)
-      by (r1, steps.Goes None) h = inl (h.0, refl, ap (λ n. about x e u (served_ahead n)) h.1)
-      by (r1, steps.Goes (Some n)) h = absurd h
-      by (r1, steps.Over) h = subst (λ n. GoesSo (about x e u (served_ahead n)) (unit_over (at x e u (place.Serve r)) (place.Serve r1) e u)) (sym h.0) (passes_so x e u (place.Serve r) (place.Serve r1))
-      by (r1, steps.JobOver n) h = subst (λ n1. GoesSo (about x e u (served_ahead n1)) (at x e u (place.Opens (after.Tell n)), goes)) (sym h) (inr (refl, refl, (refl, refl, refl, omega arith, omega arith)))
+      serve_goes : (z : ServePlace × ServeStep) → ServeOn x (serve_ahead x r) z → GoesSo (about x e u (served_ahead (serve_ahead x r))) (after_serve (at x e u (place.Serve r)) z)
+      serve_goes (r1, steps.Goes None) h = inl (h.0, refl, ap (λ n. about x e u (served_ahead n)) h.1)
+      serve_goes (r1, steps.Goes (Some n)) h = absurd h
+      serve_goes (r1, steps.Over) h = subst (λ n. GoesSo (about x e u (served_ahead n)) (unit_over (at x e u (place.Serve r)) (place.Serve r1) e u)) (sym h.0) (passes_so x e u (place.Serve r) (place.Serve r1))
+      serve_goes (r1, steps.JobOver n) h = subst (λ n1. GoesSo (about x e u (served_ahead n1)) (at x e u (place.Opens (after.Tell n)), goes)) (sym h) (inr (refl, refl, (refl, refl, refl, omega arith, omega arith)))
   goes_so x e u _ v i = absurd (cc)
 
   -- ---- after the last one the frame stands, or may end
@@ -271,7 +271,7 @@ module _ (a : Starting) (b : Serving) (d : SpiTable) where
   -- done with the unit, which it has cleared, it goes on with the next one, or may end
   pub passes_on : (x : SpiTable) (e : FrameRole) (u : ℕ) (p q : UnitPlace) (below : Reservations) (chip : Chip) (w : World) (s : SpiState) (o : Origin Call) (t : FrameHistory) (m : ℕ → Bool) → rest_after q ≡ Rest → Frame d x e u o → HasDone d e u true [] t → SpiRepresents d (with_holds o t.acted (with_cleared e u) below) chip w s
       → Continue below chip w s o t m (unit_over (at x e u p) q e u)
-  passes_on x e u p q below chip w s o t m rest frame done h = by e u o frame.of frame done h
+  passes_on x e u p q below chip w s o t m rest frame done h = passes_by_role e u o frame.of frame done h
     where
       o_main : Origin Call
       o_main = Called calls.MainFunctionHandling
@@ -279,19 +279,19 @@ module _ (a : Starting) (b : Serving) (d : SpiTable) where
       over : (o : Origin Call) (u : ℕ) (held : Reservations) → SpiRepresents d (cleared_of u o t.acted ∷ held) chip w s → SpiRepresents d held chip w s
       over o u held h = clear_over d held chip w s u o t.acted h
 
-      by : (e : FrameRole) (u : ℕ) (o : Origin Call) → IsFor u e o → Frame d x e u o → HasDone d e u true [] t → SpiRepresents d (with_holds o t.acted (with_cleared e u) below) chip w s → Continue below chip w s o t m (unit_over (at x e u p) q e u)
-      by (Transmit n) u _ (Transmits _) frame done h = (over (Called (calls.Sequence n AsyncTransmit)) u below h, record { may = (done.acted, all_none (λ l. has_line t.served l) (λ l. m l || has_line t.missed l) t.polled done.polled); served = false; owed = done.owed; shown = λ i. absurd (cc); report = done.report })
-      by Handler u _ Handles frame done h = (over (Entered (26 + u)) u below h, record { may = (ap (λ ls. has_line ls (26 + u) || m (26 + u)) done.progress ∙ ap (λ i. i || m (26 + u)) (same_line (26 + u)), refl); served = false; owed = done.owed; shown = λ i. absurd (cc); report = done.report })
-      by Main zero _ Mains frame done h = next (is_sync_unit x 1) refl
+      passes_by_role : (e : FrameRole) (u : ℕ) (o : Origin Call) → IsFor u e o → Frame d x e u o → HasDone d e u true [] t → SpiRepresents d (with_holds o t.acted (with_cleared e u) below) chip w s → Continue below chip w s o t m (unit_over (at x e u p) q e u)
+      passes_by_role (Transmit n) u _ (Transmits _) frame done h = (over (Called (calls.Sequence n AsyncTransmit)) u below h, record { may = (done.acted, all_none (λ l. has_line t.served l) (λ l. m l || has_line t.missed l) t.polled done.polled); served = false; owed = done.owed; shown = λ i. absurd (cc); report = done.report })
+      passes_by_role Handler u _ Handles frame done h = (over (Entered (26 + u)) u below h, record { may = (ap (λ ls. has_line ls (26 + u) || m (26 + u)) done.progress ∙ ap (λ i. i || m (26 + u)) (same_line (26 + u)), refl); served = false; owed = done.owed; shown = λ i. absurd (cc); report = done.report })
+      passes_by_role Main zero _ Mains frame done h = next (is_sync_unit x 1) refl
         where
           next : (z : Bool) → is_sync_unit x 1 ≡ z → Continue below chip w s o_main t m (main_over (at x Main 0 p) q z)
           next true sync = (handling_over d o_main t.acted below chip w s (over o_main 0 (handling_of o_main t.acted ∷ below) h), main_stops t m done.acted done.polled done.report done.owed done.progress.0 (done.progress.2 (ap (λ y. is_sync_unit y 1) (sym frame.table) ∙ sync)))
           next false async =
               subst (λ e1. AssertedAt (spi_basis d) (unit_bodies a b d) below chip w s (at x e1 1 (place.Opens after.Serve)) o_main t) (sym rest)
               (h, (record { table = frame.table; small = omega arith; async = ap (λ y. is_sync_unit y 1) (sym frame.table) ∙ async; of = Rests }, record { acted = done.acted; polled = done.polled; report = done.report; owed = done.owed; progress = (done.progress.0, done.progress.1) }))
-      by Main (suc u) _ Mains frame done h = (handling_over d o_main t.acted below chip w s (over o_main (suc u) (handling_of o_main t.acted ∷ below) h), main_stops t m done.acted done.polled done.report done.owed done.progress.0 done.progress.1)
-      by Rest zero _ Rests frame done h = absurd done.progress
-      by Rest (suc u) _ Rests frame done h = (
+      passes_by_role Main (suc u) _ Mains frame done h = (handling_over d o_main t.acted below chip w s (over o_main (suc u) (handling_of o_main t.acted ∷ below) h), main_stops t m done.acted done.polled done.report done.owed done.progress.0 done.progress.1)
+      passes_by_role Rest zero _ Rests frame done h = absurd done.progress
+      passes_by_role Rest (suc u) _ Rests frame done h = (
         handling_over d o_main t.acted below chip w s (over o_main 0 (handling_of o_main t.acted ∷ below) (over o_main (suc u) (cleared_of 0 o_main t.acted ∷ handling_of o_main t.acted ∷ below) h)),
         main_stops t m done.acted done.polled done.report done.owed done.progress.0 done.progress.1,
       )
@@ -301,29 +301,29 @@ module _ (a : Starting) (b : Serving) (d : SpiTable) where
 
   stands_at : (x : SpiTable) (e : FrameRole) (u : ℕ) (p : UnitPlace) (v : ℕ) (below : Reservations) (chip : Chip) (w : World) (s : SpiState) (o : Origin Call) (t : FrameHistory) (m : ℕ → Bool) → unit_owes p ≡ true → unless_done (unit_takes (at x e u p) v).1.done (unit_owed (unit_takes (at x e u p) v).0) ≡ None
       → OwedAt d (Some (about x e u (ahead_of x p))) o t → SpiRepresents d (with_holds o t.acted (owed_holds (Some (about x e u (ahead_of x p)))) below) chip w s → Continue below chip w s o t m (unit_takes (at x e u p) v)
-  stands_at x e u (place.Request r) v below chip w s o t m i none (frame, done) h = by (request_takes x (requested_by e) r v) (request_on x (requested_by e) r v i) none
+  stands_at x e u (place.Request r) v below chip w s o t m i none (frame, done) h = request_stands (request_takes x (requested_by e) r v) (request_on x (requested_by e) r v i) none
     where
-      by : (z : RequestPlace × Requested) → RequestOn z → let n = after_request (at x e u (place.Request r)) z in unless_done n.1.done (unit_owed n.0) ≡ None → Continue below chip w s o t m n
-      by (r1, requested.Goes None) k f = absurd (goes_owed x e u (place.Request r1) k f)
-      by (r1, requested.Goes (Some n)) k f = absurd k
-      by (r1, requested.Held) k f = absurd k
-      by (r1, requested.Accepted) k f = (h, (frame, done))
+      request_stands : (z : RequestPlace × Requested) → RequestOn z → let n = after_request (at x e u (place.Request r)) z in unless_done n.1.done (unit_owed n.0) ≡ None → Continue below chip w s o t m n
+      request_stands (r1, requested.Goes None) k f = absurd (goes_owed x e u (place.Request r1) k f)
+      request_stands (r1, requested.Goes (Some n)) k f = absurd k
+      request_stands (r1, requested.Held) k f = absurd k
+      request_stands (r1, requested.Accepted) k f = (h, (frame, done))
   stands_at x e u (place.Start r) v below chip w s o t m i none (frame, done) h = by (start_takes x u r v) (start_on x u r v i) none
     where
       by : (z : StartPlace × Started) → StartOn z → let n = after_start (at x e u (place.Start r)) z in unless_done n.1.done (unit_owed n.0) ≡ None → Continue below chip w s o t m n
       by (r1, started.Goes None) k f = absurd (goes_owed x e u (place.Start r1) k f)
       by (r1, started.Goes (Some n)) k f = absurd k
       by (r1, started.Over) k f = passes_on x e u (place.Start r) (place.Start r1) below chip w s o t m refl frame done h
-  stands_at x e u (place.Serve r) v below chip w s o t m i none (frame, done) h = by (serve_takes x u r v) (serve_on x u r v i) none
+  stands_at x e u (place.Serve r) v below chip w s o t m i none (frame, done) h = serve_stands (serve_takes x u r v) (serve_on x u r v i) none
     where
       Here : Option (List Notice) → Type 0
       Here n = HasDone d e u true (ahead_owing (served_ahead n)) t × SpiRepresents d (with_holds o t.acted (ahead_holds e u (served_ahead n)) below) chip w s
 
-      by : (z : ServePlace × ServeStep) → ServeOn x (serve_ahead x r) z → let n = after_serve (at x e u (place.Serve r)) z in unless_done n.1.done (unit_owed n.0) ≡ None → Continue below chip w s o t m n
-      by (r1, steps.Goes None) k f = absurd (goes_owed x e u (place.Serve r1) k.0 f)
-      by (r1, steps.Goes (Some n)) k f = absurd k
-      by (r1, steps.Over) k f = let here = subst Here k.0 (done, h) in passes_on x e u (place.Serve r) (place.Serve r1) below chip w s o t m k.1 frame here.0 here.1
-      by (r1, steps.JobOver n) k f = let here = subst Here k (done, h) in (here.1, (frame, here.0))
+      serve_stands : (z : ServePlace × ServeStep) → ServeOn x (serve_ahead x r) z → let n = after_serve (at x e u (place.Serve r)) z in unless_done n.1.done (unit_owed n.0) ≡ None → Continue below chip w s o t m n
+      serve_stands (r1, steps.Goes None) k f = absurd (goes_owed x e u (place.Serve r1) k.0 f)
+      serve_stands (r1, steps.Goes (Some n)) k f = absurd k
+      serve_stands (r1, steps.Over) k f = let here = subst Here k.0 (done, h) in passes_on x e u (place.Serve r) (place.Serve r1) below chip w s o t m k.1 frame here.0 here.1
+      serve_stands (r1, steps.JobOver n) k f = let here = subst Here k (done, h) in (here.1, (frame, here.0))
   stands_at x e u place.Act v below chip w s o t m i none at h = absurd (cc)
   stands_at x e u (place.Opens n) v below chip w s o t m i none at h = absurd (cc)
   stands_at x e u (place.Tell n l) v below chip w s o t m i none at h = absurd (cc)
@@ -343,13 +343,13 @@ module _ (a : Starting) (b : Serving) (d : SpiTable) where
   }
     where
       goes_on : (k : UnitBody) (z : PendingWrites) (v : ℕ) → unit_owes k.place ≡ true → unless_done (unit_takes k v).1.done (unit_owed (unit_takes k v).0) ≡ Some z → GoesOwing W (Units k) z (unit_takes k v)
-      goes_on k z v i f = by (unit_takes k v) (goes_so k.table k.errand k.unit k.place v i) f
+      goes_on k z v i f = owing_on (unit_takes k v) (goes_so k.table k.errand k.unit k.place v i) f
         where
-          by : (t : UnitBody × BodyTaken) → GoesSo (about_unit k) t → unless_done t.1.done (unit_owed t.0) ≡ Some z → GoesOwing W (Units k) z t
-          by t (inl (q, g, same)) f =
+          owing_on : (t : UnitBody × BodyTaken) → GoesSo (about_unit k) t → unless_done t.1.done (unit_owed t.0) ≡ Some z → GoesOwing W (Units k) z t
+          owing_on t (inl (q, g, same)) f =
               let left : unit_owed t.0 ≡ Some z = subst (λ (n : BodyTaken). unless_done n.done (unit_owed t.0) ≡ Some z) g f in
               (left, g, ap about_owed (sym (owed_unit t.0 z left).1) ∙ ap (λ y. Some y) same)
-          by t (inr (none, q, free)) f = absurd (let g = sym none ∙ f in cc)
+          owing_on t (inr (none, q, free)) f = absurd (let g = sym none ∙ f in cc)
 
       ends_so : (k : UnitBody) (v : ℕ) → unit_owes k.place ≡ true → unless_done (unit_takes k v).1.done (unit_owed (unit_takes k v).0) ≡ None → ((unit_takes k v).1.event ≡ None) × GoesFree W (Some (about_unit k)) (unit_takes k v).0 (unit_takes k v).1.done
       ends_so k v i f = by (unit_takes k v) (goes_so k.table k.errand k.unit k.place v i) f

@@ -11,7 +11,6 @@ use Terms.{outcome_of, pending_later, polled_by, polls, query_bodies, QueryBody,
 use Terms.{refl, Reservations, Run, run_at, runs_later, Serve, served_by, set_up_bodies, SetUpBody, Some, spi_basis}
 use Terms.{spi_machine, SpiState, SpiTable, Start, state_by, subst, sym, unit_of, Whole, whole_bodies}
 use Terms.{WholeBody, World, world_after, write_bodies, WriteBody, ℕ}
-use Rattle.service_outline.specs.declared.done.Epilogue as owing
 use Rattle.spi_sequences.specs.declared.service.cancel.CancelBody.TheVariants as cancel
 use Rattle.spi_sequences.specs.declared.service.init.InitPlace.TheVariants as init
 use Rattle.spi_sequences.specs.declared.service.query.QueryBody.TheVariants as query
@@ -44,11 +43,9 @@ module _ (d : SpiTable) (w : World) (s : SpiState) where
 
   pub leaves_unpolled : (o : Origin Call) (t : FrameHistory) (made : Move) (y : ℕ) (e : Option Event) (n : Done) → PollsNone o t.polled → LeavesBy d w s o t made y e n
   leaves_unpolled o t made y e n none =
+      let s1 : SpiState = state_by s (outcome_of (spi_machine d) w s (happening_at o (brought_by w t.committed made y) e)) in
       elim n.owed as (λ x. Leaves (spi_machine d) w s1 o (polled_by (spi_machine d) w s o t.polled e) (served_by t.served e) x)
       [ Nothing ↦ left_none o t.polled (served_by t.served e) e none w s1 | _ ↦ left_none o t.polled (served_by t.served e) e none ]
-    where
-      s1 : SpiState
-      s1 = state_by s (outcome_of (spi_machine d) w s (happening_at o (brought_by w t.committed made y) e))
 
 -- ---- the bodies that start and serve no unit
 
@@ -89,13 +86,13 @@ module _ (d : SpiTable) (below : Reservations) (chip : Chip) (w : World) (s : Sp
   write_unpolled _ h = being_none h.1.0.2 refl (λ z. refl)
 
   pub read_unpolled : (k : ReadBody) → AssertedAt (spi_basis d) (read_bodies d) below chip w s k o t → PollsNone o t.polled
-  read_unpolled k h = by k.place h
+  read_unpolled k h = polls_none k.place h
     where
-      by : (p : ReadPlace) → AssertedAt (spi_basis d) (read_bodies d) below chip w s (record k { place = p }) o t → PollsNone o t.polled
-      by (read.Pin p) h = being_none h.1.0.2 refl (λ z. refl)
-      by (read.Release p) h = being_none h.1.0.3 refl (λ z. refl)
-      by read.Over h = absurd h.1
-      by _ h = being_none h.1.3 refl (λ z. refl)
+      polls_none : (p : ReadPlace) → AssertedAt (spi_basis d) (read_bodies d) below chip w s (record k { place = p }) o t → PollsNone o t.polled
+      polls_none (read.Pin p) h = being_none h.1.0.2 refl (λ z. refl)
+      polls_none (read.Release p) h = being_none h.1.0.3 refl (λ z. refl)
+      polls_none read.Over h = absurd h.1
+      polls_none _ h = being_none h.1.3 refl (λ z. refl)
 
   pub cancel_unpolled : (k : CancelBody) → AssertedAt (spi_basis d) (cancel_bodies d) below chip w s k o t → PollsNone o t.polled
   cancel_unpolled (cancel.Drop r p) h = being_none h.1.1 refl (λ z. refl)

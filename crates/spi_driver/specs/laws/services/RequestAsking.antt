@@ -1,21 +1,21 @@
 -- A request up to its act: it looks at every sequence, and acts where one is in the way, or where none is.
--- From spi_sequences: words.ListTests, services.UnitFrames, services.UnitParts and 8 more.
+-- From spi_sequences: words.ListTests, services.UnitFrames, spi_sequences: words.JobPlaces and 9 more.
 -- Used by services.UnitRight.
 use Rattle.std.proofs.Common.{◌≡◌, ◌+◌, ◌<◌, ◌==◌, ◌&&◌, ◌||◌, ◌∷◌, ◌∙◌, if◌then◌else◌}
 use Rattle.spi_driver.specs.Terms
 use Terms.{accepted, accepted_owes, acts, acts_by, after_request, all_of, all_pending, and_parts, answers, any_in}
 use Terms.{any_some, ap, arith, AsyncTransmit, BodyTaken, Bool, Call, Called, Chip, chip_after, CommitsTo, Contains}
-use Terms.{Contains-get_or, ENotOk, EOk, error_by, error_told, false, FitsSpi, fresh_history, get_or_default, has_job}
-use Terms.{held_by, is_below, is_held, is_number, is_off, is_past, is_pending, is_some, is_sync_sequence}
-use Terms.{is_sync_unit, is_wrong_sequence, JobList, jobs_list, jobs_of, length, List, listed, Load, Move, named}
-use Terms.{nat_lt, nat_tests, None, none_any, not, not_true, Option, owing, PENDING, Pending, pending_alone}
-use Terms.{place_found, place_in, place_missing, refl, request_looked, Reservations, same_number, Sequence}
-use Terms.{sequence_of, sequence_word, shares, shares_before, shares_job, shares_unit, slice_index_or, Some}
-use Terms.{spi_basis, spi_machine, spi_owing, SpiParamSeq, SpiRepresents, SpiSeqPending, SpiState, SpiTable, Store}
-use Terms.{subst, suc, sym, tells_error, Transmit, true, UnitBody, Units, view, whether, Works, World, zero, ℕ}
+use Terms.{Contains-get_or, debt_of, ENotOk, EOk, error_by, error_told, false, FitsSpi, fresh_history, get_or_default}
+use Terms.{has_job, held_by, is_below, is_held, is_number, is_off, is_past, is_pending, is_some, is_sync_sequence}
+use Terms.{is_sync_unit, is_wrong_sequence, JobList, jobs_list, jobs_of, last_below, length, List, listed, Load, Move}
+use Terms.{named, nat_lt, None, none_any, not, not_true, Option, owing, PENDING, Pending, pending_alone, place_found}
+use Terms.{place_in, place_missing, refl, request_looked, Reservations, same_number, Sequence, sequence_of}
+use Terms.{sequence_word, shares, shares_before, shares_job, shares_unit, slice_index_or, Some, spi_basis}
+use Terms.{spi_machine, spi_owing, SpiParamSeq, SpiRepresents, SpiSeqPending, SpiState, SpiTable, Store, subst, suc}
+use Terms.{sym, tells_error, Transmit, true, UnitBody, Units, view, whether, Works, World, zero, ℕ}
 use Rattle.spi_machine.specs.Pending.{is_of}
 use Rattle.spi_driver.specs.laws.services.UnitFrames.{Frame, IsRequest, NoneHeld, at, unit_bodies}
-use Rattle.spi_driver.specs.laws.services.UnitParts.{Serving, Starting, debt_of}
+use Rattle.spi_driver.specs.laws.services.UnitParts.{Serving, Starting}
 use Rattle.spi_machine.specs.declared.call.Call.TheVariants as calls
 use Rattle.spi_sequences.specs.declared.service.request.RequestPlace.TheVariants as request
 use Rattle.spi_sequences.specs.declared.service.request.Requested.TheVariants as requested
@@ -25,11 +25,11 @@ use Rattle.mcal_base.specs.facts.Numbers.{lt_is}
 -- ---- two sequences have a job in common, as the frame finds it
 
 has_of : (d : SpiTable) → FitsSpi d → (q j : ℕ) → is_some (place_in (jobs_list d q) j) ≡ has_job d q j
-has_of d fits q j = by (place_in (jobs_list d q) j) refl
+has_of d fits q j = found_has (place_in (jobs_list d q) j) refl
   where
-    by : (o : Option ℕ) → place_in (jobs_list d q) j ≡ o → is_some o ≡ has_job d q j
-    by (Some i) e = let f = place_found d fits q j i e in sym (any_in (λ k. k == j) (jobs_of d q) (slice_index_or (jobs_of d q) i 0) (Contains-get_or (jobs_of d q) i 0 f.0) (ap (λ k. k == j) f.1 ∙ same_number j))
-    by None e = sym (not_true (has_job d q j) (λ f. none (any_some (λ k. k == j) (jobs_of d q) f)))
+    found_has : (o : Option ℕ) → place_in (jobs_list d q) j ≡ o → is_some o ≡ has_job d q j
+    found_has (Some i) e = let f = place_found d fits q j i e in sym (any_in (λ k. k == j) (jobs_of d q) (slice_index_or (jobs_of d q) i 0) (Contains-get_or (jobs_of d q) i 0 f.0) (ap (λ k. k == j) f.1 ∙ same_number j))
+    found_has None e = sym (not_true (has_job d q j) (λ f. none (any_some (λ k. k == j) (jobs_of d q) f)))
       where
         none : (k : ℕ) × Contains (jobs_of d q) k × ((k == j) ≡ true) → ⊥
         none (k, (i, lt, own), is) = place_missing d fits q j i e lt (sym (get_or_default (jobs_of d q) i k 0 lt) ∙ own ∙ is_number k j is)
@@ -44,46 +44,40 @@ shares_some l xs (suc n) e = by (is_some (place_in l (slice_index_or xs n 0))) r
 
 shares_none : (l : JobList) (xs : List ℕ) (n i : ℕ) → shares_before l xs n ≡ false → i < n → is_some (place_in l (slice_index_or xs i 0)) ≡ false
 shares_none l xs zero i e lt = absurd (omega (arith, lt))
-shares_none l xs (suc n) i e lt = by (is_some (place_in l (slice_index_or xs n 0))) refl e (λ g less. shares_none l xs n i g less)
+shares_none l xs (suc n) i e lt = none_so_far (is_some (place_in l (slice_index_or xs n 0))) refl e (λ g less. shares_none l xs n i g less)
   where
-    at_last : (i n : ℕ) → i < suc n → nat_lt i n ≡ false → n ≡ i
-    at_last i n lt f = grind (arith, nat_tests)
-
-    by : (q : Bool) → is_some (place_in l (slice_index_or xs n 0)) ≡ q → q || shares_before l xs n ≡ false → (shares_before l xs n ≡ false → i < n → is_some (place_in l (slice_index_or xs i 0)) ≡ false) → is_some (place_in l (slice_index_or xs i 0)) ≡ false
-    by true f g rest = absurd (cc)
-    by false f g rest = whether (nat_lt i n)
+    none_so_far : (q : Bool) → is_some (place_in l (slice_index_or xs n 0)) ≡ q → q || shares_before l xs n ≡ false → (shares_before l xs n ≡ false → i < n → is_some (place_in l (slice_index_or xs i 0)) ≡ false) → is_some (place_in l (slice_index_or xs i 0)) ≡ false
+    none_so_far true f g rest = absurd (cc)
+    none_so_far false f g rest = whether (nat_lt i n)
         (λ h. rest g (lt_is i n h))
-        (λ h. subst (λ k. is_some (place_in l (slice_index_or xs k 0)) ≡ false) (at_last i n lt h) f)
+        (λ h. subst (λ k. is_some (place_in l (slice_index_or xs k 0)) ≡ false) (sym (last_below i n (omega (arith, lt)) h)) f)
 
 pub shares_of : (d : SpiTable) → FitsSpi d → (q other : ℕ) → shares d q other ≡ shares_job d q other
-shares_of d fits q other = by (shares d q other) refl
+shares_of d fits q other = same_answer (shares d q other) refl
   where
     xs : List ℕ
     xs = (jobs_list d other).numbers
 
-    by : (b : Bool) → shares d q other ≡ b → b ≡ shares_job d q other
-    by true e =
+    same_answer : (b : Bool) → shares d q other ≡ b → b ≡ shares_job d q other
+    same_answer true e =
         let r = shares_some (jobs_list d q) xs (jobs_list d other).count e in
         let l = listed d fits other in
         let lt : r.0 < length (jobs_of d other) = subst (λ n. r.0 < n) (sym l.count) r.1 in
         sym (any_in (has_job d q) (jobs_of d other) (slice_index_or (jobs_of d other) r.0 0) (Contains-get_or (jobs_of d other) r.0 0 lt) (ap (has_job d q) (l.at r.0 r.1) ∙ sym (has_of d fits q (slice_index_or xs r.0 0)) ∙ r.2))
-    by false e = sym (not_true (shares_job d q other) (λ f. none (any_some (has_job d q) (jobs_of d other) f)))
-      where
-        none : (j : ℕ) × Contains (jobs_of d other) j × (has_job d q j ≡ true) → ⊥
-        none (j, (i, lt, own), is) =
-            let l = listed d fits other in
-            let less : i < (jobs_list d other).count = subst (λ n. i < n) l.count lt in
-            let job : slice_index_or xs i 0 ≡ j = sym (l.at i less) ∙ sym (get_or_default (jobs_of d other) i j 0 lt) ∙ own in
-            let f = sym (shares_none (jobs_list d q) xs (jobs_list d other).count i e less) ∙ has_of d fits q (slice_index_or xs i 0) ∙ ap (has_job d q) job ∙ is in cc
+    same_answer false e = sym (not_true (shares_job d q other) (λ f.
+        let (j, (i, lt, own), is) = any_some (has_job d q) (jobs_of d other) f in
+        let l = listed d fits other in
+        let less : i < (jobs_list d other).count = subst (λ n. i < n) l.count lt in
+        let job : slice_index_or xs i 0 ≡ j = sym (l.at i less) ∙ sym (get_or_default (jobs_of d other) i j 0 lt) ∙ own in
+        let f = sym (shares_none (jobs_list d q) xs (jobs_list d other).count i e less) ∙ has_of d fits q (slice_index_or xs i 0) ∙ ap (has_job d q) job ∙ is in cc))
 
 -- ---- what is in the way
 
 -- a pending sequence that is found there is in the way
 held_there : (d : SpiTable) (q k : ℕ) (ps : List Pending) → is_pending k ps ≡ true → k == q || shares_job d q k ≡ true → is_held d q ps ≡ true
-held_there d q k ps e f = by (any_some (is_of k) ps e)
-  where
-    by : (p : Pending) × Contains ps p × (is_of k p ≡ true) → is_held d q ps ≡ true
-    by (p, there, is) = any_in (λ p. is_of q p || shares_job d q p.sequence) ps p there (ap (λ n. (n == q) || shares_job d q n) (is_number p.sequence k is) ∙ f)
+held_there d q k ps e f =
+    let (p, there, is) = any_some (is_of k) ps e in
+    any_in (λ p. is_of q p || shares_job d q p.sequence) ps p there (ap (λ n. (n == q) || shares_job d q n) (is_number p.sequence k is) ∙ f)
 
 -- with none of eight in the way no pending sequence is, where their numbers are below eight
 none_there : (d : SpiTable) (q : ℕ) (ps : List Pending) → ((p : Pending) → Contains ps p → p.sequence < 8) → NoneHeld d q ps 8 → is_held d q ps ≡ false
@@ -97,7 +91,7 @@ none_there d q ps few none = none_any (λ p. is_of q p || shares_job d q p.seque
 -- a sequence that is in the way of one whose unit starts jobs of pending ones is under way where it is pending
 pub pending_beside : (d : SpiTable) (fits : FitsSpi d) (below : Reservations) (chip : Chip) (w : World) (s : SpiState) (h : SpiRepresents d below chip w s) (q k : ℕ) → is_sync_sequence d q ≡ false
     → (is_pending k (all_of (view s)) && (k == q || shares d q k)) ≡ (is_pending k s.pending && (k == q || shares d q k))
-pending_beside d fits below chip w s h q k async = by (is_sync_sequence d k) refl
+pending_beside d fits below chip w s h q k async = pending_same (is_sync_sequence d k) refl
   where
     off : (z : Bool) → (z && false) ≡ false
     off true = refl
@@ -109,9 +103,9 @@ pending_beside d fits below chip w s h q k async = by (is_sync_sequence d k) ref
     not_shared : is_sync_sequence d k ≡ true → shares d q k ≡ false
     not_shared sync = not_true (shares d q k) (λ e. let unit = shares_unit d fits q k (sym (shares_of d fits q k) ∙ e) in let f = sym async ∙ ap (is_sync_unit d) unit ∙ sync in cc)
 
-    by : (b : Bool) → is_sync_sequence d k ≡ b → (is_pending k (all_of (view s)) && (k == q || shares d q k)) ≡ (is_pending k s.pending && (k == q || shares d q k))
-    by false e = ap (λ z. z && (k == q || shares d q k)) (pending_alone d fits below chip w s h k e)
-    by true e =
+    pending_same : (b : Bool) → is_sync_sequence d k ≡ b → (is_pending k (all_of (view s)) && (k == q || shares d q k)) ≡ (is_pending k s.pending && (k == q || shares d q k))
+    pending_same false e = ap (λ z. z && (k == q || shares d q k)) (pending_alone d fits below chip w s h k e)
+    pending_same true e =
         let none : (k == q || shares d q k) ≡ false = ap (λ z. z || shares d q k) (not_it e) ∙ not_shared e in
         ap (λ z. is_pending k (all_of (view s)) && z) none ∙ off (is_pending k (all_of (view s))) ∙ sym (off (is_pending k s.pending)) ∙ ap (λ z. is_pending k s.pending && z) (sym none)
 
@@ -164,10 +158,7 @@ module _ (a : Starting) (b : Serving) (d : SpiTable) (fits : FitsSpi d) (below :
       upto : NoneHeld d q s.pending (k + 1)
       upto n less = whether (nat_lt n k)
           (λ f. none n (is_below n k f))
-          (λ f. ap (λ z. is_pending z s.pending && (z == q || shares_job d q z)) (split n k less f) ∙ now)
-        where
-          split : (a b : ℕ) → a < b + 1 → nat_lt a b ≡ false → a ≡ b
-          split a b l f = grind (arith, nat_tests)
+          (λ f. ap (λ z. is_pending z s.pending && (z == q || shares_job d q z)) (last_below n k less f) ∙ now)
 
       by : (b : Bool) → nat_lt k 7 ≡ b → RequestMakes (Load (sequence_word k)) chip true value (after_request (at d (Transmit q) u (place.Request (request.Look k))) (request_looked k false))
       by true f = subst (λ z. RequestMakes (Load (sequence_word k)) chip true value (after_request (at d (Transmit q) u (place.Request (request.Look k))) (if z then request.Look (k + 1) else request.Accept, requested.Goes None))) (sym f) (h, (frame, (i, refl, (let less = is_below k 7 f in omega (arith, less)), upto)))
@@ -176,15 +167,15 @@ module _ (a : Starting) (b : Serving) (d : SpiTable) (fits : FitsSpi d) (below :
 
   -- the sequence is pending, and the frame owes the rest, and a start
   pub accepts : is_held d q s.pending ≡ false → RequestMakes (Store (sequence_word q) PENDING) (chip_after chip (Store (sequence_word q) PENDING) y) false 0 (at d (Transmit q) u (place.Request request.Nexts), acts)
-  accepts free = by (sequence_of d q) refl
+  accepts free = accepts_known (sequence_of d q) refl
     where
-      by : (o : Option Sequence) → sequence_of d q ≡ o → RequestMakes (Store (sequence_word q) PENDING) (chip_after chip (Store (sequence_word q) PENDING) y) false 0 (at d (Transmit q) u (place.Request request.Nexts), acts)
-      by None e = absurd (let f = sym (ap (λ o. error_by d asks false false) e) in let g = subst (λ off. error_by d asks off false ≡ None) i.on i.clear in unknown (is_some (sequence_of d q)) (is_sync_sequence d q) (ap (λ o. is_some o) e) g)
+      accepts_known : (o : Option Sequence) → sequence_of d q ≡ o → RequestMakes (Store (sequence_word q) PENDING) (chip_after chip (Store (sequence_word q) PENDING) y) false 0 (at d (Transmit q) u (place.Request request.Nexts), acts)
+      accepts_known None e = absurd (let f = sym (ap (λ o. error_by d asks false false) e) in let g = subst (λ off. error_by d asks off false ≡ None) i.on i.clear in unknown (is_some (sequence_of d q)) (is_sync_sequence d q) (ap (λ o. is_some o) e) g)
         where
           unknown : (there sync : Bool) → there ≡ false → (if not there || sync then Some SpiParamSeq else None) ≡ None → ⊥
           unknown true sync e f = cc
           unknown false sync e f = cc
-      by (Some x) e = record {
+      accepts_known (Some x) e = record {
         may = refl;
         stands = tt;
         state = accepted d s q;

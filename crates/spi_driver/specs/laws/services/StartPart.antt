@@ -18,12 +18,11 @@ abbrev pub start_window : Starting
 start_window = record { place = start_place; fuel = start_left; room = start_left }
 
 -- what a step leaves, as a frame takes it
-leaves : (d : SpiTable) (e : FrameRole) (below : Reservations) (by : Origin Call) (acted : Option Answer) (u : ℕ) (chip later : Chip) (w : World) (s : SpiState) (made : Move) (value received : ℕ) (z : StartPlace × Started) → steps.StartLeaves d e below by acted u chip later w s made received z
-    → StartLeaves start_window d e below by acted u chip later w s made value received z
-leaves d e below by acted u chip later w s made value received (x, started.Goes None) h = (h.0, h.1, none_owed d u x (foot d later) s h.1)
-leaves d e below by acted u chip later w s made value received (x, started.Over) h = h
-leaves d e below by acted u chip later w s made value received (x, started.Goes (Some a)) h =
-    record { state = h.state; begins = h.begins; is = h.is; is_start = h.is_start; stands = h.stands value; sends = h.sends; owing = h.owing; owes = h.owes }
+leaves : (d : SpiTable) (e : FrameRole) (below : Reservations) (by : Origin Call) (acted : Option Answer) (u : ℕ) (chip later : Chip) (w : World) (s : SpiState) (made : Move) (received : ℕ) (z : StartPlace × Started) → steps.StartLeaves d e below by acted u chip later w s made received z
+    → StartLeaves start_window d e below by acted u chip later w s made received z
+leaves d e below by acted u chip later w s made received (x, started.Goes None) h = (h.0, h.1, none_owed d u x (foot d later) s h.1)
+leaves d e below by acted u chip later w s made received (x, started.Over) h = h
+leaves d e below by acted u chip later w s made received (x, started.Goes (Some a)) h = h
 
 -- a step leaves fewer
 fewer : (n : ℕ) (z : StartPlace × Started) → around.Fewer n z → StartLess (start_fuel_at start_window) n z
@@ -36,7 +35,7 @@ starting_right d fits = record {
   opens = λ u f s. tt;
   fuel_first = omega arith;
   room_first = omega arith;
-  right = λ u e below by acted chip w s p received owes shared h at came. let made = start_move d u p in leaves d e below by acted u chip (chip_after chip made received) w s made (value_of chip made) received (start_takes d u p (value_of chip made)) (start_right d fits e below by acted chip w s u h received p owes at);
+  right = λ u e below by acted chip w s p received owes shared h at came. let made = start_move d u p in leaves d e below by acted u chip (chip_after chip made received) w s made received (start_takes d u p (value_of chip made)) (start_right d fits e below by acted chip w s u h received p owes at);
   may = λ u below by acted chip w s p owes h at. start_may d fits u h.right.0.0 p (foot d chip) s at;
   later = λ u below by acted chip w s order p owes fill h at. start_later d u chip w s order p h.size h.right.0.0 fill at;
   less_fuel = λ any u p x owes. fewer (start_left p) (start_takes any u p x) (start_shorter any u p x owes);

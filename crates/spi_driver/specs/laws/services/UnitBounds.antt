@@ -1,26 +1,25 @@
 -- Frames of units have so many steps left, are clean where they have read nothing, and are right.
--- From services.UnitFrames, services.UnitParts, spi_sequences: services.UnitSteps, services.UnitRight and 9 more.
+-- From services.UnitFrames, spi_sequences: services.UnitSteps, services.UnitParts, services.UnitRight and 10 more.
 -- Used by services.UnitBegins.
 use Rattle.std.proofs.Common.{◌≡◌, ◌+◌, ◌-◌, ◌<◌, ◌≤◌, ◌==◌, ◌&&◌, ◌||◌, ◌∙◌, if◌then◌else◌}
 use Rattle.spi_driver.specs.Terms
 use Terms.{after_request, after_serve, after_start, ap, AreFree, AreLong, arith, AssertedAt, begins_word, BodyTaken}
-use Terms.{Bool, Call, Chip, false, FitsSpi, FrameHistory, FrameRole, happened, holds_at, is_below, is_closed}
-use Terms.{is_fill, is_masked, is_quiet, is_shared, is_sync_unit, IsFree, KeepsClean, Load, LongBodies, Main}
-use Terms.{main_over, may, MayCome, Move, moved, nat_lt, None, not_filled, Notice, Option, or_owed, Order, Origin}
-use Terms.{owed_right, PENDING, place_at, refl, request_looked, requested_by, Reservations, resets_chip}
-use Terms.{rest_after, same_chip, sequence_word, serve_more, serve_move, serve_owes, serve_takes, ServePlace}
-use Terms.{ServeStep, shares, ShortensTo, Some, spi_bare, spi_basis, spi_owing, spi_setting, SpiState, SpiTable}
-use Terms.{spot_or, start_more, start_move, start_owes, start_takes, Started, StartPlace, STATE, subst, sym}
-use Terms.{told_first, true, TurnsTo, unit_acts, unit_move, unit_over, unit_owed, unit_owes, unit_takes}
+use Terms.{Bool, Call, Chip, false, FitsSpi, frame_may, FrameHistory, FrameRole, happened, holds_at, is_below}
+use Terms.{is_closed, is_fill, is_masked, is_quiet, is_shared, is_sync_unit, IsFree, KeepsClean, Load, LongBodies}
+use Terms.{Main, main_over, may, MayCome, Move, moved, nat_lt, None, not_filled, Notice, Option, or_owed, Order}
+use Terms.{Origin, owed_right, PENDING, place_at, refl, request_looked, requested_by, Reservations, resets_chip}
+use Terms.{rest_after, same_chip, sequence_word, serve_ahead, serve_more, serve_move, serve_owes, serve_takes}
+use Terms.{ServeLess, ServePlace, ServeStep, shares, ShortensTo, Some, spi_bare, spi_basis, spi_owing, spi_setting}
+use Terms.{SpiState, SpiTable, spot_or, start_more, start_move, start_owes, start_takes, Started, StartPlace, STATE}
+use Terms.{subst, sym, told_first, true, TurnsTo, unit_acts, unit_move, unit_over, unit_owed, unit_owes, unit_takes}
 use Terms.{unit_work, UnitBody, UnitPlace, Units, Unmask, value_of, where_owed, windows_right, with_holds, World}
 use Terms.{world_after, zero, ℕ}
-use Terms.{frame_may}
 use Rattle.spi_driver.specs.laws.{services.UnitFrames.{Ahead, ToPass, ToStart, ToTell, about_owed, ahead_steps, at}}
 use Rattle.spi_driver.specs.laws.{services.UnitFrames.{owed_steps, served_ahead, unit_after, unit_bodies, unit_clean}}
 use Rattle.spi_driver.specs.laws.{services.UnitFrames.{unit_fuel_at, unit_spot_at, unit_windows}}
 use Rattle.spi_driver.specs.laws.{bookkeeping.PendingWritesRight.{unit_second, unit_wins}}
-use Rattle.spi_driver.specs.laws.{services.UnitParts.{IsServing, IsStarting, ServeLess, Serving, StartLess, Starting}}
-use Rattle.spi_driver.specs.laws.{services.UnitParts.{foot, has_begun, has_served, serve_ahead, serve_fuel_at}}
+use Rattle.spi_driver.specs.laws.{services.UnitParts.{IsServing, IsStarting, Serving, StartLess, Starting}}
+use Rattle.spi_driver.specs.laws.{services.UnitParts.{foot, has_begun, has_served, serve_fuel_at}}
 use Rattle.spi_driver.specs.laws.{services.UnitParts.{start_fuel_at}, bookkeeping.MaskDiscipline.{turns_at}}
 use Rattle.spi_driver.specs.laws.{services.UnitRight.{free_at, later_at, own_at, unit_steps, unit_table}}
 use Rattle.spi_sequences.specs.declared.service.request.RequestPlace.TheVariants as request

@@ -7,10 +7,10 @@ use Terms.{After, Answer, AsyncTransmit, Bool, Call, Called, Cancels, Cleared, D
 use Terms.{false, first_served, FrameHistory, FrameRole, fresh_history, Handler, Handling, has_line, is_held, is_off}
 use Terms.{is_pending, is_polling, is_sync_sequence, is_sync_unit, List, LongBodies, Looking, Main, named, no_answer}
 use Terms.{None, Notice, Option, Origin, Outside, Owing, owing, Pending, PendingWrites, PointAssertion, RequestPlace}
-use Terms.{Reservation, Rest, Sends, ServePlace, shares_job, Some, spi_bare, spi_basis, spi_owing, SpiState, SpiTable}
-use Terms.{StartPlace, suc, Transmit, true, Under, unit_of_sequence, unit_owed, unit_takes, unit_work, UnitBody}
-use Terms.{UnitPlace, Units, Wholes, Windows, windows, Within, zero, ℕ}
-use Rattle.spi_driver.specs.laws.services.UnitParts.{Serving, Starting, serve_ahead}
+use Terms.{Reservation, Rest, Sends, serve_ahead, ServePlace, shares_job, Some, spi_bare, spi_basis, spi_owing}
+use Terms.{SpiState, SpiTable, StartPlace, suc, Transmit, true, Under, unit_of_sequence, unit_owed, unit_takes}
+use Terms.{unit_work, UnitBody, UnitPlace, Units, Wholes, Windows, windows, Within, zero, ℕ}
+use Rattle.spi_driver.specs.laws.services.UnitParts.{Serving, Starting}
 use Rattle.spi_machine.specs.declared.call.Call.TheVariants as calls
 use Rattle.spi_sequences.specs.declared.service.request.RequestPlace.TheVariants as request
 use Rattle.spi_sequences.specs.declared.service.serve.ServePlace.TheVariants as serve

@@ -1,25 +1,24 @@
 -- Frames of units are right: every place of them.
--- From services.UnitFrames, services.UnitSteps, services.UnitParts, services.RequestAsking and 6 more.
+-- From services.UnitFrames, services.UnitSteps, services.UnitParts, services.RequestAsking and 7 more.
 -- Used by services.UnitBounds, bookkeeping.MaskDiscipline, bookkeeping.NoneWaits.
-use Rattle.std.proofs.Common.{◌≡◌, ◌<◌, ◌==◌, ◌&&◌, ◌||◌, ◌∙◌, if◌then◌else◌}
+use Rattle.std.proofs.Common.{◌≡◌, ◌<◌, ◌==◌, ◌&&◌, ◌||◌, ◌∙◌}
 use Rattle.spi_driver.specs.Terms
-use Terms.{after_request, ap, arith, asking, AssertedAt, AsyncTransmit, Bool, Call, Called, channel_served, Chip}
-use Terms.{chip_after, control_word, error_by, false, Find, find_move, FitsSpi, FrameHistory, FrameRole, fresh_history}
-use Terms.{Front, front_move, Handler, happened, held_word, is_closed, is_fill, is_held, is_off, is_pending}
-use Terms.{is_polling, is_shared, Load, Main, Mask, may, may_first, missed_after, mode_later, moved, None, not, Note}
-use Terms.{Order, Origin, PENDING, pending_later, pending_word, place_at, Placed, Received, ReceivedRight, refl}
-use Terms.{request_looked, request_owes, requested_by, RequestPlace, Reservations, Rest, Right, Search, search_move}
-use Terms.{sequence_word, shares, spi_basis, spi_machine, SpiRepresents, SpiState, SpiTable, STATE, Store, subst, sym}
-use Terms.{Transmit, true, unit_move, unit_owed, unit_owes, unit_work, UnitBody, UnitPlace, Units, Unmask, where_owed}
+use Terms.{after_request, ap, arith, asking_plain, AssertedAt, AsyncTransmit, Bool, Call, Called, channel_served}
+use Terms.{Chip, chip_after, error_by, false, Find, find_plain, FitsSpi, FrameHistory, FrameRole, fresh_history}
+use Terms.{Front, front_move, Handler, happened, is_closed, is_fill, is_held, is_off, is_pending, is_polling}
+use Terms.{is_shared, Load, Main, Mask, may, may_first, missed_after, mode_later, moved, None, not, Note, or_right}
+use Terms.{Order, Origin, PENDING, pending_later, pending_word, place_at, ReceivedRight, refl, request_looked}
+use Terms.{request_owes, requested_by, RequestPlace, Reservations, Rest, Right, Search, search_move, sequence_word}
+use Terms.{shares, spi_basis, spi_machine, SpiRepresents, SpiState, SpiTable, STATE, Store, subst, sym, Transmit}
+use Terms.{true, unit_move, unit_owed, unit_owes, unit_work, UnitBody, UnitPlace, Units, Unmask, where_owed}
 use Terms.{with_holds, word_of, World, world_after, ℕ}
 use Rattle.spi_driver.specs.laws.services.RequestAsking.{RequestMakes, accepts, looks, pending_beside}
 use Rattle.spi_driver.specs.laws.services.UnitFrames.{Frame, IsFor, IsRequest, NoneHeld, RequestAt, Transmits, Handles}
 use Rattle.spi_driver.specs.laws.services.UnitFrames.{Mains, Rests, at, holds_by, unit_bodies, unit_spot_at}
 use Rattle.spi_driver.specs.laws.services.UnitParts.{IsServing, IsStarting, Serving, Starting, foot}
-use Rattle.spi_driver.specs.laws.services.UnitSteps.{acts_so, opens_so, or_true, serve_right_at, serve_stands, shared_agrees}
+use Rattle.spi_driver.specs.laws.services.UnitSteps.{acts_so, opens_so, serve_right_at, serve_stands, shared_agrees}
 use Rattle.spi_driver.specs.laws.services.UnitSteps.{start_right_at, start_stands, tells_so}
 use Rattle.word_shapes.specs.declared.search.Search.TheVariants as search
-use Rattle.spi_jobs.specs.declared.finding.Find.TheVariants as finds
 use Rattle.spi_machine.specs.declared.call.Call.TheVariants as calls
 use Rattle.spi_sequences.specs.declared.service.request.RequestPlace.TheVariants as request
 use Rattle.spi_sequences.specs.declared.service.serve.ServePlace.TheVariants as serve
@@ -35,14 +34,12 @@ search_plain _ = refl
 pub front_plain : (f : Front) → is_shared (front_move f) ≡ false
 front_plain f = search_plain f.search
 
-pub find_plain : (f : Find) → is_shared (find_move f) ≡ false
-find_plain (finds.Newest x) = refl
-find_plain _ = refl
-
-pub asking_plain : (x : Placed) (i : ℕ) → is_shared (asking x i) ≡ false
-asking_plain x i =
-    elim (x.channel.internal && i == 0) as (λ q. is_shared (if q then Load (control_word x Received) else Load (held_word x)) ≡ false)
-    [ true ↦ refl | false ↦ refl ]
+-- a request looks at a sequence
+pub look_few : (d : SpiTable) (s : SpiState) (t : FrameHistory) (k : ℕ) (e : FrameRole) (u : ℕ) (o : Origin Call) → IsFor u e o → RequestAt d e u (request.Look k) s t → k < 8
+look_few d s t k (Transmit q) u _ (Transmits _) asked = asked.2
+look_few d s t k Handler u _ Handles asked = absurd asked
+look_few d s t k Main u _ Mains asked = absurd asked
+look_few d s t k Rest u _ Rests asked = absurd asked
 
 free_when : (q : Bool) (k : UnitBody) → where_owed q (Units k) ≡ None → q ≡ false
 free_when true k e = absurd (cc)
@@ -92,7 +89,7 @@ module _ (a : Starting) (b : Serving) (d : SpiTable) (fits : FitsSpi d) (startin
   RightX below chip w s e u p o y t m = Right (spi_basis d) (unit_bodies a b d) below chip w s (at d e u p) o y t m
 
   request_right : (below : Reservations) (chip : Chip) (w : World) (s : SpiState) (e : FrameRole) (u : ℕ) (p : RequestPlace) (o : Origin Call) (y : ℕ) (t : FrameHistory) (m : ℕ → Bool) → request_owes p ≡ false → Frame d d e u o → RequestAt d e u p s t → SpiRepresents d below chip w s → RightX below chip w s e u (place.Request p) o y t m
-  request_right below chip w s e u p o y t m i frame asked h = by e u o frame.of frame asked
+  request_right below chip w s e u p o y t m i frame asked h = right_by_role e u o frame.of frame asked
     where
       looked : (q u k : ℕ) (t : FrameHistory) → Frame d d (Transmit q) u (Called (calls.Sequence q AsyncTransmit)) → IsRequest d s q u → t ≡ fresh_history → k < 8 → NoneHeld d q s.pending k → RightX below chip w s (Transmit q) u (place.Request (request.Look k)) (Called (calls.Sequence q AsyncTransmit)) y t m
       looked q u k t frame is now lt none =
@@ -110,17 +107,17 @@ module _ (a : Starting) (b : Serving) (d : SpiTable) (fits : FitsSpi d) (startin
       asked_by q u request.Accept i frame (is, now, none) = accepted_at q u t frame is now none
       asked_by q u _ i frame asked = absurd (cc)
 
-      by : (e : FrameRole) (u : ℕ) (o : Origin Call) → IsFor u e o → Frame d d e u o → RequestAt d e u p s t → RightX below chip w s e u (place.Request p) o y t m
-      by (Transmit q) u _ (Transmits _) frame asked = asked_by q u p i frame asked
-      by Handler u _ Handles frame asked = absurd asked
-      by Main u _ Mains frame asked = absurd asked
-      by Rest u _ Rests frame asked = absurd asked
+      right_by_role : (e : FrameRole) (u : ℕ) (o : Origin Call) → IsFor u e o → Frame d d e u o → RequestAt d e u p s t → RightX below chip w s e u (place.Request p) o y t m
+      right_by_role (Transmit q) u _ (Transmits _) frame asked = asked_by q u p i frame asked
+      right_by_role Handler u _ Handles frame asked = absurd asked
+      right_by_role Main u _ Mains frame asked = absurd asked
+      right_by_role Rest u _ Rests frame asked = absurd asked
 
   unit_right : (below : Reservations) (chip : Chip) (w : World) (s : SpiState) (e : FrameRole) (u : ℕ) (p : UnitPlace) (o : Origin Call) (y : ℕ) (t : FrameHistory) (m : ℕ → Bool) → unit_owes p ≡ false → ReceivedRight chip w (unit_move (at d e u p) p) y → StandX below chip w s d e u p o t → RightX below chip w s e u p o y t m
   unit_right below chip w s e u (place.Request (request.Look k)) o y t m i come h = request_right below chip w s e u (request.Look k) o y t m refl h.1.0 h.1.1 h.0
   unit_right below chip w s e u (place.Request request.Accept) o y t m i come h = request_right below chip w s e u request.Accept o y t m refl h.1.0 h.1.1 h.0
   unit_right below chip w s e u (place.Request _) o y t m i come h = absurd (cc)
-  unit_right below chip w s e u place.Act o y t m i come (h, (table, for, is, first, now, polling)) = subst (λ z. RightX below chip w s e u place.Act o y z m) (sym now) (acts_so a b d fits below chip w s y (missed_after (spi_machine d) w s m) e u o for is first polling (λ l none. or_true (m l) (ap not none)) h)
+  unit_right below chip w s e u place.Act o y t m i come (h, (table, for, is, first, now, polling)) = subst (λ z. RightX below chip w s e u place.Act o y z m) (sym now) (acts_so a b d fits below chip w s y (missed_after (spi_machine d) w s m) e u o for is first polling (λ l none. or_right (m l) _ (ap not none)) h)
   unit_right below chip w s e u (place.Opens n) o y t m i come h = opens_so a b d fits below (chip_after chip Unmask y) w s y m e u n o t h.1.0 h.1.1 (shared_agrees a b d fits _ chip w s Unmask y refl h.0)
   unit_right below chip w s e u (place.Tell n n1) o y t m i come h = tells_so a b d fits below (chip_after chip (Note n) y) w s y m e u n n1 o t h.1.0 h.1.1 (shared_agrees a b d fits _ chip w s (Note n) y refl h.0)
   unit_right below chip w s e u (place.Serve serve.Shut) o y t m i come h = serve_stands a b d fits e u serve.State below (chip_after chip Mask y) w s o t refl h.1.0 h.1.1 (shared_agrees a b d fits _ chip w s Mask y refl h.0) (serving.begins u h.1.0.async (foot d (chip_after chip Mask y)) w s)
@@ -158,20 +155,14 @@ module _ (a : Starting) (b : Serving) (d : SpiTable) (fits : FitsSpi d) (startin
   -- ---- the moves
 
   pub own_at : (below : Reservations) (chip : Chip) (w : World) (s : SpiState) (e : FrameRole) (u : ℕ) (p : UnitPlace) (o : Origin Call) (t : FrameHistory) → unit_owes p ≡ false → StandX below chip w s d e u p o t → is_shared (unit_move (at d e u p) p) || may d (unit_move (at d e u p) p) ≡ true
-  own_at below chip w s e u (place.Request (request.Look k)) o t i h = may_first d fits (sequence_word k) (omega arith) (let lt = few e u o h.1.0.of h.1.1 in omega (arith, lt))
+  own_at below chip w s e u (place.Request (request.Look k)) o t i h = may_first d fits (sequence_word k) (omega arith) (let lt = look_few d s t k e u o h.1.0.of h.1.1 in omega (arith, lt))
+  own_at below chip w s e u (place.Request request.Accept) o t i h = accepts_own e u o h.1.0.of h.1.1
     where
-      few : (e : FrameRole) (u : ℕ) (o : Origin Call) → IsFor u e o → RequestAt d e u (request.Look k) s t → k < 8
-      few (Transmit q) u _ (Transmits _) asked = asked.2
-      few Handler u _ Handles asked = absurd asked
-      few Main u _ Mains asked = absurd asked
-      few Rest u _ Rests asked = absurd asked
-  own_at below chip w s e u (place.Request request.Accept) o t i h = by e u o h.1.0.of h.1.1
-    where
-      by : (e : FrameRole) (u : ℕ) (o : Origin Call) → IsFor u e o → RequestAt d e u request.Accept s t → may d (Store (sequence_word (requested_by e)) PENDING) ≡ true
-      by (Transmit q) u _ (Transmits _) asked = may_first d fits (sequence_word q) (omega arith) (let lt = asked.0.small in omega (arith, lt))
-      by Handler u _ Handles asked = absurd asked
-      by Main u _ Mains asked = absurd asked
-      by Rest u _ Rests asked = absurd asked
+      accepts_own : (e : FrameRole) (u : ℕ) (o : Origin Call) → IsFor u e o → RequestAt d e u request.Accept s t → may d (Store (sequence_word (requested_by e)) PENDING) ≡ true
+      accepts_own (Transmit q) u _ (Transmits _) asked = may_first d fits (sequence_word q) (omega arith) (let lt = asked.0.small in omega (arith, lt))
+      accepts_own Handler u _ Handles asked = absurd asked
+      accepts_own Main u _ Mains asked = absurd asked
+      accepts_own Rest u _ Rests asked = absurd asked
   own_at below chip w s e u place.Act o t i h = may_first d fits STATE (omega arith) (omega arith)
   own_at below chip w s e u (place.Opens n) o t i h = refl
   own_at below chip w s e u (place.Tell n n1) o t i h = refl

@@ -1,5 +1,5 @@
 -- Frames of units: their steps where they owe nothing.
--- From services.UnitFrames, services.UnitParts, spi_sequences: services.UnitSteps and 11 more.
+-- From services.UnitFrames, spi_sequences: services.UnitSteps, services.UnitParts and 13 more.
 -- Used by services.UnitRight.
 use Rattle.std.proofs.Common.{◌≡◌, ◌+◌, ◌<◌, ◌&&◌, ◌||◌, [], ◌∷◌, ◌++◌, ◌∙◌, ◌⊎◌, if◌then◌else◌}
 use Rattle.spi_driver.specs.Terms
@@ -9,22 +9,22 @@ use Terms.{CommitsTo, Continues, Done, Entered, Event, false, first_served, Fits
 use Terms.{fresh_history, gap_at, Handler, happening_of, has_line, holds_at, inl, inr, is_polling, is_shared, is_some}
 use Terms.{is_sync_unit, IsNext, IsSome, List, list_all, list_any, Load, Main, main_over, MakesTo, Mask, MayDo}
 use Terms.{missed_after, Move, no_answer, None, none_served, not, Note, Notes, notes, Notice, number_of, opened}
-use Terms.{Option, Origin, Outcome, outcome_of, outcome_with, Owing, owing, passes, past_after, past_wrote}
+use Terms.{Option, or_right, Origin, Outcome, outcome_of, outcome_with, Owing, owing, passes, past_after, past_wrote}
 use Terms.{PendingWrites, place_at, plain_makes, plain_move, polls, ready, ReceivedRight, refl, Report, Reservations}
-use Terms.{resets_chip, Rest, rest_after, same_number, serve_move, serve_owes, serve_takes, ServePlace, Serves}
-use Terms.{ServeStep, Some, spi_bare, spi_basis, spi_machine, spi_owing, spi_setting, SpiRepresents, SpiState}
-use Terms.{SpiTable, spot_or, StandsAt, start-received, start_move, start_owes, start_takes, Started, StartPlace}
-use Terms.{Starts, StartsUncalled, STATE, subst, suc, sym, tells_nothing, Told, told_first, told_next, Transmit, true}
-use Terms.{unit_acts, unit_named, unit_over, UnitBody, UnitPlace, Units, Unmask, value_of, where_owed, whether_as}
-use Terms.{with_holds, word_of, Works, World, zero, ℕ}
+use Terms.{resets_chip, Rest, rest_after, same_number, serve_ahead, serve_move, serve_owes, serve_takes, ServeHappens}
+use Terms.{ServeOwes, ServePlace, Serves, ServeStep, Some, spi_bare, spi_basis, spi_machine, spi_owing, spi_setting}
+use Terms.{SpiRepresents, SpiState, SpiTable, spot_or, StandsAt, start-received, start_move, start_owes, start_takes}
+use Terms.{StartBegins, Started, StartPlace, Starts, StartsUncalled, STATE, subst, suc, sym, tells_nothing, Told}
+use Terms.{told_first, told_next, Transmit, true, unit_acts, unit_named, unit_over, UnitBody, UnitPlace, Units}
+use Terms.{Unmask, value_of, where_owed, whether_as, with_holds, word_of, Works, World, zero, ℕ}
 use Rattle.spi_driver.specs.laws.services.UnitFrames.{Frame, Handles, HasDone, IsFor, Mains, OpensAt, OwedAt, Progress}
 use Rattle.spi_driver.specs.laws.services.UnitFrames.{Rests, Transmits, ahead_holds, and_other, at, holds_by, is_met}
 use Rattle.spi_driver.specs.laws.services.UnitFrames.{opens_holds, served_ahead, told_list, unit_bodies, unit_spot_at}
 use Rattle.spi_driver.specs.laws.services.UnitFrames.{unit_windows, with_cleared, with_debt}
 use Rattle.spi_driver.specs.laws.bookkeeping.MainFunctionHold.{handling_begins, handling_of, handling_over}
 use Rattle.spi_driver.specs.laws.bookkeeping.PendingWritesRight.{main_stops, passes_on}
-use Rattle.spi_driver.specs.laws.services.UnitParts.{IsServing, IsStarting, ServeHappens, ServeLeaves, ServeOwes}
-use Rattle.spi_driver.specs.laws.services.UnitParts.{Serving, StartBegins, StartLeaves, Starting, foot, serve_ahead}
+use Rattle.spi_driver.specs.laws.services.UnitParts.{IsServing, IsStarting, ServeLeaves}
+use Rattle.spi_driver.specs.laws.services.UnitParts.{Serving, StartLeaves, Starting, foot}
 use Rattle.mcal_base.specs.declared.moves.Event.TheVariants as events
 use Rattle.mcal_base.specs.declared.moves.Unit as units
 use Rattle.spi_machine.specs.declared.call.Call.TheVariants as calls
@@ -36,10 +36,6 @@ use Rattle.spi_sequences.specs.declared.service.unit.After.TheVariants as after
 use Rattle.spi_sequences.specs.declared.service.unit.UnitPlace.TheVariants as place
 
 -- ---- lines that were served
-
-pub or_true : (x : Bool) {y : Bool} → y ≡ true → x || y ≡ true
-or_true true e = refl
-or_true false e = e
 
 met_still : (t t1 : FrameHistory) (l : ℕ) → t1.served ≡ t.served → t1.missed ≡ t.missed → is_met t l ≡ true → is_met t1 l ≡ true
 met_still t t1 l s m h = ap (λ ls. has_line ls l || has_line t1.missed l) s ∙ ap (λ ls. has_line t.served l || has_line ls l) m ∙ h
@@ -64,7 +60,7 @@ served_now d _ _ lt t t1 s m h = absurd h
 
 -- a line is met that was missed now
 just_missed : (t : FrameHistory) (l : ℕ) → is_met (record t { missed = l ∷ t.missed }) l ≡ true
-just_missed t l = or_true (has_line t.served l) (ap (λ q. q || has_line t.missed l) (same_number l))
+just_missed t l = or_right (has_line t.served l) _ (ap (λ q. q || has_line t.missed l) (same_number l))
 
 -- the first unit wasn't served at a place that owes no moves
 rest_missed : (p : ServePlace) → serve_owes p ≡ false → rest_after (place.Serve p) ≡ Main
@@ -208,12 +204,13 @@ module _ (a : Starting) (b : Serving) (d : SpiTable) (fits : FitsSpi d) where
     over_works _ _ p q made value o t h = h
 
     -- the first word of a job begins
-    begins_so : (e : FrameRole) (u : ℕ) (q : StartPlace) (x : Event) (made : Move) (value : ℕ) (o : Origin Call) (t : FrameHistory) → Frame d d e u o → HasDone d e u true [] t → resets_chip made ≡ false → StartBegins d e (with_holds o t.acted (with_cleared e u) below) u chip (chip_after chip made y) w s made value y q x
+    begins_so : (e : FrameRole) (u : ℕ) (q : StartPlace) (x : Event) (made : Move) (value : ℕ) (o : Origin Call) (t : FrameHistory) → Frame d d e u o → HasDone d e u true [] t → resets_chip made ≡ false → StartBegins d e (with_holds o t.acted (with_cleared e u) below) u chip (chip_after chip made y) w s made y q x
         → Work o t made value (at d e u (place.Start q), passes (Some x))
     begins_so e u q x made value o t frame done still g =
+        let later : FrameHistory = record (past_wrote w made t) { owed = t.owed ++ owing false [] } in
         subst (λ z. Work o t made value (at d e u (place.Start q), passes (Some z))) (sym g.is_start) (record {
           may = may_start d w s t o (unit_named u) y done.owed (ap is_some (g.is None));
-          stands = subst (λ z. StandsAt z made value) g.is_start g.stands;
+          stands = subst (λ z. StandsAt z made value) g.is_start (g.stands value);
           state = g.state;
           told = tells_nothing;
           begins = Some g.begins;
@@ -224,11 +221,8 @@ module _ (a : Starting) (b : Serving) (d : SpiTable) (fits : FitsSpi d) where
           next = subst (λ z. Continues (spi_basis d) (unit_bodies a b d) below (chip_after chip made y) w g.state o z m (at d e u (place.Start q)) None) (sym (past_started d w s t o (unit_named u) tells_nothing (past_wrote w made t)))
               (subst (λ z. StandsBy (chip_after chip made y) g.state (at d e u (place.Start q)) o later (where_owed z (Units (at d e u (place.Start q))))) (sym g.owing) (g.owes, (frame, same_done d e u true t later [] [] refl refl refl refl refl (ap (λ ns. ns ++ []) done.owed) done)));
         })
-      where
-        later : FrameHistory
-        later = record (past_wrote w made t) { owed = t.owed ++ owing false [] }
 
-    start_works : (e : FrameRole) (u : ℕ) (p : StartPlace) (made : Move) (value : ℕ) (o : Origin Call) (t : FrameHistory) → Frame d d e u o → HasDone d e u true [] t → resets_chip made ≡ false → (z : StartPlace × Started) → StartLeaves a d e (with_holds o t.acted (holds_by e) below) o t.acted u chip (chip_after chip made y) w s made value y z
+    start_works : (e : FrameRole) (u : ℕ) (p : StartPlace) (made : Move) (value : ℕ) (o : Origin Call) (t : FrameHistory) → Frame d d e u o → HasDone d e u true [] t → resets_chip made ≡ false → (z : StartPlace × Started) → StartLeaves a d e (with_holds o t.acted (holds_by e) below) o t.acted u chip (chip_after chip made y) w s made y z
         → Work o t made value (after_start (at d e u (place.Start p)) z)
     start_works e u p made value o t frame done still (r, started.Goes None) (h, here, free) = start_stands e u r below (chip_after chip made y) w s o (past_wrote w made t) free frame (same_done d e u true t (past_wrote w made t) [] [] refl refl refl refl refl done.owed done) h here
     start_works e u p made value o t frame done still (r, started.Over) h = over_works e u (place.Start p) (place.Start r) made value o t (passes_on a b d d e u (place.Start p) (place.Start r) below (chip_after chip made y) w s o (past_wrote w made t) m refl frame (same_done d e u true t (past_wrote w made t) [] [] refl refl refl refl refl done.owed done) h)
@@ -276,16 +270,16 @@ module _ (a : Starting) (b : Serving) (d : SpiTable) (fits : FitsSpi d) where
     serve_works e u p made value o t frame done h still misses (r, steps.Goes None) (g, here, free) = inl (serve_stands e u r below (chip_after chip made y) w s o (past_wrote w made t) free frame (same_done d e u false t (past_wrote w made t) [] [] refl refl refl refl refl done.owed done) g here)
     serve_works e u p made value o t frame done h still misses (r, steps.Goes (Some x)) g = inl (serves_so e u r x made value o t frame done h still g)
     serve_works e u p made value o t frame done h still misses (r, steps.JobOver x) g = absurd g
-    serve_works e u p made value o t frame done h still misses (r, steps.Over) (g, none, free) = by e u o frame.of frame done g none
+    serve_works e u p made value o t frame done h still misses (r, steps.Over) (g, none, free) = over_by_role e u o frame.of frame done g none
       where
         o_main : Origin Call
         o_main = Called calls.MainFunctionHandling
 
-        by : (e : FrameRole) (u : ℕ) (o : Origin Call) → IsFor u e o → Frame d d e u o → HasDone d e u false [] t → SpiRepresents d (with_holds o t.acted (holds_by e) below) (chip_after chip made y) w s → ready w s (26 + u) ≡ false
+        over_by_role : (e : FrameRole) (u : ℕ) (o : Origin Call) → IsFor u e o → Frame d d e u o → HasDone d e u false [] t → SpiRepresents d (with_holds o t.acted (holds_by e) below) (chip_after chip made y) w s → ready w s (26 + u) ≡ false
             → Work o t made value (unit_over (at d e u (place.Serve p)) (place.Serve r) e u) ⊎ ((l : ℕ) × (ready w s l ≡ false) × Work o (record t { missed = l ∷ t.missed }) made value (unit_over (at d e u (place.Serve p)) (place.Serve r) e u))
-        by (Transmit q) u _ (Transmits _) frame done g none = absurd done.progress
-        by Handler u _ Handles frame done g none = inl (g, record { may = (or_true (has_line t.served (26 + u)) (misses (26 + u) none), refl); served = false; owed = done.owed; shown = λ i. absurd (cc); report = done.report })
-        by Main zero _ Mains frame done g none = inr (26, none, next (is_sync_unit d 1) refl)
+        over_by_role (Transmit q) u _ (Transmits _) frame done g none = absurd done.progress
+        over_by_role Handler u _ Handles frame done g none = inl (g, record { may = (or_right (has_line t.served (26 + u)) _ (misses (26 + u) none), refl); served = false; owed = done.owed; shown = λ i. absurd (cc); report = done.report })
+        over_by_role Main zero _ Mains frame done g none = inr (26, none, next (is_sync_unit d 1) refl)
           where
             missed : FrameHistory
             missed = record t { missed = 26 ∷ t.missed }
@@ -295,10 +289,10 @@ module _ (a : Starting) (b : Serving) (d : SpiTable) (fits : FitsSpi d) where
             next false async =
                 subst (λ e1. AssertedAt (spi_basis d) (unit_bodies a b d) below (chip_after chip made y) w s (at d e1 1 (place.Opens after.Serve)) o_main (past_wrote w made missed)) (sym (rest_missed r free))
                 (g, (record { table = frame.table; small = omega arith; async = async; of = Mains }, record { acted = done.acted; polled = done.polled; report = done.report; owed = done.owed; progress = (just_missed t 26, done.progress.0) }))
-        by Main (suc zero) _ Mains frame done g none = inr (27, none, (handling_over d o_main t.acted below (chip_after chip made y) w s g, main_stops a b d (past_wrote w made (record t { missed = 27 ∷ t.missed })) m done.acted done.polled done.report done.owed done.progress.0 (just_missed t 27)))
-        by Main (suc (suc u)) _ Mains frame done g none = absurd (let lt = frame.small in omega (arith, lt))
-        by Rest zero _ Rests frame done g none = absurd done.progress
-        by Rest (suc zero) _ Rests frame done g none = inr (
+        over_by_role Main (suc zero) _ Mains frame done g none = inr (27, none, (handling_over d o_main t.acted below (chip_after chip made y) w s g, main_stops a b d (past_wrote w made (record t { missed = 27 ∷ t.missed })) m done.acted done.polled done.report done.owed done.progress.0 (just_missed t 27)))
+        over_by_role Main (suc (suc u)) _ Mains frame done g none = absurd (let lt = frame.small in omega (arith, lt))
+        over_by_role Rest zero _ Rests frame done g none = absurd done.progress
+        over_by_role Rest (suc zero) _ Rests frame done g none = inr (
           27,
           none,
           (
@@ -306,14 +300,14 @@ module _ (a : Starting) (b : Serving) (d : SpiTable) (fits : FitsSpi d) where
             main_stops a b d (past_wrote w made (record t { missed = 27 ∷ t.missed })) m done.acted done.polled done.report done.owed done.progress.0 (just_missed t 27),
           ),
         )
-        by Rest (suc (suc u)) _ Rests frame done g none = absurd (let lt = frame.small in omega (arith, lt))
+        over_by_role Rest (suc (suc u)) _ Rests frame done g none = absurd (let lt = frame.small in omega (arith, lt))
 
     -- ---- the main function acts, the mask is opened, and notices are told
 
     -- it surely misses the line of a unit that has nothing to serve, and ends where no unit has anything
     pub acts_so : (e : FrameRole) (u : ℕ) (o : Origin Call) → IsFor u e o → e ≡ Main → u ≡ first_served d → is_polling s.mode ≡ true → ((l : ℕ) → ready w s l ≡ false → m l ≡ true) → SpiRepresents d below chip w s
         → let r = unit_acts (at d e u place.Act) (is_sync_unit d u) in Work o fresh_history (Load STATE) (word_of chip STATE) r ⊎ ((l : ℕ) × (ready w s l ≡ false) × Work o (record fresh_history { missed = l ∷ [] }) (Load STATE) (word_of chip STATE) r)
-    acts_so e u o for is first polling misses h = by e u o for is first
+    acts_so e u o for is first polling misses h = main_works e u o for is first
       where
         o_main : Origin Call
         o_main = Called calls.MainFunctionHandling
@@ -393,14 +387,14 @@ module _ (a : Starting) (b : Serving) (d : SpiTable) (fits : FitsSpi d) where
         at_first true sync async = inr (27, none_served d fits below chip w s h 1 sync, goes_so (27 ∷ []) 0 (omega arith) async (refl, λ e. refl))
         at_first false other async = inl (goes_so [] 0 (omega arith) async (refl, λ e. absurd (let f = sym other ∙ e in cc)))
 
-        by : (e : FrameRole) (u : ℕ) (o : Origin Call) → IsFor u e o → e ≡ Main → u ≡ first_served d
+        main_works : (e : FrameRole) (u : ℕ) (o : Origin Call) → IsFor u e o → e ≡ Main → u ≡ first_served d
             → let r = unit_acts (at d e u place.Act) (is_sync_unit d u) in Work o fresh_history (Load STATE) (word_of chip STATE) r ⊎ ((l : ℕ) × (ready w s l ≡ false) × Work o (record fresh_history { missed = l ∷ [] }) (Load STATE) (word_of chip STATE) r)
-        by Main zero _ Mains is first = let async = first_async (is_sync_unit d 0) refl first in subst (λ z. Either_acts 0 z) (sym async) (at_first (is_sync_unit d 1) refl async)
-        by Main (suc zero) _ Mains is first = whether_as (is_sync_unit d 1) (λ z. Either_acts 1 z)
+        main_works Main zero _ Mains is first = let async = first_async (is_sync_unit d 0) refl first in subst (λ z. Either_acts 0 z) (sym async) (at_first (is_sync_unit d 1) refl async)
+        main_works Main (suc zero) _ Mains is first = whether_as (is_sync_unit d 1) (λ z. Either_acts 1 z)
             (λ sync. inl (ends_so 1 (first_sync (is_sync_unit d 0) refl first) sync))
             (λ async. inr (26, none_served d fits below chip w s h 0 (first_sync (is_sync_unit d 0) refl first), goes_so (26 ∷ []) 1 (omega arith) async (refl, refl)))
-        by Main (suc (suc u)) _ Mains is first = absurd (none_past (is_sync_unit d 0) u first)
-        by _ u o for is first = absurd (cc)
+        main_works Main (suc (suc u)) _ Mains is first = absurd (none_past (is_sync_unit d 0) u first)
+        main_works _ u o for is first = absurd (cc)
 
     -- after the opening it tells the notices, or starts
     pub opens_so : (e : FrameRole) (u : ℕ) (x : After) (o : Origin Call) (t : FrameHistory) → Frame d d e u o → OpensAt d e u x t → SpiRepresents d (with_holds o t.acted (opens_holds e u x) below) chip w s → StandAt below chip w s (at d e u (opened x)) o t
@@ -438,7 +432,7 @@ module _ (a : Starting) (b : Serving) (d : SpiTable) (fits : FitsSpi d) where
       → SpiRepresents d (with_holds o t.acted (holds_by e) below) chip w s → b.place d u p (foot d chip) w s → is_shared (serve_move d u p) ≡ false
       → (MakesTo (spi_basis d) (unit_bodies a b d) below chip (chip_after chip (serve_move d u p) y) w s o (serve_move d u p) false (value_of chip (serve_move d u p)) y t (missed_after (spi_machine d) w s m) (after_serve (at d e u (place.Serve p)) (serve_takes d u p (value_of chip (serve_move d u p)))))
       ⊎ ((l : ℕ) × (ready w s l ≡ false) × MakesTo (spi_basis d) (unit_bodies a b d) below chip (chip_after chip (serve_move d u p) y) w s o (serve_move d u p) false (value_of chip (serve_move d u p)) y (record t { missed = l ∷ t.missed }) (missed_after (spi_machine d) w s m) (after_serve (at d e u (place.Serve p)) (serve_takes d u p (value_of chip (serve_move d u p)))))
-  serve_right_at serving below chip w s e u p o y t m free come frame done h here plain = by (serve_works below chip w s y missed e u p made value o t frame done h still (λ l none. or_true (m l) (ap not none)) (serve_takes d u p value) (serving.right u frame.small e (with_holds o t.acted (holds_by e) below) chip w s p y free plain h here come))
+  serve_right_at serving below chip w s e u p o y t m free come frame done h here plain = by (serve_works below chip w s y missed e u p made value o t frame done h still (λ l none. or_right (m l) _ (ap not none)) (serve_takes d u p value) (serving.right u frame.small e (with_holds o t.acted (holds_by e) below) chip w s p y free plain h here come))
     where
       made : Move
       made = serve_move d u p

@@ -51,11 +51,11 @@ costs_few (k ∷ ks) small (suc n) =
 -- the words of a channel stand after those of the channels before it
 before_is : (ks : List (Option Channel)) → AreSmall ks → (n : ℕ) → n ≤ 16 → before ks n ≡ 64 + costs ks n
 before_is ks small zero le = refl
-before_is ks small (suc n) le = by (before_is ks small n (omega (arith, le))) (slice_index_or ks n None) refl
+before_is ks small (suc n) le = next_is (before_is ks small n (omega (arith, le))) (slice_index_or ks n None) refl
   where
-    by : before ks n ≡ 64 + costs ks n → (o : Option Channel) → slice_index_or ks n None ≡ o → after (before ks n) o ≡ 64 + costs ks (suc n)
-    by lower None e = lower ∙ (let next = costs_next ks n in let none : cost (slice_index_or ks n None) ≡ 0 = ap cost e in omega (arith, next, none))
-    by lower (Some k) e =
+    next_is : before ks n ≡ 64 + costs ks n → (o : Option Channel) → slice_index_or ks n None ≡ o → after (before ks n) o ≡ 64 + costs ks (suc n)
+    next_is lower None e = lower ∙ (let next = costs_next ks n in let none : cost (slice_index_or ks n None) ≡ 0 = ap cost e in omega (arith, next, none))
+    next_is lower (Some k) e =
         let next = costs_next ks n in
         let one : cost (slice_index_or ks n None) ≡ 4 + banked k = ap cost e in
         let few = costs_few ks small (suc n) in
@@ -76,12 +76,12 @@ costs_within (k ∷ ks) (suc n) =
     let rest = costs_within ks n in
     let objects = sum_by-cons (λ x. cond (is_some x) 1 0) k ks in
     let words = sum_by-cons internal_by k ks in
-    let first = by k in
+    let first = cost_within k in
     omega (arith, rest, objects, words, first)
   where
-    by : (o : Option Channel) → cost o ≤ 32 * cond (is_some o) 1 0 + 6 * internal_by o
-    by None = omega arith
-    by (Some x) =
+    cost_within : (o : Option Channel) → cost o ≤ 32 * cond (is_some o) 1 0 + 6 * internal_by o
+    cost_within None = omega arith
+    cost_within (Some x) =
         elim x.internal as (λ q. 4 + (if q then 6 * x.length else 0) ≤ 32 * 1 + 6 * (if q then x.length else 0))
         [ true ↦ omega arith | false ↦ omega arith ]
 
@@ -242,13 +242,10 @@ module _ (g : SpiConfig) (sound : IsSound g) where
   sequence_at _ lt = refl
 
   jobs_fit : (j : ℕ) (k : Job) → job_of t j ≡ Some k → FitsJob t j k
-  jobs_fit j k e = by (found_job (IsSoundJob g) g.jobs sound.jobs j k (sym (job_at j low) ∙ e))
+  jobs_fit j k e = job_fits (found_job (IsSoundJob g) g.jobs sound.jobs j k (sym (job_at j (in_list (jobs_by_number g.jobs) j k e)) ∙ e))
     where
-      low : j < 16
-      low = in_list (jobs_by_number g.jobs) j k e
-
-      by : (x : SpiJob) × IsSoundJob g x × (taken_job x ≡ k) → FitsJob t j k
-      by (x, s, is) =
+      job_fits : (x : SpiJob) × IsSoundJob g x × (taken_job x ≡ k) → FitsJob t j k
+      job_fits (x, s, is) =
           let kept : channels_of t j ≡ x.channel_list = ap channels_by e ∙ ap (λ k. channels_by (Some k)) (sym is) ∙ channels_kept x.channel_list s.few s.numbers in
           record {
             row = job_row g j k e;
@@ -267,13 +264,13 @@ module _ (g : SpiConfig) (sound : IsSound g) where
               (few, found.0, channel_is g.channels c few ∙ found.1)
 
   sequences_fit : (q : ℕ) (k : Sequence) → sequence_of t q ≡ Some k → FitsSequence t q k
-  sequences_fit q k e = by (found_sequence (IsSoundSequence g) g.sequences sound.sequences q k (sym (sequence_at q low) ∙ e))
+  sequences_fit q k e = sequence_fits (found_sequence (IsSoundSequence g) g.sequences sound.sequences q k (sym (sequence_at q low) ∙ e))
     where
       low : q < 8
       low = in_list (sequences_by_number g.sequences) q k e
 
-      by : (x : SpiSequence) × IsSoundSequence g x × (taken_sequence x ≡ k) → FitsSequence t q k
-      by (x, s, is) =
+      sequence_fits : (x : SpiSequence) × IsSoundSequence g x × (taken_sequence x ≡ k) → FitsSequence t q k
+      sequence_fits (x, s, is) =
           let kept : jobs_of t q ≡ x.job_assignment = ap jobs_by e ∙ ap (λ k. jobs_by (Some k)) (sym is) ∙ jobs_kept x.job_assignment s.few s.numbers in
           record {
             row = sequence_row g q k e;

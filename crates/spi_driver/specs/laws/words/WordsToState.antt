@@ -8,8 +8,8 @@ use Terms.{BanksAgree, Bool, carried_at, carries_channel, Carrying, Channel, cha
 use Terms.{ChannelList, channels_by, channels_of, Chip, Contains, control_word, entry_carried, false, first-at}
 use Terms.{FitsSpi, get_contained, get_or_default, has_channel, inl, inr, internal_word, is_in_use, is_off, Job}
 use Terms.{job_number, job_of, JobList, jobs_by, jobs_list, jobs_of, length, length-take-le, List, list_any, list_by}
-use Terms.{list_of, Memory, Mode, mode_word, nat_lt, nat_tests, None, none_under_way, not, number_there, of_sixteen}
-use Terms.{Off, Option, PENDING, Pending, Placed, placed_of, Received, refl, Reservations, Sent, Sequence}
+use Terms.{list_of, lt_from, Memory, Mode, mode_word, nat_lt, None, none_under_way, not, number_there, of_sixteen}
+use Terms.{Off, Option, or_right, PENDING, Pending, Placed, placed_of, Received, refl, Reservations, Sent, Sequence}
 use Terms.{sequence_of, sequence_word, Side, slice_get, slice_index_or, Some, some_is, SpiRepresents, SpiState}
 use Terms.{SpiTable, STATE, subst, suc, sym, trio_fits, trio_of, true, uses_channel, view, whether, word_of, WORDS}
 use Terms.{World, zero, ℕ}
@@ -72,13 +72,9 @@ any_upto p (suc n) = p n || any_upto p n
 upto_in : (p : ℕ → Bool) (n i : ℕ) → i < n → p i ≡ true → any_upto p n ≡ true
 upto_in p zero i lt e = absurd (omega (arith, lt))
 upto_in p (suc n) i lt e = whether (nat_lt i n)
-    (λ f. or_true (p n) (upto_in p n i (said.is_below i n f) e))
+    (λ f. or_right (p n) _ (upto_in p n i (said.is_below i n f) e))
     (λ f. ap (λ q. q || any_upto p n) (ap p (last i n lt (said.is_past i n f)) ∙ e))
   where
-    or_true : (x : Bool) {y : Bool} → y ≡ true → x || y ≡ true
-    or_true true f = refl
-    or_true false f = f
-
     last : (i n : ℕ) → i < suc n → n ≤ i → n ≡ i
     last i n l f = omega (arith, l, f)
 
@@ -119,10 +115,9 @@ module _ (d : SpiTable) (fits : FitsSpi d) (c : ℕ) where
   found_number xs i (Some n) e f = any_in (λ k. k == c) xs n (get_contained xs i n e) f
 
   get_number : (xs : List ℕ) → (n : ℕ) → length xs ≤ n → list_any (λ k. k == c) xs ≡ true → (i : ℕ) × (i < n) × (is_number c (slice_get xs i) ≡ true)
-  get_number xs n few e = by (said.any_some (λ k. k == c) xs e)
-    where
-      by : (k : ℕ) × Contains xs k × ((k == c) ≡ true) → (i : ℕ) × (i < n) × (is_number c (slice_get xs i) ≡ true)
-      by (k, (i, lt, own), is) = (i, omega (arith, lt, few), ap (is_number c) (said.at_contained xs i k lt own) ∙ is)
+  get_number xs n few e =
+      let (k, (i, lt, own), is) = said.any_some (λ k. k == c) xs e in
+      (i, omega (arith, lt, few), ap (is_number c) (said.at_contained xs i k lt own) ∙ is)
 
   listed_is : (j : ℕ) → is_listed (list_of d j) c 4 ≡ uses_channel d c j
   listed_is j = upto_is (λ i. is_number c (channel_number (list_of d j) i)) 4 (uses_channel d c j)
@@ -154,23 +149,14 @@ module _ (d : SpiTable) (fits : FitsSpi d) (c : ℕ) where
   module _ (held : Reservations) (chip : Chip) (w : World) (s : SpiState) (h : SpiRepresents d held chip w s) where
     -- those under way are the pending ones, and those that units carry out
     all_uses : is_in_use d c (all_of (view s)) ≡ machine.uses d s c
-    all_uses = both_so (is_in_use d c (all_of (view s))) (machine.uses d s c) (λ e. there (said.any_some in_one (all_of (view s)) e)) (λ e. back (is_in_use d c s.pending) refl e)
+    all_uses = both_ways (is_in_use d c (all_of (view s))) (machine.uses d s c) (λ e. there (said.any_some in_one (all_of (view s)) e)) (λ e. back (is_in_use d c s.pending) refl e)
       where
         in_one : Pending → Bool
         in_one p = list_any (uses_channel d c) (jobs_of d p.sequence)
 
-        both_so : (a b : Bool) → (a ≡ true → b ≡ true) → (b ≡ true → a ≡ true) → a ≡ b
-        both_so true b f g = sym (f refl)
-        both_so false true f g = g refl
-        both_so false false f g = refl
-
-        right_true : (a : Bool) {b : Bool} → b ≡ true → a || b ≡ true
-        right_true true e = refl
-        right_true false e = e
-
         carried_there : (u : ℕ) (p : Pending) (o : Option Carrying) → carried_at s u ≡ o → entry_carried o ≡ Some p → in_one p ≡ true → machine.uses d s c ≡ true
         carried_there u p None e f is = absurd (cc)
-        carried_there u p (Some x) e f is = right_true (is_in_use d c s.pending) (any_in (carries_channel d c) s.carried (Some x) (u, some_there s.carried u x e, some_at s.carried u x e) (ap in_one (some_is x.entry p f) ∙ is))
+        carried_there u p (Some x) e f is = or_right (is_in_use d c s.pending) _ (any_in (carries_channel d c) s.carried (Some x) (u, some_there s.carried u x e, some_at s.carried u x e) (ap in_one (some_is x.entry p f) ∙ is))
           where
             some_there : (xs : List (Option Carrying)) (n : ℕ) (x : Carrying) → slice_index_or xs n None ≡ Some x → n < length xs
             some_there [] n x e = absurd (cc)
@@ -234,13 +220,11 @@ listed_get m j (suc n) (suc i) lt = listed_get m (j + 1) n i (omega (arith, lt))
 -- the newest words are those of the bank that the control word names
 newest_get : (x : Placed) (side : Side) (m : Memory) (b : Banks) (i : ℕ) → trio.Stands (trio_of x side) m b → i < x.channel.length → m (bank_word x side (bank_of (m (control_word x side))) i) ≡ slice_index_or b.newest i 0
 newest_get x side m b i h lt =
+    let bank : bank_of (m (control_word x side)) ≡ b.bank = ap bank_of h.control ∙ (let few = h.below in omega (arith, few)) in
     ap (λ n. m (bank_word x side n i)) bank
     ∙ ap m (omega arith)
     ∙ sym (listed_get m (trio.word_at (trio_of x side) b.bank 0) (length b.newest) i (subst (λ n. i < n) (sym h.newest.0) lt))
     ∙ ap (λ xs. slice_index_or xs i 0) h.newest.1
-  where
-    bank : bank_of (m (control_word x side)) ≡ b.bank
-    bank = ap bank_of h.control ∙ (let few = h.below in omega (arith, few))
 
 pub told_internal : (d : SpiTable) → FitsSpi d → (chip : Chip) (w : World) (s : SpiState) → SpiRepresents d [] chip w s → (c : ℕ) (k : Channel) → channel_of d c ≡ Some k → k.internal ≡ true → (received : Bool) (i : ℕ) → i < k.length
     → word_told d (word_of chip) c received i ≡ internal_word s c received i
@@ -271,10 +255,7 @@ told_internal d fits chip w s h c k known internal received i lt =
     few = let most = (fits.channels c k known).few in omega (arith, lt, most)
 
     within : (n : ℕ) → n < WORDS → (P : ℕ → Type 0) → P (m n) → P (word_or m n)
-    within n below P p = subst (λ q. P (if q then m n else 0)) (sym (is_less n below)) p
-      where
-        is_less : (n : ℕ) → n < WORDS → nat_lt n WORDS ≡ true
-        is_less n below = grind (arith, nat_tests)
+    within n below P p = subst (λ q. P (if q then m n else 0)) (sym (lt_from n WORDS below)) p
 
     b : BanksAgree d [] h.going m (view s) c k
     b = h.words.banks c k known internal

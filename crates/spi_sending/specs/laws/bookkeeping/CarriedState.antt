@@ -146,21 +146,20 @@ module _ (d : SpiTable) (fits : FitsSpi d) (v : View) (h : IsSoundState d v) (u 
     pub is : slice_index_or own place 0 ≡ j
 
   own_at : (j : ℕ) → is_own j ≡ true → OwnAt j
-  own_at j e = by (any_some (λ k. k == j) own e)
-    where
-      by : (k : ℕ) × Contains own k × ((k == j) ≡ true) → OwnAt j
-      by (k, (i, lt, at), same) = record { place = i; within = lt; is = get_or_default own i 0 k lt ∙ at ∙ is_number k j same }
+  own_at j e =
+      let (k, (i, lt, at), same) = any_some (λ k. k == j) own e in
+      record { place = i; within = lt; is = get_or_default own i 0 k lt ∙ at ∙ is_number k j same }
 
   -- one that none has left has run, or is none of its own
   none_left : (j : ℕ) → is_own j ≡ false → list_any (is_left d j) (all_of taken_view) ≡ false → list_any (is_left d j) (all_of v) ≡ false
-  none_left j away none = none_any (is_left d j) (all_of v) (λ x there. by x there (same_or_other x.sequence p.sequence))
+  none_left j away none = none_any (is_left d j) (all_of v) (λ x there. not_left x there (same_or_other x.sequence p.sequence))
     where
-      by : (x : Pending) → Contains (all_of v) x → (x.sequence ≡ p.sequence) ⊎ (x.sequence ≢ p.sequence) → is_left d j x ≡ false
-      by x there (inl e) = not_true (is_left d j x) (λ f. left (at_left (jobs_of d x.sequence) x.next j f))
+      not_left : (x : Pending) → Contains (all_of v) x → (x.sequence ≡ p.sequence) ⊎ (x.sequence ≢ p.sequence) → is_left d j x ≡ false
+      not_left x there (inl e) = not_true (is_left d j x) (λ f. left (at_left (jobs_of d x.sequence) x.next j f))
         where
           left : LeftAt (jobs_of d x.sequence) x.next j → ⊥
           left l = let f = sym away ∙ any_in (λ k. k == j) own j (subst (λ q. Contains (jobs_of d q) j) e (l.place, l.within, get_or_default (jobs_of d x.sequence) l.place j 0 l.within ∙ l.is)) (same_number j) in absurd (cc)
-      by x there (inr ne) = any_none (is_left d j) (all_of taken_view) none x (all_there x there ne)
+      not_left x there (inr ne) = any_none (is_left d j) (all_of taken_view) none x (all_there x there ne)
 
   -- of its own those have run that stand before its next one
   run_before : (j : ℕ) (o : OwnAt j) → list_any (is_left d j) (all_of taken_view) ≡ false → o.place < p.next

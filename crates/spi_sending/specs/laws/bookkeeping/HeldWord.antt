@@ -3,14 +3,15 @@
 -- Used by services.SendSteps, services.SendAround, services.SendFurther, services.SendGoesOn and 9 more.
 use Rattle.std.proofs.Common.{◌≡◌, ◌/◌, ◌%◌, ◌<◌, ◌≤◌, ◌==◌, ◌∷◌, ◌∙◌, if◌then◌else◌}
 use Rattle.spi_sending.specs.Terms
-use Terms.{agrees_at, ap, arith, Bool, Call, Called, carried_at, CarriesAgrees, Chip, done_alike, false, FitsSpi}
-use Terms.{flat_map-cons, for_at, Going, going_next, GoingAgrees, holds_changed, HoldsLike, is_done, is_for, is_off}
-use Terms.{IsDone, IsSending, IsServed, job_at_place, job_place, jobs_of, KnowsEnd, length, List, next_job, None}
-use Terms.{Option, part_most, parts_few, place_back, Position, position_in, position_word, Read, readied_by, refl}
-use Terms.{Reservation, Reservations, ReservedBy, Run, run_at, run_carried, run_in, run_of, running_says, running_word}
-use Terms.{RunsNext, Sending, SerialWait, Served, Some, SpiRepresents, SpiState, SpiTable, stall_of, Stands}
-use Terms.{state_done, state_says, stored_by, subst, sym, SyncTransmit, true, under_way, UnderWay, unit_at}
-use Terms.{unit_run, view, word_of, World, ℕ}
+use Terms.{agrees_at, ap, arith, Bool, Call, Called, carried_at, CarriesAgrees, Channel, channel_of, Chip, done_alike}
+use Terms.{false, FitsSpi, flat_map-cons, for_at, Going, going_next, GoingAgrees, held_word, holds_changed, HoldsLike}
+use Terms.{is_done, is_for, is_off, IsDone, IsSending, IsServed, job_at_place, job_place, jobs_of, KnowsEnd, length}
+use Terms.{List, next_job, None, Option, Part, part_most, parts_few, place_back, placed_of, Position, position_in}
+use Terms.{position_word, Read, readied_by, refl, Reservation, Reservations, ReservedBy, Run, run_at, run_carried}
+use Terms.{run_in, run_of, running_says, running_word, RunsNext, Sending, SerialWait, Served, slice_get}
+use Terms.{slice_index_or, Some, SpiRepresents, SpiState, SpiTable, stall_of, Stands, state_done, state_says}
+use Terms.{stored_by, subst, sym, SyncTransmit, taken_of, true, under_way, UnderWay, unit_at, unit_run, view, word_of}
+use Terms.{World, ℕ}
 use Rattle.spi_sending.specs.laws.hardware.WaitedWord.{waited}
 use Rattle.spi_serving.specs.laws.words.Positions.{here as part_here}
 use Rattle.chip_units.specs.Serials as serials
@@ -43,12 +44,27 @@ pub sendings_alike : (d : SpiTable) (below : Reservations) (u q n m : ℕ) (at p
 sendings_alike d below u q n m at p banks bs failed o device e =
     like_through d below (sending_of u q n at banks failed device ∷ below) (sending_of u q m p bs o e ∷ below) (sends_alike d below u q n at banks failed device) (sends_alike d below u q m p bs o e)
 
--- it knows more, or less, of its unit
-pub reheld : (d : SpiTable) (below : Reservations) (chip : Chip) (w : World) (s : SpiState) (u q n m : ℕ) (at p : Position) (banks bs : List ℕ) (failed o : Option Bool) (device e : ℕ) (h : SpiRepresents d (sending_of u q n at banks failed device ∷ below) chip w s) → IsSending d chip w h.going s u q m p bs o e
-    → SpiRepresents d (sending_of u q m p bs o e ∷ below) chip w s
-reheld d below chip w s u q n m at p banks bs failed o device e h is =
-    holds_changed d (sending_of u q n at banks failed device ∷ below) (sending_of u q m p bs o e ∷ below) chip w s h
-    (sendings_alike d below u q n m at p banks bs failed o device e) h.right (is, h.sending.1) h.carriers h.owed
+-- it knows other banks of its job, or how its word has ended
+pub reheld : (d : SpiTable) (below : Reservations) (chip : Chip) (w : World) (s : SpiState) (u q n : ℕ) (at : Position) (banks bs : List ℕ) (failed o : Option Bool) (device : ℕ) (h : SpiRepresents d (sending_of u q n at banks failed device ∷ below) chip w s)
+    → ((i : ℕ) (x : Part) (k : Channel) → slice_get h.sending.0.job.parts i ≡ Some x → channel_of d x.channel ≡ Some k → k.internal ≡ true → 0 < taken_of at i (length x.values) → word_of chip (held_word (placed_of d x.channel)) ≡ slice_index_or bs i 0)
+    → KnowsEnd w.now (run_carried (carried_at s u)) o → SpiRepresents d (sending_of u q n at bs o device ∷ below) chip w s
+reheld d below chip w s u q n at banks bs failed o device h kept end =
+    let says = h.sending.0 in
+    holds_changed d (sending_of u q n at banks failed device ∷ below) (sending_of u q n at bs o device ∷ below) chip w s h (sendings_alike d below u q n n at at banks bs failed o device device) h.right (
+      record {
+        few = says.few;
+        sync = says.sync;
+        job = says.job;
+        is = says.is;
+        sequence = says.sequence;
+        next = says.next;
+        place = says.place;
+        select = says.select;
+        kept = kept;
+        end = end;
+      },
+      h.sending.1,
+    ) h.carriers h.owed
 
 -- ---- what it says of the unit's words
 
@@ -138,10 +154,9 @@ module _ (d : SpiTable) (fits : FitsSpi d) (below : Reservations) (chip : Chip) 
   read = serials.state (unit_at chip.serials u) chip.serials.time
 
   run_there : (run : Run) × (unit_run d s u ≡ Some run)
-  run_there = by (h.sends u waits.few waits.sync)
-    where
-      by : CarriesAgrees d (unit_at chip.serials u) (run_carried (carried_at s u)) (h.going u) → (run : Run) × (unit_run d s u ≡ Some run)
-      by a = let b = subst (λ o. CarriesAgrees d (unit_at chip.serials u) (run_carried (carried_at s u)) o) waits.is a in (run_of d waits.job b.0, runs_sent d fits below chip w s u q n at banks None device h ∙ b.1)
+  run_there =
+      let a : CarriesAgrees d (unit_at chip.serials u) (run_carried (carried_at s u)) (h.going u) = h.sends u waits.few waits.sync in
+      let b = subst (λ o. CarriesAgrees d (unit_at chip.serials u) (run_carried (carried_at s u)) o) waits.is a in (run_of d waits.job b.0, runs_sent d fits below chip w s u q n at banks None device h ∙ b.1)
 
   way : UnderWay d waiting chip w s h u run_there.0
   way = under_way d fits waiting chip w s h u waits.few run_there.0 run_there.1
@@ -153,15 +168,6 @@ module _ (d : SpiTable) (fits : FitsSpi d) (below : Reservations) (chip : Chip) 
   done = state_done d fits waiting chip w s h u waits.few (read / 4 % 2 == 1) (sym (done_alike d fits waiting chip w s h u waits.few) ∙ ended) (sym (state_says (unit_at chip.serials u) chip.serials.time).1)
 
   pub knows_end : SpiRepresents d (sending_of u q n at banks (Some (read / 4 % 2 == 1)) device ∷ below) chip w s
-  knows_end = reheld d below chip w s u q n n at at banks banks None (Some (read / 4 % 2 == 1)) device device h (record {
-    few = waits.few;
-    sync = waits.sync;
-    job = waits.job;
-    is = waits.is;
-    sequence = waits.sequence;
-    next = waits.next;
-    place = waits.place;
-    select = waits.select;
-    kept = waits.kept;
-    end = subst (λ o. KnowsEnd w.now o (Some (read / 4 % 2 == 1))) (sym done.is ∙ runs_sent d fits below chip w s u q n at banks None device h) (done.done, done.failed);
-  })
+  knows_end =
+      reheld d below chip w s u q n at banks banks None (Some (read / 4 % 2 == 1)) device h waits.kept
+      (subst (λ o. KnowsEnd w.now o (Some (read / 4 % 2 == 1))) (sym done.is ∙ runs_sent d fits below chip w s u q n at banks None device h) (done.done, done.failed))

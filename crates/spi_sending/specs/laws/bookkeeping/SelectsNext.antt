@@ -1,13 +1,12 @@
 -- Before the first word of a further job its device is selected, while the word before is done: the agreement stays.
--- From bookkeeping.HeldWord, spi_sequences: words.PendingWords, spi_serving: hardware.UnitRegisters and 1 more.
+-- From bookkeeping.HeldWord, spi_sequences: words.PendingWords, spi_serving: hardware.UnitRegisters and 2 more.
 -- Used by services.SendSteps.
-use Rattle.std.proofs.Common.{◌≡◌, ◌≢◌, ◌<◌, ◌∷◌, ◌∙◌, ◌⊎◌}
+use Rattle.std.proofs.Common.{◌≡◌, ◌<◌, ◌∷◌, ◌∙◌}
 use Rattle.spi_sending.specs.Terms
-use Terms.{ap, banks_held, Bool, carried_at, CarriesAgrees, Chip, chip_after, Contains, false, Going, HoldsLike, inl}
-use Terms.{inr, is_sent, is_sync_unit, IsSending, length-set, List, list_any, None, Option, Position, refl}
-use Terms.{Reservations, run_at, run_carried, same_or_other, Serial, SerialSelect, Some, SpiRepresents, SpiState}
-use Terms.{SpiTable, stands-move, subst, sym, true, unit_at, unit_other, unit_same, UnitAgrees, view, word_of}
-use Terms.{WordsAgree, World, Write, ℕ}
+use Terms.{ap, banks_held, Bool, carried_at, CarriesAgrees, Chip, chip_after, Contains, false, Going, HoldsLike}
+use Terms.{is_sent, is_sync_unit, IsSending, length-set, List, list_any, None, Option, Position, refl, Reservations}
+use Terms.{run_at, run_carried, Serial, SerialSelect, set_unit, Some, SpiRepresents, SpiState, SpiTable, stands-move}
+use Terms.{subst, sym, true, unit_at, unit_other, unit_same, UnitAgrees, view, word_of, WordsAgree, World, Write, ℕ}
 use Rattle.spi_sending.specs.laws.{bookkeeping.HeldWord.{sending_of, sendings_alike}, bookkeeping.SentBeside.{sends_beside}}
 
 module _ (d : SpiTable) (below : Reservations) (chip : Chip) (w : World) (s : SpiState) (u q n : ℕ) (at : Position) (banks : List ℕ) (failed : Option Bool) (device : ℕ) (h : SpiRepresents d (sending_of u q n at banks failed device ∷ below) chip w s) (alone : list_any (λ z. is_sent q z.what) below ≡ false) (v y : ℕ) where
@@ -26,15 +25,12 @@ module _ (d : SpiTable) (below : Reservations) (chip : Chip) (w : World) (s : Sp
   unit_by : (i : ℕ) → i < 2 → is_sync_unit d i ≡ false → UnitAgrees d (unit_at chip1.serials i) (run_at s i) (h.going i)
   unit_by i lt async = subst (λ x. UnitAgrees d x (run_at s i) (h.going i)) (sym (unit_other chip u i new (λ e. let f = sym async ∙ ap (is_sync_unit d) e ∙ says.sync in absurd (cc)))) (h.units i lt async)
 
-  carried_by : (i : ℕ) → i < 2 → is_sync_unit d i ≡ true → (i ≡ u) ⊎ (i ≢ u) → CarriesAgrees d (unit_at chip1.serials i) (run_carried (carried_at s i)) (h.going i)
-  carried_by i lt sync (inl e) =
-      subst (λ k. CarriesAgrees d (unit_at chip1.serials k) (run_carried (carried_at s k)) (h.going k)) (sym e)
-      (subst (λ x. CarriesAgrees d x (run_carried (carried_at s u)) (h.going u)) (sym (unit_same chip u new h.size few)) (turned (h.going u) (h.sends u few says.sync)))
+  carried_by : (i : ℕ) → i < 2 → is_sync_unit d i ≡ true → CarriesAgrees d (unit_at chip1.serials i) (run_carried (carried_at s i)) (h.going i)
+  carried_by = set_unit (λ i x. is_sync_unit d i ≡ true → CarriesAgrees d x (run_carried (carried_at s i)) (h.going i)) chip.serials.units u new h.size (λ lt sync. turned (h.going u) (h.sends u lt sync)) (λ i lt ne. h.sends i lt)
     where
       turned : (g : Option Going) → CarriesAgrees d (unit_at chip.serials u) (run_carried (carried_at s u)) g → CarriesAgrees d new (run_carried (carried_at s u)) g
       turned None a = a
       turned (Some g) a = a
-  carried_by i lt sync (inr ne) = subst (λ x. CarriesAgrees d x (run_carried (carried_at s i)) (h.going i)) (sym (unit_other chip u i new ne)) (h.sends i lt sync)
 
   pub selected_is : (unit_at chip1.serials u).select ≡ v
   selected_is = ap (λ x. x.select) (unit_same chip u new h.size few)
@@ -49,7 +45,7 @@ module _ (d : SpiTable) (below : Reservations) (chip : Chip) (w : World) (s : Sp
     going = h.going;
     nexts = h.nexts;
     units = unit_by;
-    sends = λ i lt sync. carried_by i lt sync (same_or_other i u);
+    sends = carried_by;
     sending = (
       record {
         few = few;

@@ -1,20 +1,19 @@
 -- Around the steps of a call that sends a sequence and waits: its frame may make them, they turn the mask as they should,
 -- what makes no event is calm, and the hardware leaves its places.
--- From spi_starting: services.StartAround, bookkeeping.HeldWord, spi_sequences: services.SyncSteps and 7 more.
--- Used by services.SendRight, services.SendSteps, services.SendFree, services.SendWindows and 9 more.
+-- From bookkeeping.HeldWord, spi_sequences: services.SyncSteps, spi_starting: services.StartAround and 7 more.
+-- Used by services.SendRight, services.SendSteps, spi_driver: bookkeeping.MaskDiscipline and 12 more.
 use Rattle.std.proofs.Common.{◌≡◌, ◌≢◌, ◌<◌, ◌==◌, ◌&&◌, ◌||◌, ◌∷◌, [], ◌∙◌, ◌⊎◌, if◌then◌else◌}
 use Rattle.spi_sending.specs.Terms
-use Terms.{ap, arith, Arrived, asking, AssertedAt, begins_word, below_two, Bool, Call, Called, carried_at, channel_of}
+use Terms.{ap, arith, Arrived, asking, AssertedAt, begins_word, Bool, Call, Called, carried_at, channel_of}
 use Terms.{channel_sent, channel_words, channels_of, Chip, control_word, false, faulted_carrying, Fill, Find}
 use Terms.{find_move, FitsSpi, flat_map, Footing, FrameHistory, fresh_history, happened, held_word, idle, inl, inr}
 use Terms.{is_closed, is_fill, is_off, is_shared, Is_this_frame, IsThisFrame, item-other, item-same, job_at_place}
-use Terms.{length, Level, level_leaves, List, Load, LongBodies, may, may_find, may_first, mode_later, no_word, None}
-use Terms.{nat_lt, Option, or_may, Order, Origin, place_at, Placed, Position, Read, Received, refl, Reservations}
-use Terms.{resets_chip, running_word, same_number, same_or_other, Sending, SerialWait}
-use Terms.{serve_later, serve_may, slice_index_or, Some, spi_bare, spi_basis}
-use Terms.{SpiFault, SpiRepresents, SpiState, SpiTable, subst, sym, sync_move, sync_owes, sync_took, SyncBody}
-use Terms.{SyncPlace, SyncTransmit, true, turns_kept, unit_at, unit_few, unit_of_sequence, untouched, will_give}
-use Terms.{with_holds, word_of, words_kept, World, world_after, ℕ}
+use Terms.{length, Level, level_leaves, List, Load, LongBodies, lt_from, may, may_find, may_first, mode_later, nat_lt}
+use Terms.{no_word, None, Option, or_may, Order, Origin, place_at, Placed, Position, Read, Received, refl}
+use Terms.{Reservations, resets_chip, running_word, same_number, same_or_other, Sending, SerialWait, serve_later}
+use Terms.{serve_may, slice_index_or, Some, spi_bare, spi_basis, SpiFault, SpiRepresents, SpiState, SpiTable, subst}
+use Terms.{sym, sync_move, sync_owes, sync_took, SyncBody, SyncPlace, SyncTransmit, true, turns_kept, unit_at}
+use Terms.{unit_few, unit_of_sequence, untouched, will_give, with_holds, word_of, words_kept, World, world_after, ℕ}
 use Rattle.spi_sending.specs.Sending.{BeforeJob, device_at, first_of, IsSeeking}
 use Rattle.spi_sending.specs.Sending.{sync_bodies, sync_spot}
 use Rattle.spi_sending.specs.laws.{bookkeeping.HeldWord.{sending_of, served_sent, word_sent}}
@@ -106,14 +105,14 @@ module _ (d : SpiTable) where
       pub own_at : (p : SyncPlace) → sync_owes p ≡ false → Stand p → is_shared (sync_move (k p) p) || (may_wait d (sync_move (k p) p) o || may d (sync_move (k p) p)) ≡ true
       own_at place.Free e h = may_first d fits (running_word u) (omega arith) (let few = unit_small h.1.0.unit in omega (arith, few))
       own_at (place.Find b f) e h = let few = unit_small h.1.0.unit in let seeks = h.1.2 in frame_may d o (find_move f) (or_may d fits u few (find_move f) (may_find d fits u few seeks.number seeks.channel seeks.known f seeks.looks))
-      own_at (place.Select b x) e h = below_two u (unit_small h.1.0.unit)
-      own_at (place.Width b x) e h = below_two u (unit_small h.1.0.unit)
-      own_at (place.Begin b x) e h = below_two u (unit_small h.1.0.unit)
+      own_at (place.Select b x) e h = lt_from u 2 (unit_small h.1.0.unit)
+      own_at (place.Width b x) e h = lt_from u 2 (unit_small h.1.0.unit)
+      own_at (place.Begin b x) e h = lt_from u 2 (unit_small h.1.0.unit)
       own_at place.Opens e h = refl
       own_at place.Wait e h = waits h.1.this h.1.unit
         where
           waits : {o : Origin Call} {t : FrameHistory} → IsThisFrame (Called (calls.Sequence q SyncTransmit)) fresh_history o t → u ≡ unit_of_sequence d q → may_wait d (Read (SerialWait u)) o || may d (Read (SerialWait u)) ≡ true
-          waits Is_this_frame unit = ap (λ b. b || may d (Read (SerialWait u))) (ap (λ i. (i == u) && nat_lt u 2) (sym unit) ∙ (ap (λ b. b && nat_lt u 2) (same_number u) ∙ below_two u (unit_small unit)))
+          waits Is_this_frame unit = ap (λ b. b || may d (Read (SerialWait u))) (ap (λ i. (i == u) && nat_lt u 2) (sym unit) ∙ (ap (λ b. b && nat_lt u 2) (same_number u) ∙ lt_from u 2 (unit_small unit)))
       own_at (place.Shut failed) e h = refl
       own_at (place.Taker failed) e h = frame_may d o (sync_move (k (place.Taker failed)) (place.Taker failed)) (by h.1.this h.0)
         where
@@ -122,11 +121,11 @@ module _ (d : SpiTable) where
 
           by : {o : Origin Call} {t : FrameHistory} → IsThisFrame (Called (calls.Sequence q SyncTransmit)) fresh_history o t → SpiRepresents d (with_holds o t.acted (Sending u q n at bs (Some failed) (device_at d q n) ∷ []) below) chip w s → is_shared (sync_move (k (place.Taker failed)) (place.Taker failed)) || may d (sync_move (k (place.Taker failed)) (place.Taker failed)) ≡ true
           by Is_this_frame g = serve_may d fits (sending_of u q n at bs (Some failed) (device_at d q n) ∷ below) chip w s g u few (serve.Taker (served_sent d fits below chip w s u q n at bs failed (device_at d q n) g)) refl (word_sent d fits below chip w s u q n at bs failed (device_at d q n) g)
-      own_at (place.Receive r x) e h = below_two u (unit_small h.1.0.unit)
+      own_at (place.Receive r x) e h = lt_from u 2 (unit_small h.1.0.unit)
       own_at (place.Serve (serve.Width a p)) e h = frame_may d o (sync_move (k (place.Serve (serve.Width a p))) (place.Serve (serve.Width a p))) (serve_may d fits _ chip w s h.0 u (unit_small h.1.0.unit) (serve.Width a p) refl h.1.2)
       own_at (place.Serve (serve.Find a p f)) e h = frame_may d o (sync_move (k (place.Serve (serve.Find a p f))) (place.Serve (serve.Find a p f))) (serve_may d fits _ chip w s h.0 u (unit_small h.1.0.unit) (serve.Find a p f) refl h.1.2)
       own_at (place.Serve (serve.Begin a p x)) e h = frame_may d o (sync_move (k (place.Serve (serve.Begin a p x))) (place.Serve (serve.Begin a p x))) (serve_may d fits _ chip w s h.0 u (unit_small h.1.0.unit) (serve.Begin a p x) refl h.1.2)
-      own_at (place.Serve (serve.Acknowledge a (courses.Ends x))) e h = below_two u (unit_small h.1.0.unit)
+      own_at (place.Serve (serve.Acknowledge a (courses.Ends x))) e h = lt_from u 2 (unit_small h.1.0.unit)
       own_at (place.Serve (serve.Acknowledge a (courses.Further x))) e h = absurd h.1
       own_at (place.Serve serve.Shut) e h = absurd h.1
       own_at (place.Serve serve.State) e h = absurd h.1
@@ -174,7 +173,7 @@ module _ (d : SpiTable) where
             faulted i (inr ne) = item-other None s.carried i u (faulted_carrying w.now (carried_at s i)) ne ∙ free
 
         words_same : word_of chip1 ≡ word_of chip
-        words_same = words_kept d u chip order calm
+        words_same = words_kept chip order calm
 
         -- a fault leaves what the unit has selected, and its width
         turn_same : length chip.serials.units ≡ 2 → u < 2 → ((unit_at chip1.serials u).select ≡ (unit_at chip.serials u).select) × ((unit_at chip1.serials u).width ≡ (unit_at chip.serials u).width)

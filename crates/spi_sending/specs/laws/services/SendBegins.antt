@@ -14,7 +14,7 @@ use Terms.{nat_lt, None, Option, or_else, placed_by, placed_of, refl, Reservatio
 use Terms.{same_number, Sending, sent_steps, Sequence, sequence_of, slice_get, slice_index_or, Some, some_of}
 use Terms.{spi_setting, SpiRepresents, SpiState, SpiTable, subst, suc, sym, sync_begins, SyncTransmit, take, true}
 use Terms.{unit_of_sequence, whether, World, zero, ℕ}
-use Rattle.spi_sending.specs.Sending.{at_least_one, from_word, jobs_left, size_at, sync_bodies, words_left}
+use Rattle.spi_sending.specs.Sending.{at_least_one, jobs_left, size_at, sync_bodies, words_left}
 use Rattle.spi_sending.specs.laws.services.SendAround.{StandAt}
 use Rattle.spi_machine.specs.declared.call.Call.TheVariants as calls
 
@@ -24,12 +24,9 @@ module _ (d : SpiTable) (mode : Mode) (cs : List ChannelState) (q : ℕ) where
   -- no frame below that would block it sends it
   not_sent : (h : ReservedBy Call Reservation) (x : Reservation) → HeldRight d mode cs h x → blocks (class_of (calls.Sequence q SyncTransmit)) (mark_of (spi_setting d) h.by) ≡ false → is_sent q x ≡ false
   not_sent h (Sending u p n at banks failed device) right l = whether (p == q)
-      (λ e. absurd (let f = same e in let g = other in cc))
+      (λ e. absurd (let f = ap (λ k. q == k) (is_number p q e) ∙ same_number q in let g = other in cc))
       (λ e. e)
     where
-      same : (p == q) ≡ true → (q == p) ≡ true
-      same e = ap (λ k. q == k) (is_number p q e) ∙ same_number q
-
       other : (q == p) ≡ false
       other = subst (λ o. blocks (class_of (calls.Sequence q SyncTransmit)) (mark_of (spi_setting d) o) ≡ false) right.0 l
   not_sent h _ right l = refl
@@ -123,17 +120,15 @@ module _ (d : SpiTable) (fits : FitsSpi d) where
         ap (λ o. length (channels_by o)) known ∙ length-take-le x.channels.count x.channels.numbers (omega (arith, row, few))
 
     at_first : 15 * at_least_one (placed_by d (channel_number (list_of d j) 0)).channel.length + 1 ≤ 16 * at_number words_of (channel_number (list_of d j) 0)
-    at_first = by (get_there (channels_of d j) 0 (let some = (fits.jobs j x known).some in let is = long in omega (arith, some, is)))
-      where
-        by : (c : ℕ) × (slice_get (channels_of d j) 0 ≡ Some c) → 15 * at_least_one (placed_by d (channel_number (list_of d j) 0)).channel.length + 1 ≤ 16 * at_number words_of (channel_number (list_of d j) 0)
-        by (c, e) =
-            let is = number_at 0 ∙ e in
-            let there = number_known 0 c is in
-            let same = length_is c there.1 there.2 in
-            let whole : (placed_of d c).channel.length ≡ there.1.length = ap (λ z. z.length) (has_channel d fits c there.1 there.2) in
-            let some = (fits.channels c there.1 there.2).some in
-            let few = all_words (placed_of d c).channel.length (omega (arith, whole, some)) in
-            subst (λ o. 15 * at_least_one (placed_by d o).channel.length + 1 ≤ 16 * at_number words_of o) (sym is) (omega (arith, few, same))
+    at_first =
+        let (c, e) = get_there (channels_of d j) 0 (let some = (fits.jobs j x known).some in let is = long in omega (arith, some, is)) in
+        let is = number_at 0 ∙ e in
+        let there = number_known 0 c is in
+        let same = length_is c there.1 there.2 in
+        let whole : (placed_of d c).channel.length ≡ there.1.length = ap (λ z. z.length) (has_channel d fits c there.1 there.2) in
+        let some = (fits.channels c there.1 there.2).some in
+        let few = all_words (placed_of d c).channel.length (omega (arith, whole, some)) in
+        subst (λ o. 15 * at_least_one (placed_by d o).channel.length + 1 ≤ 16 * at_number words_of o) (sym is) (omega (arith, few, same))
 
     -- of a job
     job_few : 33 + 15 * words_left d j first_place ≤ job_steps d j
@@ -168,13 +163,11 @@ module _ (d : SpiTable) (fits : FitsSpi d) where
 
     -- of the job at a place
     place_few : (n : ℕ) → n < k.jobs.count → 33 + 15 * words_left d (job_at_place d q n) first_place ≤ job_steps d (slice_index_or its_jobs n 0)
-    place_few n lt = by (get_there its_jobs n (let is = so_many in omega (arith, lt, is)))
-      where
-        by : (j : ℕ) × (slice_get its_jobs n ≡ Some j) → 33 + 15 * words_left d (job_at_place d q n) first_place ≤ job_steps d (slice_index_or its_jobs n 0)
-        by (j, e) =
-            let job = (fits.sequences q k known).there j (get_contained (jobs_of d q) n j (ap (λ o. slice_get (jobs_by o) n) known ∙ e)) in
-            let is : job_at_place d q n ≡ j = ap (λ o. or_else 0 (job_number (jobs_in o) n)) known ∙ ap (or_else 0) e in
-            subst (λ i. 33 + 15 * words_left d i first_place ≤ job_steps d (slice_index_or its_jobs n 0)) (sym is) (subst (λ i. 33 + 15 * words_left d j first_place ≤ job_steps d i) (sym (number_is its_jobs n j e)) (job_few j job.1 job.2))
+    place_few n lt =
+        let (j, e) = get_there its_jobs n (let is = so_many in omega (arith, lt, is)) in
+        let job = (fits.sequences q k known).there j (get_contained (jobs_of d q) n j (ap (λ o. slice_get (jobs_by o) n) known ∙ e)) in
+        let is : job_at_place d q n ≡ j = ap (λ o. or_else 0 (job_number (jobs_in o) n)) known ∙ ap (or_else 0) e in
+        subst (λ i. 33 + 15 * words_left d i first_place ≤ job_steps d (slice_index_or its_jobs n 0)) (sym is) (subst (λ i. 33 + 15 * words_left d j first_place ≤ job_steps d i) (sym (number_is its_jobs n j e)) (job_few j job.1 job.2))
 
     -- the jobs up to one, with it
     with_one : (n : ℕ) → n < k.jobs.count → steps_to (n + 1) ≡ steps_to n + job_steps d (slice_index_or its_jobs n 0)
@@ -220,10 +213,8 @@ module _ (d : SpiTable) (fits : FitsSpi d) where
 
   -- of the whole call
   pub begins_few : (q : ℕ) → is_some (sequence_of d q) ≡ true → (sync_bodies d).fuel (sync_begins d q (unit_of_sequence d q)) ≤ sent_steps d (sequence_of d q) - 7
-  begins_few q some = by (some_of (sequence_of d q) some)
-    where
-      by : (k : Sequence) × (sequence_of d q ≡ Some k) → 19 + from_word d q 0 first_place ≤ sent_steps d (sequence_of d q) - 7
-      by (k, known) =
-          let all = few_from q k known 0 15 refl (fits.sequences q k known).some in
-          let is = sent_is q k known in
-          omega (arith, all, is)
+  begins_few q some =
+      let (k, known) = some_of (sequence_of d q) some in
+      let all = few_from q k known 0 15 refl (fits.sequences q k known).some in
+      let is = sent_is q k known in
+      omega (arith, all, is)

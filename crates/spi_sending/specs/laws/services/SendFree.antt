@@ -136,7 +136,7 @@ module _ (d : SpiTable) (fits : FitsSpi d) (below : Reservations) (chip : Chip) 
       ∙ ap (not_sent s q) (busy_error ∙ ap (λ o. if is_some o then Some errors.SpiSeqInProcess else None) e)
 
   taken : (g : Going) → h.going u ≡ Some g → FreeMakes (word_of chip (running_word u)) (sync_frees (k place.Free) (word_of chip (running_word u) == 0))
-  taken g some = subst (λ b. FreeMakes (word_of chip (running_word u)) (sync_frees (k place.Free) b)) (sym nonzero) (by (carried_at s u) refl)
+  taken g some = subst (λ b. FreeMakes (word_of chip (running_word u)) (sync_frees (k place.Free) b)) (sym nonzero) (frees_carried (carried_at s u) refl)
     where
       runs : GoingAgrees d (word_of chip) u g
       runs = subst (λ o. RunAgrees d (word_of chip) u o) some ((h.words.on on).runs u few)
@@ -147,9 +147,9 @@ module _ (d : SpiTable) (fits : FitsSpi d) (below : Reservations) (chip : Chip) 
       told : TellsAs (spi_machine d) (Called asks) (tells_error (named ENotOk) errors.SpiSeqInProcess) (record { answer = named ENotOk; owed = owed_error (reporting d) SpiSyncTransmit errors.SpiSeqInProcess })
       told = error_told (spi_machine d) asks (named ENotOk) errors.SpiSeqInProcess
 
-      by : (o : Option Carrying) → carried_at s u ≡ o → FreeMakes (word_of chip (running_word u)) (sync_frees (k place.Free) false)
-      by None e = absurd (let a = subst (λ o. CarriesAgrees d (unit_at chip.serials u) (run_carried (carried_at s u)) o) some (h.sends u few sync) in let f = sym (ap run_carried e) ∙ a.1 in cc)
-      by (Some x) e = record {
+      frees_carried : (o : Option Carrying) → carried_at s u ≡ o → FreeMakes (word_of chip (running_word u)) (sync_frees (k place.Free) false)
+      frees_carried None e = absurd (let a = subst (λ o. CarriesAgrees d (unit_at chip.serials u) (run_carried (carried_at s u)) o) some (h.sends u few sync) in let f = sym (ap run_carried e) ∙ a.1 in cc)
+      frees_carried (Some x) e = record {
         may = refl;
         stands = tt;
         state = s;

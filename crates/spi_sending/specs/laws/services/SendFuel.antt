@@ -78,11 +78,9 @@ jobs_least d q n (suc m) = whether_as (nat_lt (n + 1) (jobs_list d q).count) (λ
 -- after a job that isn't the last one
 pub job_further : (d : SpiTable) (q n : ℕ) → n < 15 → nat_lt (n + 1) (jobs_list d q).count ≡ true → after_job d q n ≡ 33 + 15 * words_left d (job_at_place d q (n + 1)) first_place + after_job d q (n + 1)
 job_further d q n lt more =
+    let same : 15 - n ≡ suc (15 - (n + 1)) = omega (arith, lt) in
     ap (jobs_left d q n) same
     ∙ ap (λ b. if b then 33 + 15 * words_left d (job_at_place d q (n + 1)) first_place + jobs_left d q (n + 1) (15 - (n + 1)) else 24) more
-  where
-    same : 15 - n ≡ suc (15 - (n + 1))
-    same = omega (arith, lt)
 
 further_job : (k : SyncBody) → has_further_job k ≡ true → (k.job < 15) × (nat_lt (k.job + 1) (jobs_list k.table k.sequence).count ≡ true)
 further_job k e = by (nat_lt k.job 15) refl (nat_lt (k.job + 1) (jobs_list k.table k.sequence).count) refl e
@@ -94,7 +92,7 @@ further_job k e = by (nat_lt k.job 15) refl (nat_lt (k.job + 1) (jobs_list k.tab
 
 -- ---- a step leaves fewer
 
-few_first : (x : Placed) → find_more (finding_first x) ≤ 1
+pub few_first : (x : Placed) → find_more (finding_first x) ≤ 1
 few_first x =
     elim x.channel.internal as (λ q. find_more (if q then finds.Newest x else finds.SetUp x) ≤ 1)
     [ true ↦ omega arith | false ↦ omega arith ]
@@ -108,7 +106,7 @@ module _ (d : SpiTable) where
 
   -- the first word of a job is looked for
   short_find : (k : SyncBody) (b : Option Arrived) (f : Find) (v : ℕ) → ShortTo (4 + find_more f + job_fuel k b) (sync_at k (sync_found b f v (find_gave f v)), goes)
-  short_find k b f v = by b f
+  short_find k b f v = short_search b f
     where
       found_in_few : (b : Option Arrived) (x : Placed) (i : ℕ) (q : Bool) → ShortTo (4 + 1 + job_fuel k b) (sync_at k (place.Find b (if q then finds.Source x i else finds.Default x)), goes)
       found_in_few None x i true = omega arith
@@ -116,11 +114,11 @@ module _ (d : SpiTable) where
       found_in_few (Some r) x i true = omega arith
       found_in_few (Some r) x i false = omega arith
 
-      by : (b : Option Arrived) (f : Find) → ShortTo (4 + find_more f + job_fuel k b) (sync_at k (sync_found b f v (find_gave f v)), goes)
-      by None (finds.Newest x) = omega arith
-      by b (finds.SetUp x) = found_in_few b x 0 (or_none v x.channel).source
-      by b (finds.Held x i) = found_in_few b x i (unpacked v).source
-      by _ _ = omega arith
+      short_search : (b : Option Arrived) (f : Find) → ShortTo (4 + find_more f + job_fuel k b) (sync_at k (sync_found b f v (find_gave f v)), goes)
+      short_search None (finds.Newest x) = omega arith
+      short_search b (finds.SetUp x) = found_in_few b x 0 (or_none v x.channel).source
+      short_search b (finds.Held x i) = found_in_few b x i (unpacked v).source
+      short_search _ _ = omega arith
 
   short_begin : (k : SyncBody) (b : Option Arrived) → ShortTo (1 + job_fuel k b) (sync_at k (sync_begun k b), sync_starts k.unit)
   short_begin k None = omega arith

@@ -10,17 +10,16 @@ use Terms.{Channel, channel_next, channel_of, ChannelState, Chip, control_word, 
 use Terms.{FitsSpi, for_at, free_bank, fresh_history, goes_further, goes_on, Going, going_here, going_other}
 use Terms.{going_with, GoingAgrees, happens, has_channel, has_ended, has_further, held_word, inl, inr, is_done}
 use Terms.{is_for, is_of, is_off, is_sync_unit, IsFurther, IsLike, IsSending, IsServed, item-other, item-same, job_of}
-use Terms.{JobWord, Keep, keep_ends, length, length-set, lets_of, List, may_go_on, Memory, moved_on, nat_tests}
-use Terms.{next_at, next_job, None, not, number_of, of_held, on_wire, one_job, one_part, Option, outcome_with}
-use Terms.{OwesWords, packed_position, Part, past_the_first, place_of, Placed, placed_of, pointwise, Position}
-use Terms.{position_word, Received, received_with, refl, Reservations, right_like, Run, run_at, run_carried}
-use Terms.{same_number, same_or_other, select_by, select_of, Sends, sends_on, sent_at, sent_from, sent_on, SerialData}
-use Terms.{serve_keeps, serve_lets, served_is, ServePlace, slice_get, slice_index_or, Some, some_is, SpiRepresents}
-use Terms.{SpiState, SpiTable, stands-move, start_by, start_of, Starts, Store, stored, stored_is, stored_like}
-use Terms.{stored_other, subst, sym, sync_owed, Take, take_gave, taken_before, taken_of, taken_same, taker_of}
-use Terms.{tells_nothing, ToServe, true, UnderWay, unit_at, unit_named, unit_of_sequence, unit_other, unit_run}
-use Terms.{UnitAgrees, unpacked, view, wire_at, with_carried, with_item, word_after, word_of, words_after, WordsAfter}
-use Terms.{World, Write, ℕ}
+use Terms.{JobWord, Keep, keep_ends, length, length-set, lets_of, List, may_go_on, Memory, moved_on, next_at}
+use Terms.{next_job, None, not, number_of, of_held, on_wire, one_job, one_part, Option, outcome_with, OwesWords}
+use Terms.{packed_position, Part, past_the_first, place_of, Placed, placed_of, pointwise, Position, position_word}
+use Terms.{positive, Received, received_with, refl, Reservations, right_like, Run, run_at, run_carried, same_number}
+use Terms.{same_or_other, select_by, select_of, Sends, sends_on, sent_at, sent_from, sent_on, SerialData, serve_keeps}
+use Terms.{serve_lets, served_is, ServePlace, slice_get, slice_index_or, Some, some_is, SpiRepresents, SpiState}
+use Terms.{SpiTable, stands-move, start_by, start_of, Starts, Store, stored, stored_is, stored_like, stored_other}
+use Terms.{subst, sym, sync_owed, Take, take_gave, taken_before, taken_of, taken_same, taker_of, tells_nothing}
+use Terms.{ToServe, true, UnderWay, unit_at, unit_named, unit_of_sequence, unit_other, unit_run, UnitAgrees, unpacked}
+use Terms.{view, wire_at, with_carried, with_item, word_after, word_of, words_after, WordsAfter, World, Write, ℕ}
 use Rattle.spi_sending.specs.Sending.{device_at, HasBank, IsAt, IsSender}
 use Rattle.spi_sending.specs.laws.bookkeeping.CarriedOut as carried_out
 use Rattle.spi_sending.specs.laws.bookkeeping.HeldWord as held_word_laws
@@ -297,9 +296,6 @@ module _ (d : SpiTable) (fits : FitsSpi d) (below : Reservations) (chip : Chip) 
                 held_so ∙ ap (λ b. if b then free_bank (word_of chip (control_word here Received)) else word_of chip (held_word here)) z
                 ∙ ap (λ z. word_of chip (held_word (placed_of d z.channel))) (sym part_is)
                 ∙ before (subst (λ z. 0 < taken_of under.job.at z (length x.values)) (sym e) (subst (λ z. 0 < taken_of under.job.at under.job.at.channel (length z.values)) (sym part_is) (subst (λ m. 0 < m) (sym (taken_before d fits u (word_of chip) under.job for represents first p second follows came)) (positive under.job.at.word z))))
-              where
-                positive : (m : ℕ) → (m == 0) ≡ false → 0 < m
-                positive m f = grind (arith, nat_tests)
 
     sending_now : AllSend d final w going_after state1 held1
     sending_now = (

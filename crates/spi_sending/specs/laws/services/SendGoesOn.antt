@@ -1,6 +1,6 @@
 -- A further job of a sequence begins for a call that waits, and the job before has ended: what its window owes, and the
 -- agreement after it.
--- From spi_serving: services.FreedUnit, spi_sequences: words.FirstParts and 42 more.
+-- From spi_serving: services.FreedUnit, spi_sequences: words.FirstParts and 41 more.
 -- Used by services.WindowsRight.
 use Rattle.std.proofs.Common.{◌≡◌, ◌≢◌, ◌+◌, ◌-◌, ◌%◌, ◌^◌, ◌<◌, ◌≤◌, ◌==◌, ◌||◌, [], ◌∷◌, ◌++◌, ◌∙◌, ◌⊎◌, if◌then◌else◌}
 use Rattle.spi_sending.specs.Terms
@@ -9,24 +9,23 @@ use Terms.{as_read, aside_high, At, at_left, banks_held, banks_view, banks_words
 use Terms.{carried_at, carries_job, CarriesAgrees, Carrying, cases, Channel, channel_of, channel_words, channels_of}
 use Terms.{ChannelState, Chip, chip_after, CommitsAfter, Contains, Contains-get_or, Destination, ends_here}
 use Terms.{entries_of, entry_carried, external_part, ExternalAgrees, false, few_places, first_place, FitsSpi}
-use Terms.{flat_map, fresh_history, from_order, goes_to_next, Going, going_here, going_left, going_next, going_other}
-use Terms.{going_words, happens, has_bit, held_word, holds-agree, holds_debt, HoldsLike, inl, inr, internal_part}
-use Terms.{InternalAgrees, InTransfer, is_for, is_left, is_number, is_of, is_off, is_on_unit, is_sent, is_sync_unit}
-use Terms.{IsAside, IsFilled, IsFree, IsLast, IsSending, IsServed, IsSoundState, IsStored, IsTold, item-other}
-use Terms.{item-same, job_at_place, job_code, job_of, job_place, job_result, job_small, job_unit, job_word, jobs_of}
-use Terms.{JobWord, keep_of, last_is, last_like, last_stored, LeftAt, length, length-set, List, list_any, MARKS}
-use Terms.{Memory, min, next_in, next_job, next_other, next_same, next_small, next_view, NEXTS, no_word, None}
-use Terms.{not_true, of_banks, of_held, of_set_up, of_sixteen, on_wire, one_job, one_place, Option, order_left}
-use Terms.{order_word, Origin, other_number, outcome_with, packed, part_at, past_the_first, Pending, place_of}
-use Terms.{placed_of, Position, position_word, refl, Reservations, right_like, Run, run_at, run_carried, run_of}
-use Terms.{RunAgrees, running_word, RunsNext, same_number, same_or_other, same_Some, Sends, SendsRight, sequence_code}
-use Terms.{sequence_word, sequences_as, SequencesAgree, SerialData, set_up_code, set_up_or, set_up_word, SetUpFits}
-use Terms.{slice_index, slice_index_or, Some, some_words, sound_as, Source, source_word, spi_owing, SpiJobOk}
-use Terms.{SpiJobPending, SpiJobQueued, SpiRepresents, SpiState, SpiTable, stands-move, StandsIn, start_owed, Starts}
-use Terms.{STATE, Store, stored_other, stored_same, subst, sym, sync_prepares, tells_nothing, to_order, ToServe}
-use Terms.{Transfer, true, UnderWay, unit_at, unit_named, unit_other, unit_run, unit_same, UnitAgrees, untouched}
-use Terms.{upto, View, view, wire_at, with_channels, with_item, with_next_in, word_at, word_of, words_are, words_of}
-use Terms.{World, Write, ℕ}
+use Terms.{flat_map, fresh_history, goes_to_next, Going, going_here, going_left, going_next, going_other, going_words}
+use Terms.{happens, has_bit, held_word, holds_debt, HoldsLike, inl, inr, internal_part, InternalAgrees, InTransfer}
+use Terms.{is_for, is_left, is_number, is_of, is_off, is_on_unit, is_sent, is_sync_unit, IsAside, IsFilled, IsFree}
+use Terms.{IsLast, IsSending, IsServed, IsSoundState, IsStored, IsTold, item-other, item-same, job_at_place, job_code}
+use Terms.{job_of, job_place, job_result, job_small, job_unit, job_word, jobs_of, JobWord, keep_of, last_is}
+use Terms.{last_like, last_stored, LeftAt, length, length-set, List, list_any, MARKS, Memory, min, next_in, next_job}
+use Terms.{next_other, next_same, next_small, next_view, NEXTS, no_word, None, not_true, of_banks, of_held, of_set_up}
+use Terms.{of_sixteen, on_wire, one_job, one_place, Option, order_left, order_stays, Origin, other_number}
+use Terms.{outcome_with, packed, part_at, past_the_first, Pending, place_of, placed_of, Position, position_word, refl}
+use Terms.{Reservations, right_like, Run, run_at, run_carried, run_of, RunAgrees, running_word, RunsNext, same_number}
+use Terms.{same_or_other, same_Some, Sends, SendsRight, sequence_code, sequence_word, sequences_as, SequencesAgree}
+use Terms.{SerialData, set_up_code, set_up_or, set_up_word, SetUpFits, slice_index, slice_index_or, Some, some_words}
+use Terms.{sound_as, Source, source_word, spi_owing, SpiJobOk, SpiJobPending, SpiJobQueued, SpiRepresents, SpiState}
+use Terms.{SpiTable, stands-move, StandsIn, start_owed, Starts, STATE, Store, stored_other, stored_same, subst, sym}
+use Terms.{sync_prepares, tells_nothing, ToServe, Transfer, true, UnderWay, unit_at, unit_named, unit_other, unit_run}
+use Terms.{unit_same, UnitAgrees, untouched, upto, View, view, wire_at, with_channels, with_item, with_next_in}
+use Terms.{word_at, word_of, words_are, words_of, World, Write, ℕ}
 use Rattle.spi_sending.specs.Sending.{device_at, first_of, HasBank, IsSender}
 use Rattle.spi_sending.specs.laws.bookkeeping.AsFreed as freed_laws
 use Rattle.spi_sending.specs.laws.bookkeeping.CarriedOut as carried_out
@@ -48,7 +47,6 @@ use Rattle.chip_units.specs.Serials as serials
 use Rattle.spi_machine.specs.Transfers as transfers
 use Rattle.spi_sequences.specs.Refinement.{IsLast as IsLastResult}
 use Rattle.spi_sequences.specs.declared.service.sync.SyncPlace.TheVariants as place
-use Rattle.word_shapes.specs.PriorityQueue as ranked
 
 module _ (d : SpiTable) (fits : FitsSpi d) (below : Reservations) (chip : Chip) (w : World) (s : SpiState) (q u n : ℕ) (at : Position) (bs : List ℕ) (r : Arrived) (is : IsSender d d q u bs below (Called (asks q)) fresh_history)
     (h : SpiRepresents d (sending_of u q (n - 1) r.served.at bs (Some false) (device_at d q n) ∷ below) chip w s) (last : IsLast d (word_of chip) s w.now u r) (good : r.served.failed ≡ false) (some : 0 < n) (lt : n < length (jobs_of d q))
@@ -213,10 +211,7 @@ module _ (d : SpiTable) (fits : FitsSpi d) (below : Reservations) (chip : Chip) 
       (subst (λ z. IsLastResult z) (sym (item-other SpiJobOk results new_job old_job SpiJobPending (apart its.next (its.next + 1) within more (λ f. omega (arith, f))) ∙ item-same SpiJobOk s.job_results old_job SpiJobOk)) tt)
   behind i before less (inr ne) =
       subst (λ z. IsLastResult z) (sym (unchanged (slice_index_or jobs i 0) (apart i (its.next + 1) less more (λ f. omega (arith, f, before))) (apart i its.next less within ne)))
-      (h.sound.results.last (slice_index_or jobs i 0) (none_left i (earlier i its.next before ne) less))
-    where
-      earlier : (a b : ℕ) → a < b + 1 → a ≢ b → a < b
-      earlier a b less ne = grind arith
+      (h.sound.results.last (slice_index_or jobs i 0) (none_left i (omega (arith, before, ne)) less))
 
   takes : Takes d (view s) u p (view state1).begun job_results s.sequence_results
   takes = record {
@@ -359,13 +354,14 @@ module _ (d : SpiTable) (fits : FitsSpi d) (below : Reservations) (chip : Chip) 
     going_else m ne = going_other h.going u None m ne
 
     runs_base : (m : ℕ) → m < 2 → m ≢ u → RunAgrees d (word_of base) m (going m)
-    runs_base m less ne = subst (λ o. RunAgrees d (word_of base) m o) (sym (going_else m ne)) (by (h.going m) refl ((h.words.on on).runs m less))
+    runs_base m less ne = subst (λ o. RunAgrees d (word_of base) m o) (sym (going_else m ne)) (agrees_base (h.going m) refl ((h.words.on on).runs m less))
       where
-        by : (o : Option Going) → h.going m ≡ o → RunAgrees d (word_of chip) m o → RunAgrees d (word_of base) m o
-        by None e a = base_told (running_word m) (λ f. ne (omega (arith, f))) ∙ freed_unit.run_other st owner None cs like (as_freed c) told l told_so m less ne None e a
-        by (Some k) e a = going_words d fits m (word_of told) (word_of base) k (going_next d fits held chip w s h m k less e).2 (base_told (running_word m) (λ f. ne (omega (arith, f)))) (base_told (position_word m) (λ f. omega (arith, f, few, less)))
-            (λ i z known. base_told (held_word (placed_of d i)) (λ f. let le = past_the_first d i z (held_word (placed_of d i)) (fits.channels i z known) (of_held d fits i z known) in omega (arith, le, f, few)))
-            (λ i z j m1 there known less1. base_told (source_word (placed_of d z.channel) m1) (λ f. omega (arith, f, few))) (freed_unit.run_other st owner None cs like (as_freed c) told l told_so m less ne (Some k) e a)
+        agrees_base : (o : Option Going) → h.going m ≡ o → RunAgrees d (word_of chip) m o → RunAgrees d (word_of base) m o
+        agrees_base None e a = base_told (running_word m) (λ f. ne (omega (arith, f))) ∙ freed_unit.run_other st owner None cs like (as_freed c) told l told_so m less ne None e a
+        agrees_base (Some k) e a = going_words d fits m (word_of told) (word_of base) k (going_next d fits held chip w s h m k less e).2
+            (λ i z y there known outside. base_told (held_word (placed_of d z.channel)) (λ f. let le = past_the_first d z.channel y (held_word (placed_of d z.channel)) (fits.channels z.channel y known) (of_held d fits z.channel y known) in omega (arith, le, f, few)))
+            (λ i z j m1 there known less1. base_told (source_word (placed_of d z.channel) m1) (λ f. omega (arith, f, few)))
+            (base_told (running_word m) (λ f. ne (omega (arith, f)))) (base_told (position_word m) (λ f. omega (arith, f, few, less))) (freed_unit.run_other st owner None cs like (as_freed c) told l told_so m less ne (Some k) e a)
 
     source_past : (m i : ℕ) → m < 16 → i < 64 → word_of base (place_of (Source m) i) ≡ word_of chip (place_of (Source m) i)
     source_past m i small less = base_past (place_of (Source m) i) (omega arith) ∙ l.sources m i small less
@@ -447,7 +443,8 @@ module _ (d : SpiTable) (fits : FitsSpi d) (below : Reservations) (chip : Chip) 
         ahead = λ i le less. job_same (slice_index_or jobs i 0) (job_small d fits its.sequence i less) (apart i its.next less within (λ f. omega (arith, f, le))) ∙ was.had its i all (omega (arith, le)) less;
         behind = λ i before less. by_place i before less (same_or_other i its.next);
         beside = λ j less away. job_same j less (λ e. absurd (let f = sym away ∙ ap is_own e ∙ own_at its.next within in cc));
-        orders = λ k less. holds-agree (record { at = order_word k }) (word_of (as_freed c)) m (entries_of d (view s) k) (λ j own. sym (order_same k j less own)) (order_left st owner None cs like (as_freed c) l k less);
+        orders = λ k less. order_stays (word_of (as_freed c)) m (entries_of d (view s) k) k (λ j low high. same1 j (omega (arith, high, less)) (λ e. omega (arith, low, e)) (λ e. omega (arith, low, high, e, few, less)) (λ e. omega (arith, low, high, e, few, less))
+            ∙ base_freed j (λ e. omega (arith, low, high, e, few, less)) (λ e. omega (arith, high, e, less))) (order_left st owner None cs like (as_freed c) l k less);
       }
         where
           by_place : (i : ℕ) → i < its.next + 1 → i < length jobs → (i ≡ its.next) ⊎ (i ≢ its.next) → m (job_word (slice_index_or jobs i 0)) ≡ job_code (job_result job_results (slice_index_or jobs i 0))
@@ -456,18 +453,8 @@ module _ (d : SpiTable) (fits : FitsSpi d) (below : Reservations) (chip : Chip) 
               (told_zero ∙ ap job_code (sym (item-other SpiJobOk results new_job old_job SpiJobPending (apart its.next (its.next + 1) within more (λ f. omega (arith, f))) ∙ item-same SpiJobOk s.job_results old_job SpiJobOk)))
           by_place i before less (inr ne) =
               job_same (slice_index_or jobs i 0) (job_small d fits its.sequence i less) (apart i its.next less within ne)
-              ∙ was.jobs (slice_index_or jobs i 0) (job_small d fits its.sequence i less) (none_left i (earlier i its.next before ne) less)
+              ∙ was.jobs (slice_index_or jobs i 0) (job_small d fits its.sequence i less) (none_left i (omega (arith, before, ne)) less)
               ∙ ap job_code (sym (unchanged (slice_index_or jobs i 0) (apart i (its.next + 1) less more (λ f. omega (arith, f, before))) (apart i its.next less within ne)))
-            where
-              earlier : (a b : ℕ) → a < b + 1 → a ≢ b → a < b
-              earlier a b less ne = grind arith
-
-          order_same : (k j : ℕ) → k < 2 → ranked.own_of (record { at = order_word k }) j ≡ true → m j ≡ word_of (as_freed c) j
-          order_same k j less own =
-              let low = from_order k j own in
-              let high = to_order k j own in
-              same1 j (omega (arith, high, less)) (λ e. omega (arith, low, e)) (λ e. omega (arith, low, high, e, few, less)) (λ e. omega (arith, low, high, e, few, less))
-              ∙ base_freed j (λ e. omega (arith, low, high, e, few, less)) (λ e. omega (arith, high, e, less))
 
       sequences_now : SequencesAgree d m (view state1)
       sequences_now = sequences_as d taken s.mode (view state1).written (view state1).received (view state1).sources m

@@ -1,14 +1,15 @@
 -- The job before has ended as the next one begins: its last word is kept, what came in becomes readable, and it has its result.
 -- From spi_sequences: services.SyncSteps, spi_sequences: words.WordsOfModule and 19 more.
 -- Used by services.SendGoesOn.
-use Rattle.std.proofs.Common.{◌≡◌, ◌≢◌, ◌+◌, ◌-◌, ◌<◌, ◌≤◌, ◌==◌, ◌∷◌, ◌∙◌, if◌then◌else◌}
+use Rattle.std.proofs.Common.{◌≡◌, ◌≢◌, ◌+◌, ◌-◌, ◌<◌, ◌≤◌, ◌∷◌, ◌∙◌, if◌then◌else◌}
 use Rattle.spi_sending.specs.Terms
-use Terms.{agrees_at, AllKept, ap, arith, Arrived, At, begins_whole, Bool, Channel, channel_at_place, channel_of, channel_there, Chip, chip_after}
-use Terms.{CommitsTo, committing_of, false, first_internal, FitsSpi, for_at, Going, going_next, has_ended, held_word, inl, inr}
-use Terms.{IsBase, IsLast, IsSending, IsServed, job_at_place, job_word, Keep, keep_ends, keep_left, keep_of, length, List, lt_itself, lt_next}
-use Terms.{may_store, nat_lt, nat_tests, next_job, next_small, None, of_held, of_one, one_owed, one_part, Option, own_first, Part, PendingWrites}
-use Terms.{Placed, placed_of, Position, Put, put_gave, put_left, Received, refl, Reservations, Run, running_word, same_or_other}
-use Terms.{Sends, SerialData, slice_get, slice_index_or, Some, SOURCES, spi_owing, SpiRepresents, SpiState, SpiTable}
+use Terms.{agrees_at, AllKept, ap, arith, Arrived, At, begins_whole, Bool, Channel, channel_at_place, channel_of}
+use Terms.{channel_there, Chip, chip_after, CommitsTo, committing_of, false, first_internal, FitsSpi, for_at, Going}
+use Terms.{going_next, has_ended, held_word, inl, inr, IsBase, IsLast, IsSending, IsServed, job_at_place, job_word}
+use Terms.{Keep, keep_ends, keep_left, keep_of, length, List, lt_itself, lt_next, may_store, next_job, next_small}
+use Terms.{None, of_held, of_one, one_owed, one_part, Option, own_first, Part, PendingWrites, Placed, placed_of}
+use Terms.{Position, Put, put_gave, put_left, Received, refl, Reservations, Run, running_word, same_or_other, Sends}
+use Terms.{SerialData, slice_get, slice_index_or, Some, SOURCES, spi_owing, SpiRepresents, SpiState, SpiTable}
 use Terms.{stands-move, StandsIn, STATE, Store, subst, suc, sym, sync_commits, sync_committed, sync_keeps, sync_owed}
 use Terms.{sync_prepares, taken_of, ToServe, true, UnderWay, upto, word_of, words_of, World, Write, ℕ}
 use Rattle.spi_sending.specs.Sending.{HasBank}
@@ -22,24 +23,9 @@ use Rattle.spi_serving.specs.laws.services.EndsOwed.{OwesKeep, OwesPut}
 use Rattle.spi_serving.specs.laws.services.JobLeft as left
 use Rattle.spi_serving.specs.laws.words.AllKept.{lt_else, put_owed}
 use Rattle.spi_serving.specs.laws.words.CommitWords.{commits_owed, held_kept}
+use Rattle.spi_serving.specs.laws.words.LastKept.{less_so, taken_all}
 use Rattle.spi_serving.specs.laws.words.LastKept as kept_laws
 use Rattle.spi_sequences.specs.declared.service.sync.SyncPlace.TheVariants as place
-use Rattle.mcal_base.specs.facts.Numbers.{lt_is}
-
--- of two places that aren't the same, where the second isn't before the first
-less_so : (a c : ℕ) → a ≢ c → (c < a → ⊥) → a < c
-less_so a c ne never = split (nat_lt a c) refl (nat_lt c a) refl
-  where
-    alike : (a c : ℕ) → nat_lt a c ≡ false → nat_lt c a ≡ false → a ≡ c
-    alike a c e f = grind (arith, nat_tests)
-
-    split : (p : Bool) → nat_lt a c ≡ p → (t : Bool) → nat_lt c a ≡ t → a < c
-    split true e t f = lt_is a c e
-    split false e true f = absurd (never (lt_is c a f))
-    split false e false f = absurd (ne (alike a c e f))
-
-taken_whole : (a m i k : ℕ) → i < a → (if nat_lt i a then k else if i == a then m else 0) ≡ k
-taken_whole a m i k lt = grind (arith, nat_tests)
 
 module _ (d : SpiTable) (fits : FitsSpi d) (below : Reservations) (chip : Chip) (w : World) (s : SpiState) (q u n : ℕ) (at : Position) (bs : List ℕ) (r : Arrived) (device : ℕ)
     (h : SpiRepresents d (sending_of u q (n - 1) r.served.at bs (Some false) device ∷ below) chip w s) (last : IsLast d (word_of chip) s w.now u r) (good : r.served.failed ≡ false)
@@ -128,7 +114,7 @@ module _ (d : SpiTable) (fits : FitsSpi d) (below : Reservations) (chip : Chip) 
         before = less_so i g.at.channel elsewhere (λ lt. last_part d fits u (word_of chip) g under.for under.represents (left.first d fits held chip w s h u few r last y) whole i z there lt)
 
         some : 0 < taken_of g.at i (length z.values)
-        some = subst (λ k. 0 < k) (sym (taken_whole g.at.channel g.at.word i (length z.values) before)) (under.represents.parts i z there).0
+        some = subst (λ k. 0 < k) (sym (taken_all g.at.channel g.at.word i (length z.values) before)) (under.represents.parts i z there).0
 
         past : (STATE + 64 ≤ held_word (placed_of d z.channel)) × (held_word (placed_of d z.channel) < SOURCES)
         past = kept_laws.held_past st its whole came i z there inside

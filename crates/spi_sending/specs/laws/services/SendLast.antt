@@ -5,30 +5,31 @@
 use Rattle.std.proofs.Common.{◌≡◌, ◌≢◌, ◌+◌, ◌-◌, ◌<◌, ◌≤◌, ◌==◌, ◌&&◌, ◌||◌, ◌∷◌, ◌∙◌, ◌⊎◌, if◌then◌else◌}
 use Rattle.spi_sending.specs.Terms
 use Terms.{act_of, after_last, all_carried, all_of, AllSend, AnswerName, answers, ap, AreCarried, AreOwed, arith}
-use Terms.{Arrived, aside_high, asked_unit, at_left, banks_held, begun, Bool, both_outside, both_told, Call, Called}
+use Terms.{Arrived, aside_high, asked_unit, banks_held, begun, Bool, both_outside, both_told, Call, Called}
 use Terms.{carried_at, carried_for, CarriesAgrees, Carrying, cases, ChannelState, Chip, commit_by, commit_ends}
-use Terms.{CommitsTo, Contains, DiffersIn, drop, ended_sound, ended_view, ended_words, ends_here, ENotOk, entries_of}
+use Terms.{CommitsTo, Contains, DiffersIn, ended_sound, ended_view, ended_words, ends_here, ENotOk, entries_of}
 use Terms.{entry_carried, EOk, error_of_sending, FAILED, failed_word, false, first_internal, first_pinned, first_told}
 use Terms.{FitsSpi, freed_as, fresh_history, given_back, Going, going_here, going_left, going_other, has_ended}
-use Terms.{has_further, held_word, holds_debt, HoldsLike, inl, inr, is_below, is_left, is_off, is_sent, is_sync_unit}
-use Terms.{is_told, IsAside, IsEnding, IsFilled, IsLast, IsOfSequence, IsSending, IsServed, IsSoundState, IsTold}
-use Terms.{item-other, item-same, job_code, job_result, job_word, jobs_in, jobs_list, jobs_of, keep_ends, keep_of}
-use Terms.{last_is, last_like, last_stored, Leaves, leaves_begun, Leaving, left_at, LeftAt, length, List, list_any}
-use Terms.{MARKS, may_end, may_store, named, nat_lt, next_job, next_small, NEXTS, None, not, not_order, not_sent}
-use Terms.{not_true, of_held, one_job, one_owed, one_place, Option, order_before, order_left, order_word, Origin}
+use Terms.{has_further, held_word, holds_debt, HoldsLike, inl, inr, is_behind, is_below, is_left, is_next, is_off}
+use Terms.{is_sent, is_sync_unit, is_told, IsAside, IsEnding, IsFilled, IsLast, IsOfSequence, IsSending, IsServed}
+use Terms.{IsSoundState, IsTold, item-other, item-same, job_code, job_result, job_word, jobs_in, jobs_list, jobs_of}
+use Terms.{keep_ends, keep_of, last_is, last_like, last_stored, Leaves, leaves_begun, Leaving, length, List, list_any}
+use Terms.{MARKS, may_end, may_store, named, nat_lt, next_ahead, next_job, next_left, next_small, NEXTS, None, not}
+use Terms.{not_order, not_sent, of_held, one_job, one_owed, Option, order_before, order_left, order_word, Origin}
 use Terms.{other_free, other_number, others_differ, outcome, owed_left, OwesEnds, own_first, past_the_first, Pending}
 use Terms.{placed_of, Position, refl, release_by, release_last, Reservations, result_by, right_like, Run, run_at}
 use Terms.{run_carried, RunsBy, RunsNext, same_number, same_or_other, sending_ends, Sends, sends_on, sent, Sequence}
 use Terms.{sequence_code, sequence_of, sequence_result_by, sequence_word, sequences_as, SequencesAgree, serve_commits}
-use Terms.{serve_keeps_last, serve_owes, serve_releases, serve_takes, ServePlace, slice_index_or, Some, sound_as}
-use Terms.{spi_owing, SpiJobOk, SpiRepresents, SpiSeqOk, SpiSeqPending, SpiState, SpiTable, start_owed, STATE, subst}
-use Terms.{sym, sync_owed, take_gave, told_first, told_other, told_second, ToServe, true, UnderWay, unit_at}
-use Terms.{unit_of_sequence, UnitAgrees, View, view, whether, with_item, word_of, World, ℕ}
+use Terms.{serve_keeps_last, serve_owes, serve_releases, serve_takes, ServePlace, Some, sound_as, spi_owing, SpiJobOk}
+use Terms.{SpiRepresents, SpiSeqOk, SpiSeqPending, SpiState, SpiTable, start_owed, STATE, subst, sym, sync_owed}
+use Terms.{take_gave, told_first, told_other, told_second, ToServe, true, UnderWay, unit_at, unit_of_sequence}
+use Terms.{UnitAgrees, View, view, whether, with_item, word_of, World, ℕ}
 use Rattle.spi_sending.specs.Sending.{device_at, EndsWith, IsSender, sent_answer}
 use Rattle.spi_sending.specs.laws.bookkeeping.CarriedOut as carried_out
 use Rattle.spi_sending.specs.laws.{bookkeeping.HeldWord.{like_through, sending_of, sends_alike}, bookkeeping.SentBeside.{sends_beside}}
 use Rattle.spi_sending.specs.laws.{services.SendAround.{body}}
 use Rattle.spi_sending.specs.laws.{services.SendWindows.{asks, SequenceEnds}}
+use Rattle.spi_serving.specs.laws.services.SequenceOverRight.{told_result}
 use Rattle.spi_serving.specs.laws.services.FreedUnit as freed
 use Rattle.spi_serving.specs.laws.services.JobLeft as left
 use Rattle.spi_serving.specs.laws.bookkeeping.JobEnd as job_ends
@@ -59,11 +60,9 @@ sent_ends d q u n at bs = record { moves = λ z. refl; lefts = lefts }
 
     lefts : (z : ServePlace) (v : ℕ) → IsEnding z → serve_owes (serve_takes d u z v).0 ≡ true → owed_left (Sends (body d q u n at bs (place.Serve z))) v ≡ Some (Sends (body d q u n at bs (place.Serve (serve_takes d u z v).0)))
     lefts (serve.Free r c) v i o =
+        let l : Leaving = record { served = r.served; taker = r.taker; course = c } in
         elim r.served.failed as (λ b. Left (if b then release_last d l (4 - r.served.at.channel) else serve.KeepLast l (keep_of d r)))
         [ true ↦ releases l (first_pinned d r.served (4 - r.served.at.channel)) | false ↦ refl ]
-      where
-        l : Leaving
-        l = record { served = r.served; taker = r.taker; course = c }
     lefts (serve.Release l m t) v i o =
         elim (has_ended (take_gave t v)) as (λ b. Left (serve_releases d l m t v b).0)
         [ true ↦ releases l (first_pinned d l.served (3 - m)) | false ↦ refl ]
@@ -79,10 +78,6 @@ sent_ends d q u n at bs = record { moves = λ z. refl; lefts = lefts }
 last_result : (b : Bool) → IsLastResult (result_by b)
 last_result true = tt
 last_result false = tt
-
-told_result : (b : Bool) → failed_word b ≡ job_code (result_by b)
-told_result true = refl
-told_result false = refl
 
 ends_named : (b : Bool) → IsOfSequence (sequence_result_by b)
 ends_named true = tt
@@ -239,33 +234,13 @@ module _ (d : SpiTable) (fits : FitsSpi d) (below : Reservations) (chip : Chip) 
 
   -- of the jobs that were left its own alone has run
   abbrev later : ℕ → Bool
-  later j = list_any (λ k. k == j) (drop (its.next + 1) (jobs_of d its.sequence))
-
-  own_left : is_left d (next_job d its) its ≡ true
-  own_left = left_at (jobs_of d its.sequence) its.next its.next (next_job d its) within (omega arith) refl
-
-  own_run : later (next_job d its) ≡ false
-  own_run = not_true (later (next_job d its)) (λ e. by_left (at_left (jobs_of d its.sequence) (its.next + 1) (next_job d its) e))
-    where
-      by_left : LeftAt (jobs_of d its.sequence) (its.next + 1) (next_job d its) → ⊥
-      by_left z = let same = one_place d fits its.sequence z.place its.next z.within within z.is in let from = z.from in omega (arith, same, from)
-
-  is_own : (j : ℕ) → is_left d j its ≡ true → later j ≡ false → j ≡ next_job d its
-  is_own j there none = by_left (at_left (jobs_of d its.sequence) its.next j there)
-    where
-      greater : (m k : ℕ) → m ≤ k → k ≢ m → m + 1 ≤ k
-      greater m k le other = grind arith
-
-      by_left : LeftAt (jobs_of d its.sequence) its.next j → j ≡ next_job d its
-      by_left z = cases (same_or_other z.place its.next)
-          (λ e. sym z.is ∙ ap (λ m. slice_index_or (jobs_of d its.sequence) m 0) e)
-          (λ ne. absurd (let from = z.from in let past : its.next + 1 ≤ z.place = greater its.next z.place from ne in let f = sym none ∙ left_at (jobs_of d its.sequence) (its.next + 1) z.place j z.within past z.is in cc))
+  later = is_behind d fits its within
 
   ran : (j : ℕ) → is_left d j its ≡ true → later j ≡ false → IsLastResult (job_result results j)
-  ran j there none = subst (λ k. IsLastResult (job_result results k)) (sym (is_own j there none)) (subst (λ z. IsLastResult z) (sym (item-same SpiJobOk s.job_results (next_job d its) (result_by failed))) (last_result failed))
+  ran j there none = subst (λ k. IsLastResult (job_result results k)) (sym (is_next d fits its within j there none)) (subst (λ z. IsLastResult z) (sym (item-same SpiJobOk s.job_results (next_job d its) (result_by failed))) (last_result failed))
 
   unrun : (j : ℕ) → is_left d j its ≡ false → job_result results j ≡ job_result s.job_results j
-  unrun j none = item-other SpiJobOk s.job_results (next_job d its) j (result_by failed) (λ e. let f = sym none ∙ ap (λ k. is_left d k its) e ∙ own_left in cc)
+  unrun j none = item-other SpiJobOk s.job_results (next_job d its) j (result_by failed) (λ e. let f = sym none ∙ ap (λ k. is_left d k its) e ∙ next_left d fits its within in cc)
 
   next_le : its.next ≤ its.next + 1
   next_le = omega arith
@@ -386,14 +361,14 @@ module _ (d : SpiTable) (fits : FitsSpi d) (below : Reservations) (chip : Chip) 
     job_same j lt unless = high_same (job_word j) (omega arith) (omega (arith, lt)) (λ z. let same = job_is in own (omega (arith, z, same))) (λ z. omega (arith, z, lt))
       where
         own : j ≡ next_job d its → ⊥
-        own e = let z = sym unless ∙ ap (λ k. is_left d k its && not (later k)) e ∙ ap (λ b. b && not (later (next_job d its))) own_left ∙ ap not own_run in cc
+        own e = let z = sym unless ∙ ap (λ k. is_left d k its && not (later k)) e ∙ ap (λ b. b && not (later (next_job d its))) (next_left d fits its within) ∙ ap not (next_ahead d fits its within) in cc
 
     sequences : SequencesAgree d (word_of second) (view state1)
     sequences = sequences_as d view1 s.mode (view state1).written (view state1).received (view state1).sources (word_of second)
         (ended_words d fits (view s) h.sound its all (its.next + 1) next_le results ran unrun (view s).pending begun1 leaves (view s).running (view s).idle ended_with (ends_named failed) (ends_over failed) (λ m ne. refl) h.sound.few h.sound.carries.idle idle_off (word_of chip) (word_of second) was
         (λ m lt ne. high_same (sequence_word m) (omega arith) (omega (arith, lt)) (λ z. let lt1 = job_few in omega (arith, z, lt1)) (λ z. let same = run_sequence in ne (omega (arith, z, same)))) told
         (low_same NEXTS (omega arith) (omega arith)) (low_same MARKS (omega arith) (omega arith)) job_same
-        (λ j lt there none. subst (λ k. word_of second (job_word k) ≡ job_code (job_result results k)) (sym (is_own j there none)) result_told) orders)
+        (λ j lt there none. subst (λ k. word_of second (job_word k) ≡ job_code (job_result results k)) (sym (is_next d fits its within j there none)) result_told) orders)
 
     unit_now : (m : ℕ) → m < 2 → is_sync_unit d m ≡ false → UnitAgrees d (unit_at second.serials m) (run_at state1 m) (going_left st m)
     unit_now m lt async =
@@ -425,11 +400,9 @@ module _ (d : SpiTable) (fits : FitsSpi d) (below : Reservations) (chip : Chip) 
 
     result_owes : (j : ℕ) × CommitsTo (spi_owing d) j (Sends (body d q u n at bs (place.Serve (serve.Result leaving)))) c Done
     result_owes =
+        let first : Chip = first_told w u few c l.outside result aside (failed_word a.served.failed) ending beside x apart in
         one_owed (spi_owing d) Done (Sends (body d q u n at bs (place.Serve (serve.Result leaving)))) c (Some (Sends (body d q u n at bs (place.Serve (serve.End a.served x))))) (may_store d fits result (failed_word a.served.failed) (own_first d result (omega arith) (let lt = job_few in omega (arith, lt)))) tt refl
         (one_owed (spi_owing d) Done (Sends (body d q u n at bs (place.Serve (serve.End a.served x)))) first None (may_store d fits ending x (own_first d ending (omega arith) (let lt = number in omega (arith, lt)))) tt refl represents)
-      where
-        first : Chip
-        first = first_told w u few c l.outside result aside (failed_word a.served.failed) ending beside x apart
 
   pub sequence_ends : SequenceEnds d below (asks q) chip1 w s x (body d q u n at bs (place.Serve (serve.Free a (courses.Ends x))))
   sequence_ends = record {

@@ -237,13 +237,13 @@ module _ (d : SpiTable) where
   -- ---- the places where moves are owed
 
   goes_on_so : (k : SyncBody) (z : PendingWrites) (v : ℕ) → sync_owes k.place ≡ true → left_by (sync_takes k v) ≡ Some z → GoesOwing W (Sends k) z (sync_takes k v)
-  goes_on_so k z v i f = by (sync_takes k v) (goes_so k k.place v i) f
+  goes_on_so k z v i f = owing_on (sync_takes k v) (goes_so k k.place v i) f
     where
-      by : (t : SyncBody × BodyTaken) → GoesSo (about_at k k.place) t → left_by t ≡ Some z → GoesOwing W (Sends k) z t
-      by t (inl (q, g, same)) f =
+      owing_on : (t : SyncBody × BodyTaken) → GoesSo (about_at k k.place) t → left_by t ≡ Some z → GoesOwing W (Sends k) z t
+      owing_on t (inl (q, g, same)) f =
           let left : sync_owed t.0 ≡ Some z = subst (λ (n : BodyTaken). unless_done n.done (sync_owed t.0) ≡ Some z) g f in
           (left, g, ap about_sent (sym (owed_sent t.0 z left).1) ∙ ap (λ y. Some y) same)
-      by t (inr (none, q, free)) f = absurd (let g = sym none ∙ f in cc)
+      owing_on t (inr (none, q, free)) f = absurd (let g = sym none ∙ f in cc)
 
   over_so : (k : SyncBody) (v : ℕ) → sync_owes k.place ≡ true → left_by (sync_takes k v) ≡ None → ((sync_takes k v).1.event ≡ None) × GoesFree W (Some (about_at k k.place)) (sync_takes k v).0 (sync_takes k v).1.done
   over_so k v i f = by (sync_takes k v) (goes_so k k.place v i) f

@@ -7,13 +7,14 @@ use Rattle.spi_sending.specs.Terms
 use Terms.{ap, arith, as_read, begins_whole, Bool, Channel, channel_at, channel_at_place, channel_number, channel_of}
 use Terms.{channels_of, Chip, chip_after, CommitsAfter, false, first_place, FitsSpi, has_channel, HasWords, held_word}
 use Terms.{is_to_begin, Job, job_at_place, job_of, List, list_of, may_store, nat_le, nat_lt, nat_tests, NEXTS, None}
-use Terms.{number_at, one_owed, Option, or_none, own_first, OwesReady, packed, packed_run, PendingWrites, placed_by}
+use Terms.{number_at, one_owed, Option, or_none, OwesReady, own_first, packed, packed_run, PendingWrites, placed_by}
 use Terms.{placed_of, Position, position_word, Prepare, prepare_ends, prepare_left, Ready, ready_at, ready_by}
 use Terms.{ready_first, ready_from, ready_next, refl, Reservations, run_sent, running_word, Sends, SentAt, set_up_or}
-use Terms.{set_up_word, slice_get, Some, spi_owing, SpiState, SpiTable, Store, stored_other, stored_same, subst, suc, sym}
-use Terms.{sync_owed, sync_prepared, sync_prepares, sync_prepares_at, sync_prepares_by, SyncBody, SyncPlace, true}
-use Terms.{with_next_in, word_of, zero, ℕ}
+use Terms.{set_up_word, slice_get, Some, spi_owing, SpiState, SpiTable, Store, stored_other, stored_same, subst, suc}
+use Terms.{sym, sync_owed, sync_prepared, sync_prepares, sync_prepares_at, sync_prepares_by, SyncBody, SyncPlace}
+use Terms.{true, with_next_in, word_of, zero, ℕ}
 use Rattle.spi_sending.specs.laws.{services.SendAround.{body}}
+use Rattle.spi_starting.specs.laws.services.StartWords.{begins_later}
 use Rattle.spi_starting.specs.laws.words.ReadyWords.{before, upto}
 use Rattle.spi_sequences.specs.declared.service.sync.SyncPlace.TheVariants as place
 
@@ -60,9 +61,6 @@ module _ (d : SpiTable) (q u n : ℕ) (at : Position) (bs : List ℕ) where
       lefts : (i : ℕ) (y : Prepare) (v : ℕ) (b : Bool) → sync_owed (k (sync_prepared (k place.Run) i y v b)) ≡ Some (if b then ready_next d number each last i else each i (prepare_left y v))
       lefts i y v true = next_left i (nat_lt i 3) ∙ ap (λ z. Some z) (next_is i (nat_lt i 3))
       lefts i y v false = refl
-
-begins_later : (i k : ℕ) → is_to_begin first_place (suc i) k ≡ true
-begins_later i k = grind (arith, nat_tests)
 
 module _ (d : SpiTable) (fits : FitsSpi d) (q u n : ℕ) (few : u < 2) (at : Position) (bs : List ℕ) (job : Job) (is_job : job_of d (job_at_place d q n) ≡ Some job) (held : Reservations) (s : SpiState) (base : Chip) (whole : HasWords base)
     (sends : (i b : ℕ) (x : Channel) → slice_get (channels_of d (job_at_place d q n)) i ≡ Some b → channel_of d b ≡ Some x → x.internal ≡ true → SentAt d held s b x (word_of base) false)
@@ -167,7 +165,7 @@ module _ (d : SpiTable) (fits : FitsSpi d) (q u n : ℕ) (few : u < 2) (at : Pos
 
     -- its channels, and then the words of the unit and of the sequence
     pub prepares_owed : Settling (sent at (sync_prepares (body d q u n at bs place.Run))) base
-    prepares_owed = by (begins_whole (channel_at_place d (number d q u n at bs) 0)) refl
+    prepares_owed = prepares_settle (begins_whole (channel_at_place d (number d q u n at bs) 0)) refl
       where
         none_left : (i : ℕ) → nat_le i 1 ≡ true → false ≡ nat_lt 1 i
         none_left i e = grind (arith, nat_tests)
@@ -178,10 +176,10 @@ module _ (d : SpiTable) (fits : FitsSpi d) (q u n : ℕ) (few : u < 2) (at : Pos
         length_by : (b : Bool) (x : Channel) → (x.internal && nat_le x.length 1) ≡ b → x.internal ≡ true → nat_le x.length 1 ≡ b
         length_by b x e internal = ap (λ z. z && nat_le x.length 1) (sym internal) ∙ e
 
-        by : (b : Bool) → begins_whole (channel_at_place d (number d q u n at bs) 0) ≡ b → Settling (sent at (sync_prepares_at (body d q u n at bs place.Run) (if b then 1 else 0))) base
-        by true e =
+        prepares_settle : (b : Bool) → begins_whole (channel_at_place d (number d q u n at bs) 0) ≡ b → Settling (sent at (sync_prepares_at (body d q u n at bs place.Run) (if b then 1 else 0))) base
+        prepares_settle true e =
             subst (λ x. Settling x base) (sym (place_is d q u n at bs 1 (channel_number (list_of d (number d q u n at bs)) 1)))
             (from_least 1 (omega arith) (λ b x here known internal. none_left x.length (length_by true x (sym (first_is b x here known) ∙ e) internal)) (λ b x here known external. absurd (let f = sym (first_is b x here known) ∙ e in let g = ap (λ z. z && nat_le x.length 1) (sym external) ∙ f in cc)) 3 refl)
-        by false e =
+        prepares_settle false e =
             subst (λ x. Settling x base) (sym (place_is d q u n at bs 0 (channel_number (list_of d (number d q u n at bs)) 0)))
             (from_least 0 (omega arith) (λ b x here known internal. some_left x.length (length_by false x (sym (first_is b x here known) ∙ e) internal)) (λ b x here known external. refl) 4 refl)

@@ -1,21 +1,21 @@
 -- Spi_SyncTransmit is right at each of its places, from what its windows owe.
 -- From spi_sequences: services.SyncSteps, spi_sequences: services.ServeSteps, services.SendAround and 11 more.
 -- Used by spi_driver: services.SendPart.
-use Rattle.std.proofs.Common.{◌≡◌, ◌+◌, ◌≤◌, ◌==◌, ◌&&◌, ◌||◌, ◌∙◌, if◌then◌else◌}
+use Rattle.std.proofs.Common.{◌≡◌, ◌+◌, ◌==◌, ◌&&◌, ◌||◌, ◌∙◌, if◌then◌else◌}
 use Rattle.spi_sending.specs.Terms
 use Terms.{Act, ap, AreFree, AreLong, arith, Arrived, asking, begins_by, begins_of, begins_word, BodyTaken, Bool}
 use Terms.{Call, Called, channel_next, channel_sent, channel_served, Chip, Event, FAILED, false, Fewer, Find}
-use Terms.{find_gave, find_more, find_move, finding_first, FitsSpi, FrameHistory, fresh_history, further_of, happened}
-use Terms.{has_further_job, holds_at, is_closed, is_fill, is_last_place, is_masked, is_shared, Is_this_frame}
-use Terms.{IsThisFrame, keep_few, keep_of, KeepsClean, KeepsMask, less_fuel, less_room, List, may, MayCome, Move}
-use Terms.{next_job_of, None, not_filled, Option, or_none, or_owed, Order, Origin, owed_right, place_at, Placed}
-use Terms.{plain_turns, Position, refl, releasing, Reservations, resets_chip, Right, room_at, same_chip, Sends, Sent}
-use Terms.{sent_owes, serve_finds, serve_room, serve_takes, Served, ServePlace, ShortensTo, Some, spi_bare, spi_basis}
-use Terms.{spi_owing, spi_setting, SpiState, SpiTable, spot_or, stall_of, Start, subst, sym, sync_arrives, sync_at}
-use Terms.{sync_begun, sync_comes, sync_ends, sync_finds, sync_found, sync_frees, sync_goes_to, sync_job_over}
-use Terms.{sync_move, sync_owed, sync_owes, sync_serves, sync_takes, sync_took, sync_work, SyncBody, SyncPlace, Taker}
-use Terms.{taker_sent, true, TurnsTo, unit_named, unpacked, value_of, where_owed, whether, whether_as, windows_right}
-use Terms.{with_holds, with_taken, World, world_after, ℕ}
+use Terms.{find_gave, find_move, FitsSpi, FrameHistory, fresh_history, further_of, happened, has_further_job}
+use Terms.{holds_at, is_closed, is_fill, is_last_place, is_masked, is_shared, Is_this_frame, IsThisFrame, keep_few}
+use Terms.{keep_of, KeepsClean, KeepsMask, less_fuel, less_room, List, may, MayCome, Move, next_job_of, None}
+use Terms.{not_filled, Option, or_none, or_owed, Order, Origin, owed_right, place_at, Placed, plain_turns, Position}
+use Terms.{refl, releasing, Reservations, resets_chip, Right, room_at, same_chip, Sends, Sent, sent_owes, serve_finds}
+use Terms.{serve_room, serve_takes, Served, ServePlace, ShortensTo, Some, spi_bare, spi_basis, spi_owing, spi_setting}
+use Terms.{SpiState, SpiTable, spot_or, stall_of, Start, subst, sym, sync_arrives, sync_at, sync_begun, sync_comes}
+use Terms.{sync_ends, sync_finds, sync_found, sync_frees, sync_goes_to, sync_job_over, sync_move, sync_owed}
+use Terms.{sync_owes, sync_serves, sync_takes, sync_took, sync_work, SyncBody, SyncPlace, Taker, taker_sent, true}
+use Terms.{TurnsTo, unit_named, unpacked, value_of, where_owed, whether, whether_as, windows_right, with_holds}
+use Terms.{with_taken, World, world_after, ℕ}
 use Rattle.run_model.specs.Frame.{is_wait}
 use Rattle.word_shapes.specs.TripleBuffer.{put_move}
 use Rattle.spi_jobs.specs.Parts.{keep_move, prepare_move}
@@ -26,7 +26,7 @@ use Rattle.spi_sequences.specs.laws.services.ServeSteps.{serve_move}
 use Rattle.spi_sending.specs.Sending.{about_sent, about_steps, IsSender, sync_bodies, sync_clean, sync_fuel, sync_room}
 use Rattle.spi_sending.specs.Sending.{sync_spot, sync_windows}
 use Rattle.spi_sending.specs.laws.{services.SendAround.{asking_plain, body, calm_at, find_plain, later_at, own_at, StandAt}}
-use Rattle.spi_sending.specs.laws.{services.SendAround.{V}, services.SendFuel.{short_at}}
+use Rattle.spi_sending.specs.laws.{services.SendAround.{V}, services.SendFuel.{few_first, short_at}}
 use Rattle.spi_sending.specs.laws.{services.SendOwed.{sync_wins}, services.SendSteps.{steps_at}}
 use Rattle.spi_sending.specs.laws.{services.SendWindows.{AreWindowsRight, asks}}
 use Rattle.spi_jobs.specs.declared.finding.Find.TheVariants as finds
@@ -105,11 +105,6 @@ module _ (d : SpiTable) where
 
   abbrev TurnTo : SyncBody → ℕ → SyncBody × BodyTaken → Type 0
   TurnTo k v r = TurnsTo (V d) 32 k r
-
-  few_first : (x : Placed) → find_more (finding_first x) ≤ 1
-  few_first x =
-      elim x.channel.internal as (λ q. find_more (if q then finds.Newest x else finds.SetUp x) ≤ 1)
-      [ true ↦ omega arith | false ↦ omega arith ]
 
   module _ (q u n : ℕ) (at : Position) (bs : List ℕ) (below : Reservations) (chip : Chip) (w : World) (s : SpiState) (o : Origin Call) (t : FrameHistory) where
     abbrev k : SyncPlace → SyncBody
@@ -287,14 +282,12 @@ module _ (d : SpiTable) (fits : FitsSpi d) (windows : AreWindowsRight d) where
       later : (below : Reservations) (chip : Chip) (w : World) (s : SpiState) (order : Order) (k : SyncBody) (o : Origin Call) (t : FrameHistory) → sync_owed k ≡ None → MayCome (spi_setting d) (with_holds o t.acted (holds_at ((V d).assertion k)) below) chip w s order → (is_masked chip ≡ false → is_closed ((V d).assertion k) ≡ false) → StandAt d below chip w s k o t
           → place_at ((V d).assertion k) below ((spi_basis d).foot (happened chip order)) (world_after w chip.clock.rate order) (moved d w s order) o t
       later below chip w s order k o t i come shut h =
+          let free_spot : (V d).assertion k ≡ sync_spot d k k.place = ap (λ q. spot_or (sync_windows d) q (sync_spot d k k.place)) i in
           subst (λ z. place_at z below ((spi_basis d).foot (happened chip order)) (world_after w chip.clock.rate order) (moved d w s order) o t) (sym free_spot)
           (as_now below chip w s k o t i h (λ z. (is_closed (sync_spot d z z.place) ≡ true → is_fill order ≡ false) → place_at (sync_spot d z z.place) below ((spi_basis d).foot (happened chip order)) (world_after w chip.clock.rate order) (moved d w s order) o t)
           (λ none. later_at d k.sequence k.unit k.job k.at k.banks below chip w s o t fits order k.place (free_at k i) none (stands_now below chip w s k o t i h)) (λ closed. whether (is_masked chip)
           (λ e. not_filled (spi_setting d) w s come.frames order (subst (λ q. IsFree (spi_setting d) q w s come.frames order) e come.free))
           (λ e. absurd (let f = sym (shut e) ∙ (ap (λ z. is_closed z) free_spot ∙ closed) in cc))))
-        where
-          free_spot : (V d).assertion k ≡ sync_spot d k k.place
-          free_spot = ap (λ q. spot_or (sync_windows d) q (sync_spot d k k.place)) i
 
   pub sync_right : AreLong (spi_basis d) (sync_bodies d)
   sync_right = windows_right (spi_bare d) (spi_owing d) same_chip (owed_right d) (sync_windows d) (λ k. None) (sync_wins d) sync_free

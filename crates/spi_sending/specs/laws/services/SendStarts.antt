@@ -1,25 +1,24 @@
 -- The first job of a sequence begins for a call that waits: what its window owes, and the agreement after it.
--- From spi_sequences: words.WordsOfModule, bookkeeping.CarriedState, spi_sequences: words.FirstParts and 22 more.
+-- From spi_sequences: words.WordsOfModule, bookkeeping.CarriedState, spi_sequences: words.FirstParts and 21 more.
 -- Used by services.WindowsRight.
 use Rattle.std.proofs.Common.{◌≡◌, ◌≢◌, ◌+◌, ◌%◌, ◌^◌, ◌<◌, ◌≤◌, ◌==◌, [], ◌∷◌, ◌++◌, ◌∙◌, ◌⊎◌, if◌then◌else◌}
 use Rattle.spi_sending.specs.Terms
 use Terms.{all_get, all_of, AnswerName, any_in, ap, arith, as_begun, as_requested, at_contained, banks_view}
 use Terms.{banks_words, begins_whole, begun, Bool, Called, carried_at, CarriesAgrees, Carrying, Channel}
 use Terms.{channel_at_place, channel_of, channels_of, Chip, chip_after, Contains-get_or, Destination, entries_of}
-use Terms.{entry_carried, external_part, false, first_place, FitsSpi, fresh_history, from_order, get_or_default}
-use Terms.{Going, going_next, going_words, held_word, holds-agree, inl, inr, internal_part, InTransfer, is_left}
-use Terms.{is_number, is_off, is_on_unit, is_sync_unit, IsSoundState, item-other, item-same, job_at_place, job_code, job_of}
-use Terms.{job_place, job_result, job_small, job_unit, job_word, job_words, jobs_of, jobs_once, JobWord, KnowsEnd}
-use Terms.{length, length-map, length-set, List, list_any, map, map_get, MARKS, may_store, Memory, min, next_in}
+use Terms.{entry_carried, external_part, false, first_place, FitsSpi, fresh_history, get_or_default, Going}
+use Terms.{going_next, going_words, held_word, inl, inr, internal_part, InTransfer, is_left, is_number, is_off}
+use Terms.{is_on_unit, is_sync_unit, IsSoundState, item-other, item-same, job_at_place, job_code, job_of, job_place}
+use Terms.{job_result, job_small, job_unit, job_word, job_words, jobs_of, jobs_once, JobWord, KnowsEnd, length}
+use Terms.{length-map, length-set, List, list_any, map, map_at, map_get, MARKS, may_store, Memory, min, next_in}
 use Terms.{next_other, next_same, NEXTS, None, of_banks, of_held, of_set_up, on_wire, one_owed, one_place, Option}
-use Terms.{order_word, own_first, past_the_first, PENDING, Pending, place_of, placed_of, Position, position_word}
-use Terms.{refl, Reservations, results-other, results-own, Run, run_at, run_carried, run_of, RunAgrees}
-use Terms.{running_word, same_number, same_or_other, Sends, sends_as, SendsRight, sequence_word, SequencesAgree}
-use Terms.{SerialData, set_up_word, slice_index_or, Some, some_words, Source, source_word, spi_owing, SpiJobOk}
-use Terms.{SpiJobPending, SpiJobQueued, SpiRepresents, SpiSeqOk, SpiSeqPending, SpiState, SpiTable, stands-move}
-use Terms.{StandsIn, STATE, Store, stored_other, stored_same, subst, suc, sym, sync_prepares, to_order, Transfer}
-use Terms.{true, unit_at, unit_few, unit_other, unit_same, UnitAgrees, view, wire_at, with_item, with_next_in}
-use Terms.{word_of, words_are, World, Write, zero, ℕ}
+use Terms.{order_stays, own_first, past_the_first, PENDING, Pending, place_of, placed_of, Position, position_word}
+use Terms.{refl, Reservations, results-other, results-own, Run, run_at, run_carried, run_of, RunAgrees, running_word}
+use Terms.{same_number, same_or_other, Sends, sends_as, SendsRight, sequence_word, SequencesAgree, SerialData}
+use Terms.{set_up_word, slice_index_or, Some, some_words, Source, source_word, spi_owing, SpiJobOk, SpiJobPending}
+use Terms.{SpiJobQueued, SpiRepresents, SpiSeqOk, SpiSeqPending, SpiState, SpiTable, stands-move, StandsIn, STATE}
+use Terms.{Store, stored_other, stored_same, subst, sym, sync_prepares, Transfer, true, unit_at, unit_few, unit_other}
+use Terms.{unit_same, UnitAgrees, view, wire_at, with_item, with_next_in, word_of, words_are, World, Write, ℕ}
 use Rattle.spi_sending.specs.Sending.{device_at, first_of, IsSender}
 use Rattle.spi_sending.specs.laws.bookkeeping.CarriedState as carried_state
 use Rattle.spi_sending.specs.laws.{bookkeeping.CarriedState.{MayTake, Takes, TakesWords}, bookkeeping.HeldWord.{sending_of}}
@@ -32,14 +31,7 @@ use Rattle.spi_starting.specs.laws.ToBegin.{begun_going, ToBegin}
 use Rattle.chip_units.specs.Serials as serials
 use Rattle.spi_machine.specs.Transfers as transfers
 use Rattle.spi_sequences.specs.Refinement.{IsLast as IsLastResult}
-use Rattle.word_shapes.specs.PriorityQueue as ranked
 use Rattle.spi_sequences.specs.declared.service.sync.SyncPlace.TheVariants as place
-
--- what jobs have as they are noted
-had_at : (f : ℕ → AnswerName) (xs : List ℕ) (i : ℕ) → i < length xs → slice_index_or (map f xs) i SpiJobOk ≡ f (slice_index_or xs i 0)
-had_at f [] i lt = absurd (omega (arith, lt))
-had_at f (x ∷ xs) zero lt = refl
-had_at f (x ∷ xs) (suc i) lt = had_at f xs i (omega (arith, lt))
 
 module _ (d : SpiTable) (fits : FitsSpi d) (below : Reservations) (chip : Chip) (w : World) (s : SpiState) (h : SpiRepresents d below chip w s) (q u : ℕ) (at : Position) (bs : List ℕ) (is : IsSender d d q u bs below (Called (asks q)) fresh_history)
     (free : carried_at s u ≡ None) (on : is_off s.mode ≡ false) (x y : ℕ) (sent : x ≡ (first_of d s (job_at_place d q 0)).sent) (select : (unit_at chip.serials u).select ≡ device_at d q 0) (width : (unit_at chip.serials u).width ≡ (first_of d s (job_at_place d q 0)).width) where
@@ -119,7 +111,7 @@ module _ (d : SpiTable) (fits : FitsSpi d) (below : Reservations) (chip : Chip) 
   had_count = length-map jobs (job_result s.job_results)
 
   had_is : (i : ℕ) → i < length jobs → slice_index_or p.had i SpiJobOk ≡ job_result s.job_results (slice_index_or jobs i 0)
-  had_is i lt = had_at (job_result s.job_results) jobs i lt
+  had_is i lt = map_at (job_result s.job_results) jobs i lt
 
   queued_now : (i : ℕ) → i < length jobs → job_result queued (slice_index_or jobs i 0) ≡ SpiJobQueued
   queued_now i lt =
@@ -192,7 +184,7 @@ module _ (d : SpiTable) (fits : FitsSpi d) (below : Reservations) (chip : Chip) 
     where
       by : (o : Option Going) → h.going n ≡ o → RunAgrees d (word_of chip) n o → RunAgrees d (word_of base) n o
       by None e a = base_other (running_word n) (λ f. omega (arith, f, lt)) ∙ a
-      by (Some g) e a = going_words d fits n (word_of chip) (word_of base) g (going_next d fits below chip w s h n g lt e).2 (base_other (running_word n) (λ f. omega (arith, f, lt))) (base_other (position_word n) (λ f. omega (arith, f, lt))) held_past (λ i z k j there known lt. source_past z.channel j) a
+      by (Some g) e a = going_words d fits n (word_of chip) (word_of base) g (going_next d fits below chip w s h n g lt e).2 (λ i z k there known outside. held_past z.channel k known) (λ i z k j there known lt. source_past z.channel j) (base_other (running_word n) (λ f. omega (arith, f, lt))) (base_other (position_word n) (λ f. omega (arith, f, lt))) a
 
   abbrev t : ToBegin
   t = record {
@@ -258,14 +250,9 @@ module _ (d : SpiTable) (fits : FitsSpi d) (below : Reservations) (chip : Chip) 
       ahead = λ i le lt. job_same (slice_index_or jobs i 0) (job_small d fits q i lt) ∙ was.jobs (slice_index_or jobs i 0) (job_small d fits q i lt) (none_left i lt) ∙ ap job_code (sym (had_is i lt));
       behind = λ i lt less. absurd (omega (arith, lt));
       beside = λ j lt away. job_same j lt;
-      orders = λ n lt. holds-agree (record { at = order_word n }) (word_of chip) m (entries_of d (view s) n) (λ j own. sym (order_same n j lt own)) (was.orders n lt);
+      orders = λ n lt. order_stays (word_of chip) m (entries_of d (view s) n) n (λ j low high. same j (omega (arith, high, lt)) (λ e. omega (arith, low, e)) (λ e. omega (arith, low, high, e, few, lt)) (λ e. omega (arith, low, high, e, few, lt))
+          ∙ base_other j (λ e. omega (arith, high, e, lt))) (was.orders n lt);
     }
-      where
-        order_same : (n j : ℕ) → n < 2 → ranked.own_of (record { at = order_word n }) j ≡ true → m j ≡ word_of chip j
-        order_same n j lt own =
-            let low = from_order n j own in
-            let high = to_order n j own in
-            same j (omega (arith, high, lt)) (λ e. omega (arith, low, e)) (λ e. omega (arith, low, high, e, few, lt)) (λ e. omega (arith, low, high, e, few, lt)) ∙ base_other j (λ e. omega (arith, high, e, lt))
 
     sequences_now : SequencesAgree d m (view state1)
     sequences_now = carried_state.taken_words d fits (view s) h.sound u p (view state1).begun job_results sequence_results takes (word_of chip) m was takes_words

@@ -107,11 +107,8 @@ module _ (d : SpiTable) (fits : FitsSpi d) (windows : AreWindowsRight d) (q u n 
       few : u < 2
       few = few_of is
 
-      sync : is_sync_unit d u ≡ true
-      sync = ap (is_sync_unit d) is.unit ∙ is.sync
-
       free : h.going u ≡ None
-      free = by (h.going u) refl (h.sends u few sync)
+      free = by (h.going u) refl (h.sends u few (ap (is_sync_unit d) is.unit ∙ is.sync))
         where
           by : (g : Option Going) → h.going u ≡ g → CarriesAgrees d (unit_at chip.serials u) (run_carried (carried_at s u)) g → g ≡ None
           by None e a = refl
@@ -235,14 +232,14 @@ module _ (d : SpiTable) (fits : FitsSpi d) (windows : AreWindowsRight d) (q u n 
       -- the banks with this one, where it takes the word
       kept : (b : ℕ) → taker_of x at.word v ≡ takers.Bank b → (i : ℕ) (z : Part) (c : Channel) → slice_get says.job.parts i ≡ Some z → channel_of d z.channel ≡ Some c → c.internal ≡ true → 0 < taken_of at i (length z.values)
           → word_of chip (held_word (placed_of d z.channel)) ≡ slice_index_or (slice_set bs at.channel b) i 0
-      kept b e i z c there known inner some = by (same_or_other i at.channel)
+      kept b e i z c there known inner some = kept_at (same_or_other i at.channel)
         where
           parts : map (λ p. p.channel) says.job.parts ≡ channels_of d (next_job d says.job.pending)
           parts = (agrees_at d fits (sending_of u q n at bs (Some failed) (device_at d q n) ∷ below) chip w s h on u says.job says.few says.is).channels
 
-          by : (i ≡ at.channel) ⊎ (i ≢ at.channel) → word_of chip (held_word (placed_of d z.channel)) ≡ slice_index_or (slice_set bs at.channel b) i 0
-          by (inr ne) = says.kept i z c there known inner some ∙ sym (get_or-set_other bs at.channel i b 0 ne)
-          by (inl f) = held_is ∙ sym (ap (λ j. slice_index_or (slice_set bs at.channel b) j 0) f ∙ get_or-set_same bs at.channel b 0 (omega (arith, four, within, f)))
+          kept_at : (i ≡ at.channel) ⊎ (i ≢ at.channel) → word_of chip (held_word (placed_of d z.channel)) ≡ slice_index_or (slice_set bs at.channel b) i 0
+          kept_at (inr ne) = says.kept i z c there known inner some ∙ sym (get_or-set_other bs at.channel i b 0 ne)
+          kept_at (inl f) = held_is ∙ sym (ap (λ j. slice_index_or (slice_set bs at.channel b) j 0) f ∙ get_or-set_same bs at.channel b 0 (omega (arith, four, within, f)))
             where
               four : length bs ≡ 4
               four = is.four
@@ -305,24 +302,13 @@ module _ (d : SpiTable) (fits : FitsSpi d) (windows : AreWindowsRight d) (q u n 
       comes : (t : Taker) → taker_of x at.word v ≡ t → Comes (taker_of x at.word v)
       comes (takers.SetUp by) e = subst (λ z. Comes z) (sym e) (h, (is, (refl, refl, tt), record { served = served; taker = sym e }))
       comes (takers.Bank b) e = subst (λ z. Comes z) (sym e) (
-        reheld d below chip w s u q n n at at bs (slice_set bs at.channel b) (Some failed) (Some failed) (device_at d q n) (device_at d q n) h (record {
-          few = says.few;
-          sync = says.sync;
-          job = says.job;
-          is = says.is;
-          sequence = says.sequence;
-          next = says.next;
-          place = says.place;
-          select = says.select;
-          kept = kept b e;
-          end = says.end;
-        }),
+        reheld d below chip w s u q n at bs (slice_set bs at.channel b) (Some failed) (Some failed) (device_at d q n) h (kept b e) says.end,
         (sender b, (refl, refl, get_or-set_same bs at.channel b 0 at_few), record { served = served; taker = sym e }),
       )
 
   -- the word that is read: a further one begins, a further job, or the sequence ends
   receive_right : (r : Served) (t : Taker) → Stand (place.Receive r t) → Step (place.Receive r t)
-  receive_right r t (h, (is, here, taken)) = by r.failed refl (further_of d a) refl (receive_decides d fits (sending_of u q n at bs (Some r.failed) (device_at d q n) ∷ below) chip w s h u (few_of is) r t taken).1
+  receive_right r t (h, (is, here, taken)) = arrives_right r.failed refl (further_of d a) refl (receive_decides d fits (sending_of u q n at bs (Some r.failed) (device_at d q n) ∷ below) chip w s h u (few_of is) r t taken).1
     where
       a : Arrived
       a = record { served = r; taker = t; word = serials.received (unit_at chip.serials u) chip.serials.time }
@@ -355,8 +341,8 @@ module _ (d : SpiTable) (fits : FitsSpi d) (windows : AreWindowsRight d) (q u n 
       Stands : ServePlace → Type 0
       Stands p = word_place d u p (foot d chip) w s
 
-      by : (b : Bool) → r.failed ≡ b → (z : Option Position) → further_of d a ≡ z → Stands (begins_of d a) → Step (place.Receive r t)
-      by b e z f stands = subst (λ p. Stands p → StandAt d below chip w s (sync_goes_to (sync_arrives kr a p)).0 o fresh_history) (sym (ap (λ i. if i then serve.Marks a else begins_by a (further_of d a)) e ∙ ap (λ i. if b then serve.Marks a else begins_by a i) f)) (split b e z) stands
+      arrives_right : (b : Bool) → r.failed ≡ b → (z : Option Position) → further_of d a ≡ z → Stands (begins_of d a) → Step (place.Receive r t)
+      arrives_right b e z f stands = subst (λ p. Stands p → StandAt d below chip w s (sync_goes_to (sync_arrives kr a p)).0 o fresh_history) (sym (ap (λ i. if i then serve.Marks a else begins_by a (further_of d a)) e ∙ ap (λ i. if b then serve.Marks a else begins_by a i) f)) (split b e z) stands
         where
           split : (b : Bool) → r.failed ≡ b → (z : Option Position) → Stands (if b then serve.Marks a else begins_by a z) → StandAt d below chip w s (sync_goes_to (sync_arrives kr a (if b then serve.Marks a else begins_by a z))).0 o fresh_history
           split true e z last = over true e (has_further_job kr) refl last

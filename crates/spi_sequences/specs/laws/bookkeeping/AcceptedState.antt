@@ -37,7 +37,7 @@ get_push (x ∷ xs) y (suc i) z e =
 pub map_get : {A B : Type 0} (f : A → B) (xs : List A) (i : ℕ) (x : A) → slice_get xs i ≡ Some x → slice_get (map f xs) i ≡ Some (f x)
 map_get f xs i x e = slice_get-map f xs i ∙ ap (option_map f) e
 
-map_at : (f : ℕ → AnswerName) (xs : List ℕ) (i : ℕ) → i < length xs → slice_index_or (map f xs) i SpiJobOk ≡ f (slice_index_or xs i 0)
+pub map_at : (f : ℕ → AnswerName) (xs : List ℕ) (i : ℕ) → i < length xs → slice_index_or (map f xs) i SpiJobOk ≡ f (slice_index_or xs i 0)
 map_at f [] i lt = absurd (omega (arith, lt))
 map_at f (x ∷ xs) zero lt = refl
 map_at f (x ∷ xs) (suc i) lt = map_at f xs i (omega (arith, lt))
@@ -64,13 +64,13 @@ module _ (d : SpiTable) (fits : FitsSpi d) (v : View) (h : IsSoundState d v) (q 
 
   -- no sequence under way is it, or has a job of it
   pub apart_from : (p : Pending) → Contains (all_of v) p → (p.sequence ≢ q) × (shares_job d q p.sequence ≡ false)
-  apart_from p there = by (all_cases v p there)
+  apart_from p there = apart_queued_or_begun (all_cases v p there)
     where
-      by : Contains v.pending p ⊎ ((u : ℕ) × (v.begun u ≡ Some p)) → (p.sequence ≢ q) × (shares_job d q p.sequence ≡ false)
-      by (inl is) =
+      apart_queued_or_begun : Contains v.pending p ⊎ ((u : ℕ) × (v.begun u ≡ Some p)) → (p.sequence ≢ q) × (shares_job d q p.sequence ≡ false)
+      apart_queued_or_begun (inl is) =
           let r = or_parts (is_of q p) (shares_job d q p.sequence) (any_none (λ p. is_of q p || shares_job d q p.sequence) v.pending free p is) in
           (λ e. let f = sym r.0 ∙ ap (λ n. n == q) e ∙ same_number q in cc, r.1)
-      by (inr (u, e)) =
+      apart_queued_or_begun (inr (u, e)) =
           let r = h.carries.unit u p e in
           let sync : is_sync_sequence d p.sequence ≡ true = ap (is_sync_unit d) r.2 ∙ r.1 in (
             λ f. let g = sym async ∙ ap (is_sync_sequence d) (sym f) ∙ sync in cc,

@@ -97,8 +97,9 @@ module _ (d : SpiTable) (fits : FitsSpi d) (below : Reservations) (chip : Chip) 
 
   run_marked : (u : ℕ) → u < 2 → (g : Option Going) → h.going u ≡ g → RunAgrees d (word_of chip) u g → RunAgrees d (word_of chip1) u (going_with q f g)
   run_marked u lt None e r = other (running_word u) (λ i. omega (arith, i)) ∙ r
-  run_marked u lt (Some g) e r = run_with q f d k (word_of chip1) u (Some g) (going_words d fits u (word_of chip) (word_of chip1) g (going_next d fits below chip w s h u g lt e).2 (other (running_word u) (λ i. omega (arith, i))) (other (position_word u) (λ i. omega (arith, i)))
-      (λ c x known. above (held_word (placed_of d c)) (past_the_first d c x _ (fits.channels c x known) (of_held d fits c x known))) (λ n x c i at known few. other (source_word (placed_of d x.channel) i) (λ j. omega (arith, j))) r)
+  run_marked u lt (Some g) e r = run_with q f d k (word_of chip1) u (Some g) (going_words d fits u (word_of chip) (word_of chip1) g (going_next d fits below chip w s h u g lt e).2
+      (λ n x c at known outside. above (held_word (placed_of d x.channel)) (past_the_first d x.channel c _ (fits.channels x.channel c known) (of_held d fits x.channel c known))) (λ n x c i at known few. other (source_word (placed_of d x.channel) i) (λ j. omega (arith, j)))
+      (other (running_word u) (λ i. omega (arith, i))) (other (position_word u) (λ i. omega (arith, i))) r)
 
   free_before : (g : Option Going) → going_with q f g ≡ None → g ≡ None
   free_before None e = refl

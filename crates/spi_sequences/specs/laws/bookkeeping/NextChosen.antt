@@ -1,10 +1,10 @@
 -- What a start chooses of a unit's order is what the machine starts next.
 -- From words.WordsToState, words.ListTests, services.InitPrepared, services.StartSteps, words.Cases and 3 more.
--- Used by spi_starting: services.StartBegun, spi_starting: services.StartRight, spi_starting: Starting and 2 more.
+-- Used by spi_starting: services.StartBegun, spi_starting: services.StartRight, spi_starting: Starting and 3 more.
 use Rattle.std.proofs.Common.{◌≡◌, ◌<◌, ◌==◌, ◌&&◌, ◌||◌, [], ◌∷◌, ◌∙◌, if◌then◌else◌}
 use Rattle.spi_sequences.specs.Terms
 use Terms.{ap, arith, best, better, Bool, Chip, choice, Contains, entries_of, Entry, false, filter, FitsSpi, is_for}
-use Terms.{is_interruptible, is_off, is_running, job_at_place, job_of, keeps_unit, List, map, MARKS, nat_lt}
+use Terms.{is_interruptible, is_off, is_running, job_at_place, job_of, keeps_unit, List, lt_since, map, MARKS, nat_lt}
 use Terms.{nat_tests, next_in, next_job, next_on, NEXTS, None, none, not, Option, over, Pending, PendingAgrees}
 use Terms.{precedes, priority_by, rank, rank_in, ranks_in, refl, Reservations, sequence_of, slice_get, Some}
 use Terms.{SpiRepresents, SpiState, SpiTable, subst, suc, sym, true, view, whether, whether_as, word_of, World, ℕ}
@@ -29,11 +29,11 @@ IsSorted (p ∷ ps) = ((q : Pending) → Contains ps q → p.request < q.request
 
 pub best_in : (d : SpiTable) (ps : List Pending) (b : Pending) → best d ps ≡ Some b → Contains ps b
 best_in d [] b e = absurd (cc)
-best_in d (p ∷ ps) b e = by (best d ps) refl e (λ c f. best_in d ps c f)
+best_in d (p ∷ ps) b e = in_with_first (best d ps) refl e (λ c f. best_in d ps c f)
   where
-    by : (o : Option Pending) → best d ps ≡ o → Some (better d p o) ≡ Some b → ((c : Pending) → best d ps ≡ Some c → Contains ps c) → Contains (p ∷ ps) b
-    by None f g rest = let same : p ≡ b = cc in subst (λ x. Contains (p ∷ ps) x) same (in_first p ps)
-    by (Some o) f g rest = whether (precedes d o p)
+    in_with_first : (o : Option Pending) → best d ps ≡ o → Some (better d p o) ≡ Some b → ((c : Pending) → best d ps ≡ Some c → Contains ps c) → Contains (p ∷ ps) b
+    in_with_first None f g rest = let same : p ≡ b = cc in subst (λ x. Contains (p ∷ ps) x) same (in_first p ps)
+    in_with_first (Some o) f g rest = whether (precedes d o p)
         (λ h. let same : o ≡ b = ap (λ q. if q then o else p) (sym h) ∙ cc in subst (λ x. Contains (p ∷ ps) x) same (in_later p ps o (rest o f)))
         (λ h. let same : p ≡ b = ap (λ q. if q then o else p) (sym h) ∙ cc in subst (λ x. Contains (p ∷ ps) x) same (in_first p ps))
 
@@ -43,13 +43,10 @@ chosen_of : (d : SpiTable) (ranks : List ℕ) (p b : Pending) → b.sequence < 8
 chosen_of d ranks p b few before e f =
     ap (λ q. if not (q && nat_lt (order.rank ranks p.sequence) (order.rank ranks b.sequence)) then p.sequence else b.sequence) (small b.sequence few)
     ∙ ap (λ n. if not (nat_lt n (order.rank ranks b.sequence)) then p.sequence else b.sequence) e ∙ ap (λ n. if not (nat_lt (rank d p) n) then p.sequence else b.sequence) f
-    ∙ by (nat_lt (rank d p) (rank d b)) (rank d b == rank d p) ∙ ap (λ q. (if nat_lt (rank d p) (rank d b) || ((rank d b == rank d p) && q) then b else p).sequence) (sym (later b.request p.request before))
+    ∙ by (nat_lt (rank d p) (rank d b)) (rank d b == rank d p) ∙ ap (λ q. (if nat_lt (rank d p) (rank d b) || ((rank d b == rank d p) && q) then b else p).sequence) (sym (lt_since b.request p.request (omega (arith, before))))
   where
     small : (n : ℕ) → n < 8 → nat_lt n none ≡ true
     small n lt = grind (arith, nat_tests)
-
-    later : (i j : ℕ) → j < i → nat_lt i j ≡ false
-    later i j lt = grind (arith, nat_tests)
 
     by : (x y : Bool) → (if not x then p.sequence else b.sequence) ≡ (if x || (y && false) then b else p).sequence
     by false true = refl
@@ -86,32 +83,28 @@ module _ (d : SpiTable) (fits : FitsSpi d) (below : Reservations) (chip : Chip) 
   -- the ranks that a frame reads are the machine's
   rank_agrees : (p : Pending) → Contains s.pending p → order.rank ranks p.sequence ≡ rank d p
   rank_agrees p there =
+      let a : PendingAgrees (word_of chip) p = (h.words.on on).sequences.pending p there in
       rank_there d (word_of chip NEXTS) (word_of chip MARKS) p.sequence (h.sound.entries p (all_pending (view s) p there)).number
       ∙ ap (λ q. if q && not (is_interruptible (sequence_of d p.sequence)) then 4 else priority_by (job_of d (job_at_place d p.sequence (next_in (word_of chip NEXTS) p.sequence)))) a.started
       ∙ ap (λ n. if keeps_unit d p then 4 else priority_by (job_of d (job_at_place d p.sequence n))) a.next
       ∙ ap (λ j. if keeps_unit d p then 4 else priority_by (job_of d j)) (job_place d fits p.sequence p.next (h.sound.entries p (all_pending (view s) p there)).next)
-    where
-      a : PendingAgrees (word_of chip) p
-      a = (h.words.on on).sequences.pending p there
 
   module _ (u : ℕ) (few : u < 2) (free : h.going u ≡ None) where
     -- all sequences of a free unit wait
-    rests : (p : Pending) → Contains s.pending p → is_for d u p ≡ true → is_running s p.sequence ≡ false
-    rests p there for = not_true (is_running s p.sequence) (λ e. by (runs_on d fits below chip w s h p.sequence e))
-      where
-        by : RunsOn d fits below chip w s h p.sequence → ⊥
-        by r =
-            let next = going_asked d fits below chip w s h r.unit r.job r.few r.async r.is in
-            let same : r.job.pending ≡ p = one_pending d fits below chip w s h r.job.pending p (all_pending (view s) r.job.pending next.0) (all_pending (view s) p there) r.of in
-            let unit : r.unit ≡ u = one_unit d r.unit u (next_job d p) (subst (λ x. is_for d r.unit x ≡ true) same next.2) for in
-            let none : None ≡ Some r.job = sym free ∙ ap h.going (sym unit) ∙ r.is in
-            cc
+    pub free_rests : (p : Pending) → Contains s.pending p → is_for d u p ≡ true → is_running s p.sequence ≡ false
+    free_rests p there for = not_true (is_running s p.sequence) (λ e.
+        let r : RunsOn d fits below chip w s h p.sequence = runs_on d fits below chip w s h p.sequence e in
+        let next = going_asked d fits below chip w s h r.unit r.job r.few r.async r.is in
+        let same : r.job.pending ≡ p = one_pending d fits below chip w s h r.job.pending p (all_pending (view s) r.job.pending next.0) (all_pending (view s) p there) r.of in
+        let unit : r.unit ≡ u = one_unit d r.unit u (next_job d p) (subst (λ x. is_for d r.unit x ≡ true) same next.2) for in
+        let none : None ≡ Some r.job = sym free ∙ ap h.going (sym unit) ∙ r.is in
+        cc)
 
     all_wait : (ps : List Pending) → ((p : Pending) → Contains ps p → Contains (filter (is_for d u) s.pending) p) → map (λ p. record { number = p.sequence; waits = not (is_running s p.sequence) }) ps ≡ waiting_entries ps
     all_wait [] all = refl
     all_wait (p ∷ ps) all =
         let at = filter_back (is_for d u) s.pending p (all p (in_first p ps)) in
-        ap (λ b. record { number = p.sequence; waits = not b } ∷ map (λ x. record { number = x.sequence; waits = not (is_running s x.sequence) }) ps) (rests p at.0 at.1)
+        ap (λ b. record { number = p.sequence; waits = not b } ∷ map (λ x. record { number = x.sequence; waits = not (is_running s x.sequence) }) ps) (free_rests p at.0 at.1)
         ∙ ap (λ xs. record { number = p.sequence; waits = true } ∷ xs) (all_wait ps (λ q there. all q (in_later p ps q there)))
 
     pub waits_all : entries_of d (view s) u ≡ waiting_entries (filter (is_for d u) s.pending)

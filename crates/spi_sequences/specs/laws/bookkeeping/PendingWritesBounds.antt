@@ -160,13 +160,13 @@ module _ (k : UnitBody) where
       (λ e. omega arith)
       (λ e. let lt = next_less p v e in omega (arith, lt))
   start_less (starts.Mark c) v = prepares_less c.run 0 12 (omega arith) (omega arith)
-  start_less (starts.Prepare r i p) v = by (prepare_ends p v) refl
+  start_less (starts.Prepare r i p) v = start_prepares_less (prepare_ends p v) refl
     where
-      by : (q : Bool) → prepare_ends p v ≡ q → StartLess k (4 + 2 * (3 - i) + prepare_more p) (start_prepares k.table r i p v q)
-      by true e = whether_as (nat_lt i 3) (λ q. StartLess k (4 + 2 * (3 - i) + prepare_more p) (if q then prepare_at k.table r (i + 1) else prepared k.table r, started.Goes None))
+      start_prepares_less : (q : Bool) → prepare_ends p v ≡ q → StartLess k (4 + 2 * (3 - i) + prepare_more p) (start_prepares k.table r i p v q)
+      start_prepares_less true e = whether_as (nat_lt i 3) (λ q. StartLess k (4 + 2 * (3 - i) + prepare_more p) (if q then prepare_at k.table r (i + 1) else prepared k.table r, started.Goes None))
           (λ e. let lt : i < 3 = grind (arith, nat_tests) in prepares_less r (i + 1) _ (omega arith) (omega (arith, lt)))
           (λ e. prepared_less r _ (omega arith))
-      by false e = let lt = prepare_less p v e in omega (arith, lt)
+      start_prepares_less false e = let lt = prepare_less p v e in omega (arith, lt)
   start_less (starts.Release r p) v = whether_as (has_ended (take_gave p v)) (λ q. StartLess k (2 + take_more p) (start_releases r p v q))
       (λ e. omega arith)
       (λ e. let lt = take_less p v e in omega (arith, lt))
@@ -200,17 +200,17 @@ module _ (k : UnitBody) where
   -- and the first internal one takes its moves of those that are left
   internal_after : (l : Leaving) (n i : ℕ) → first_internal k.table l.served n ≡ Some i → commits_left k.table l n ≡ 1 + commit_more (commit_at k.table l i) + commits_left k.table l (3 - i)
   internal_after l zero i e = absurd (cc)
-  internal_after l (suc n) i e = by (nat_lt 3 n) (meets_at k.table (λ x. x.channel.internal) (channel_number (list_of k.table l.served.run.job) (4 - suc n))) refl e (internal_after l n i)
+  internal_after l (suc n) i e = one_place_more (nat_lt 3 n) (meets_at k.table (λ x. x.channel.internal) (channel_number (list_of k.table l.served.run.job) (4 - suc n))) refl e (internal_after l n i)
     where
-      by : (p q : Bool) → nat_lt 3 n ≡ p → (if p then None else if q then Some (4 - suc n) else first_internal k.table l.served n) ≡ Some i → (first_internal k.table l.served n ≡ Some i → commits_left k.table l n ≡ 1 + commit_more (commit_at k.table l i) + commits_left k.table l (3 - i))
+      one_place_more : (p q : Bool) → nat_lt 3 n ≡ p → (if p then None else if q then Some (4 - suc n) else first_internal k.table l.served n) ≡ Some i → (first_internal k.table l.served n ≡ Some i → commits_left k.table l n ≡ 1 + commit_more (commit_at k.table l i) + commits_left k.table l (3 - i))
           → (if q then 1 + commit_more (commit_at k.table l (4 - suc n)) else 0) + commits_left k.table l n ≡ 1 + commit_more (commit_at k.table l i) + commits_left k.table l (3 - i)
-      by true q f g rest = absurd (cc)
-      by false true f g rest =
+      one_place_more true q f g rest = absurd (cc)
+      one_place_more false true f g rest =
           let at : 4 - suc n ≡ i = cc in
           let few : n ≤ 3 = grind (arith, nat_tests) in
           let back : n ≡ 3 - (4 - suc n) = omega (arith, few) in
           subst (λ j. (1 + commit_more (commit_at k.table l (4 - suc n))) + commits_left k.table l n ≡ 1 + commit_more (commit_at k.table l j) + commits_left k.table l (3 - j)) at (ap (λ m. (1 + commit_more (commit_at k.table l (4 - suc n))) + commits_left k.table l m) back)
-      by false false f g rest = let is = rest g in omega (arith, is)
+      one_place_more false false f g rest = let is = rest g in omega (arith, is)
 
   commits_less : (l : Leaving) (n m : ℕ) → 7 + commits_left k.table l n < m → ServeLess k m (commit_last k.table l n, steps.Goes None)
   commits_less l n m lt = by (first_internal k.table l.served n) refl
@@ -272,23 +272,23 @@ module _ (k : SyncBody) where
   serving = record { table = k.table; errand = Handler; unit = k.unit; place = units.Serve serves.Shut }
 
   as_served : (n : ℕ) (p : ServePlace) → ServeLess serving n (p, steps.Goes None) → SyncLess n (sync_at k (sends.Serve p), outline.goes)
-  as_served n p lt = by p lt
+  as_served n p lt = less_owed p lt
     where
       owes : (b : Bool) (p : ServePlace) → Less n (where_owed b (Units (record serving { place = units.Serve p }))) → Less n (where_owed b (Sends (sync_at k (sends.Serve p))))
       owes true p lt = lt
       owes false p lt = tt
 
-      by : (p : ServePlace) → ServeLess serving n (p, steps.Goes None) → Less n (where_owed (sent_owes p) (Sends (sync_at k (sends.Serve p))))
-      by (serves.Let r p t) lt = lt
-      by (serves.Keep x p) lt = lt
-      by (serves.Stand p) lt = lt
-      by (serves.Free r c) lt = lt
-      by (serves.Release l i t) lt = lt
-      by (serves.KeepLast l x) lt = lt
-      by (serves.Commit l i c) lt = lt
-      by (serves.Result l) lt = lt
-      by (serves.End r x) lt = lt
-      by _ lt = tt
+      less_owed : (p : ServePlace) → ServeLess serving n (p, steps.Goes None) → Less n (where_owed (sent_owes p) (Sends (sync_at k (sends.Serve p))))
+      less_owed (serves.Let r p t) lt = lt
+      less_owed (serves.Keep x p) lt = lt
+      less_owed (serves.Stand p) lt = lt
+      less_owed (serves.Free r c) lt = lt
+      less_owed (serves.Release l i t) lt = lt
+      less_owed (serves.KeepLast l x) lt = lt
+      less_owed (serves.Commit l i c) lt = lt
+      less_owed (serves.Result l) lt = lt
+      less_owed (serves.End r x) lt = lt
+      less_owed _ lt = tt
 
   served_on : (n : ℕ) (z : ServePlace × ServeStep) → z.1 ≡ steps.Goes None → ServeLess serving n z → SyncLess n (sync_at k (sends.Serve z.0), outline.goes)
   served_on n (p, q) e lt = as_served n p (subst (λ x. ServeLess serving n (p, x)) e lt)
@@ -331,13 +331,13 @@ module _ (k : SyncBody) where
       (λ e. made_readable r (3 - i) _ (omega arith) (λ j low high. omega (arith, low, high)))
       (λ e. let lt = commit_less (commits.Put p) v e in omega (arith, lt))
   sync_less (sends.Result r) v = first_ready
-  sync_less (sends.Prepare i p) v = by (prepare_ends p v) refl
+  sync_less (sends.Prepare i p) v = sync_prepares_less (prepare_ends p v) refl
     where
-      by : (q : Bool) → prepare_ends p v ≡ q → SyncLess (4 + 2 * (3 - i) + prepare_more p) (sync_at k (sync_prepared k i p v q), outline.goes)
-      by true e = whether_as (nat_lt i 3) (λ q. SyncLess (4 + 2 * (3 - i) + prepare_more p) (sync_at k (if q then sync_prepares_at k (i + 1) else sends.Run), outline.goes))
+      sync_prepares_less : (q : Bool) → prepare_ends p v ≡ q → SyncLess (4 + 2 * (3 - i) + prepare_more p) (sync_at k (sync_prepared k i p v q), outline.goes)
+      sync_prepares_less true e = whether_as (nat_lt i 3) (λ q. SyncLess (4 + 2 * (3 - i) + prepare_more p) (sync_at k (if q then sync_prepares_at k (i + 1) else sends.Run), outline.goes))
           (λ e. let lt : i < 3 = grind (arith, nat_tests) in made_ready (i + 1) _ (omega arith) (omega (arith, lt)))
           (λ e. omega arith)
-      by false e = let lt = prepare_less p v e in omega (arith, lt)
+      sync_prepares_less false e = let lt = prepare_less p v e in omega (arith, lt)
   sync_less sends.Run v = omega arith
   sync_less sends.Stand v = omega arith
   sync_less sends.Nexts v = omega arith

@@ -1,23 +1,24 @@
 -- The basis keeps what it owes: at the start, in time, under moves elsewhere, over a reset and at rest.
--- From hardware.SourceFilled, words.ListTests, service_outline: Words, hardware.AfterReset and 5 more.
+-- From words.ListTests, hardware.SourceFilled, service_outline: Words, hardware.AfterReset and 5 more.
 -- Used by spi_driver: bookkeeping.KeepsToModule, spi_driver: bookkeeping.Lawful and 17 more.
 use Rattle.std.proofs.Common.{◌≡◌, ◌≢◌, ◌+◌, ◌-◌, ◌*◌, ◌/◌, ◌%◌, ◌^◌, ◌<◌, ◌≤◌, ◌==◌, ◌&&◌, ◌||◌, [], ◌∷◌, ◌∙◌, ◌⊎◌}
 use Rattle.std.proofs.Common.{if◌then◌else◌}
 use Rattle.spi_sequences.specs.Terms
 use Terms.{act-leaves, after_read, and_false, and_parts, ap, arith, best, Bool, Called, carries_channel, Carrying}
 use Terms.{channel_of, channels_by, channels_of, Chip, chip_after, clear_apart, ClockPll, ClockRate, Contains, due}
-use Terms.{EnableClear, EnableSet, false, Fill, fills_there, filter, first_state, FitsSpi, Going, happened, Hardware}
-use Terms.{has_bit, has_bit-or, has_bit-pow_other, has_bit-without, has_done, has_handler, has_lines, Init, inl, inr}
-use Terms.{InTransfer, is_done, is_for, is_for_lines, is_in_use, is_interrupt, is_masked, is_off, is_on_unit, is_owed}
-use Terms.{is_shared, is_some, is_sync_unit, is_used, is_word_of, IsBasis, Job, job_of, jobs_of, Level, level_leaves}
-use Terms.{line-serial, List, list_any, Load, Made, may, may_name, may_write, MayCome, Move, move_there, moved}
-use Terms.{names_there, nat_lt, nat_tests, next_at, next_by, next_job, next_on, None, not, number_of, Option, Order}
-use Terms.{outcome, owns_written, Pending, PowerOn, rate-left, Read, reads_from, ready, refl, Reg, Reservations}
-use Terms.{ResetRequest, resets_chip, Run, run_at, RunsNext, Serial, SerialAck, SerialData, SerialSelect, SerialWidth}
-use Terms.{set_apart, sets_rate, Some, Spi0, Spi1, spi_bare, spi_owns, spi_setting, SpiFault, SpiRepresents, SpiState}
-use Terms.{SpiTable, stands-event, stands-move, StandsIn, Steady, Store, stores_in, subst, suc, sym, tells_nothing}
-use Terms.{TimerLow, true, unit_at, unit_of, UnitAgrees, uses, uses_by, uses_channel, uses_unit, view, whether}
-use Terms.{whether_as, wiring-left, word-left, word_apart, word_of, World, world_after, Write, zero, ℕ}
+use Terms.{EnableClear, EnableSet, eq_is, false, Fill, fills_there, filter, first_state, FitsSpi, Going, happened}
+use Terms.{Hardware, has_bit, has_bit-or, has_bit-pow_other, has_bit-without, has_done, has_handler, has_lines, Init}
+use Terms.{inl, inr, InTransfer, is_done, is_for, is_for_lines, is_in_use, is_interrupt, is_masked, is_off}
+use Terms.{is_on_unit, is_owed, is_shared, is_some, is_sync_unit, is_used, is_word_of, IsBasis, Job, job_of, jobs_of}
+use Terms.{Level, level_leaves, line-serial, List, list_any, Load, Made, may, may_name, may_write, MayCome, Move}
+use Terms.{move_there, moved, names_there, nat_lt, nat_tests, next_at, next_by, next_job, next_on, None, not}
+use Terms.{number_of, Option, Order, outcome, owns_written, Pending, PowerOn, rate-left, Read, reads_from, ready}
+use Terms.{refl, Reg, Reservations, ResetRequest, resets_chip, Run, run_at, RunsNext, Serial, SerialAck, SerialData}
+use Terms.{SerialSelect, SerialWidth, set_apart, sets_rate, Some, Spi0, Spi1, spi_bare, spi_owns, spi_setting}
+use Terms.{SpiFault, SpiRepresents, SpiState, SpiTable, stands-event, stands-move, StandsIn, Steady, Store, stores_in}
+use Terms.{subst, suc, sym, tells_nothing, TimerLow, true, unit_at, unit_of, UnitAgrees, uses, uses_by, uses_channel}
+use Terms.{uses_unit, view, whether, whether_as, wiring-left, word-left, word_apart, word_of, World, world_after}
+use Terms.{Write, zero, ℕ}
 use Rattle.chip_model.specs.Chip.{is_pending}
 use Rattle.mcal_base.specs.declared.register.Reg.TheVariants.{SerialWait}
 use Rattle.run_model.specs.Frame.{Origin}
@@ -33,6 +34,7 @@ use Rattle.spi_sequences.specs.laws.{hardware.AfterReset.{by_two, none_in, reset
 use Rattle.spi_sequences.specs.laws.{hardware.StableUnderHardware.{done_same, fault_agrees, same_agrees}}
 use Rattle.spi_sequences.specs.laws.{words.WordsOfModule.{some_at}, words.AllSequences.{asked_unit}}
 use Rattle.spi_sequences.specs.laws.{words.WordsToState.{any_some, is_number, none_any, not_true}}
+use Rattle.spi_sequences.specs.laws.words.ListTests.{none_by}
 use Rattle.chip_units.specs.Serials as serials
 use Rattle.chip_units.specs.declared.serial.Word as chips
 use Rattle.mcal_base.specs.declared.moves.Unit as units
@@ -72,7 +74,7 @@ unused_none d fits c s none = or_from (is_in_use d c s.pending) (list_any (carri
     by_carried (Some x) = by_sequence x.entry.sequence
 
 later_agrees : (d : SpiTable) → FitsSpi d → (held : Reservations) (chip : Chip) (w : World) (s : SpiState) (order : Order) → MayCome (spi_setting d) held chip w s order → SpiRepresents d held chip w s → SpiRepresents d held (happened chip order) (world_after w chip.clock.rate order) (moved d w s order)
-later_agrees d fits held chip w s order come h = by order come (stands-event chip w order (fills_there (spi_setting d) (is_masked chip) w s come.frames order come.free) h.outside)
+later_agrees d fits held chip w s order come h = agrees_after order come (stands-event chip w order (fills_there (spi_setting d) (is_masked chip) w s come.frames order come.free) h.outside)
   where
     nor : (a b q : Bool) → a || (b || q) ≡ false → (b ≡ false) × (q ≡ false)
     nor false false q e = (refl, e)
@@ -84,11 +86,11 @@ later_agrees d fits held chip w s order come h = by order come (stands-event chi
         fill_agrees d fits held chip w s c ws come.free.1 none.0 h (spared_by d s.mode s.channels c held (come.among (reads_from (spi_setting d) c) none.1) h.right)
     fill c ws come false e = fill_agrees d fits held chip w s c ws come.free.1 (unused_none d fits c s e) h (spared_none d s.mode s.channels c held e h.right)
 
-    by : (order : Order) → MayCome (spi_setting d) held chip w s order → StandsIn (happened chip order) (world_after w chip.clock.rate order) → SpiRepresents d held (happened chip order) (world_after w chip.clock.rate order) (moved d w s order)
-    by (SpiFault u) come stands = fault_agrees d held chip w s u h
-    by (Fill c ws) come stands = fill c ws come (is_some (channel_of d c)) refl
-    by (Level p v) come stands = same_orders d fits held chip w s (Level p v) stands (level_leaves (λ c. c.serials.units) chip p v refl) (λ k. word-left k chip (Hardware (Level p v)) tt) (λ u lt. level_leaves (λ c. has_bit c.control.enabled (26 + u)) chip p v refl) h
-    by order come stands = same_orders d fits held chip w s order stands refl (λ k. refl) (λ u lt. refl) h
+    agrees_after : (order : Order) → MayCome (spi_setting d) held chip w s order → StandsIn (happened chip order) (world_after w chip.clock.rate order) → SpiRepresents d held (happened chip order) (world_after w chip.clock.rate order) (moved d w s order)
+    agrees_after (SpiFault u) come stands = fault_agrees d held chip w s u h
+    agrees_after (Fill c ws) come stands = fill c ws come (is_some (channel_of d c)) refl
+    agrees_after (Level p v) come stands = same_orders d fits held chip w s (Level p v) stands (level_leaves (λ c. c.serials.units) chip p v refl) (λ k. word-left k chip (Hardware (Level p v)) tt) (λ u lt. level_leaves (λ c. has_bit c.control.enabled (26 + u)) chip p v refl) h
+    agrees_after order come stands = same_orders d fits held chip w s order stands refl (λ k. refl) (λ u lt. refl) h
 
 -- ---- moves elsewhere
 
@@ -286,22 +288,14 @@ unit_done d x r now (Some g) h = by x.word refl h.2 ∙ sym (ap (λ o. has_done 
 module _ (d : SpiTable) (fits : FitsSpi d) (held : Reservations) (chip : Chip) (w : World) (s : SpiState) (h : SpiRepresents d held chip w s) where
   -- and it is unserved where it runs a job of an initialised module
   off_none : (u : ℕ) → is_off s.mode ≡ true → run_at s u ≡ None
-  off_none u e = none (run_at s u) ((h.sound.off e).1 u)
-    where
-      none : (r : Option Run) → not (is_some r) ≡ true → r ≡ None
-      none None i = refl
-      none (Some r) i = absurd (cc)
+  off_none u e = none_by (run_at s u) ((h.sound.off e).1 u)
 
   -- a unit that carries out sequences for calls runs no job of a pending one
   idle_sync : (u : ℕ) → is_sync_unit d u ≡ true → run_at s u ≡ None
-  idle_sync u e = none (run_at s u) (h.sound.carries.idle u e)
-    where
-      none : (r : Option Run) → not (is_some r) ≡ true → r ≡ None
-      none None i = refl
-      none (Some r) i = absurd (cc)
+  idle_sync u e = none_by (run_at s u) (h.sound.carries.idle u e)
 
   due_unit : (u line : ℕ) → u < 2 → line ≡ 26 + u → unit_of line ≡ Some u → is_pending chip line ≡ due w s line
-  due_unit u line lt at is = wired ∙ by (is_sync_unit d u) refl ∙ sym (ap (λ o. (not (is_off s.mode) && has_done w.now (run_of s o)) && is_interrupt s.mode) is)
+  due_unit u line lt at is = wired ∙ pending_as_due (is_sync_unit d u) refl ∙ sym (ap (λ o. (not (is_off s.mode) && has_done w.now (run_of s o)) && is_interrupt s.mode) is)
     where
       back : line - 26 ≡ u
       back = omega (arith, at)
@@ -328,10 +322,10 @@ module _ (d : SpiTable) (fits : FitsSpi d) (held : Reservations) (chip : Chip) (
       no_run true b = refl
       no_run false b = refl
 
-      by : (q : Bool) → is_sync_unit d u ≡ q → serials.is_done (unit_at chip.serials u) chip.serials.time && (is_interrupt s.mode && not (is_sync_unit d u)) ≡ (not (is_off s.mode) && has_done w.now (run_at s u)) && is_interrupt s.mode
-      by true e = ap (λ q. serials.is_done (unit_at chip.serials u) chip.serials.time && (is_interrupt s.mode && not q)) e ∙ never (serials.is_done (unit_at chip.serials u) chip.serials.time) (is_interrupt s.mode)
+      pending_as_due : (q : Bool) → is_sync_unit d u ≡ q → serials.is_done (unit_at chip.serials u) chip.serials.time && (is_interrupt s.mode && not (is_sync_unit d u)) ≡ (not (is_off s.mode) && has_done w.now (run_at s u)) && is_interrupt s.mode
+      pending_as_due true e = ap (λ q. serials.is_done (unit_at chip.serials u) chip.serials.time && (is_interrupt s.mode && not q)) e ∙ never (serials.is_done (unit_at chip.serials u) chip.serials.time) (is_interrupt s.mode)
           ∙ sym (ap (λ r. (not (is_off s.mode) && has_done w.now r) && is_interrupt s.mode) (idle_sync u e) ∙ no_run (not (is_off s.mode)) (is_interrupt s.mode))
-      by false e = ap (λ q. serials.is_done (unit_at chip.serials u) chip.serials.time && (is_interrupt s.mode && not q)) e
+      pending_as_due false e = ap (λ q. serials.is_done (unit_at chip.serials u) chip.serials.time && (is_interrupt s.mode && not q)) e
           ∙ ap (λ q. q && (is_interrupt s.mode && true)) (unit_done d (unit_at chip.serials u) (run_at s u) chip.serials.time (h.going u) (h.units u lt e) ∙ ap (λ t. has_done t (run_at s u)) time)
           ∙ ap (λ q. has_done w.now (run_at s u) && q) (and_true (is_interrupt s.mode))
           ∙ ap (λ q. q && is_interrupt s.mode) on
@@ -339,12 +333,9 @@ module _ (d : SpiTable) (fits : FitsSpi d) (held : Reservations) (chip : Chip) (
   pub due_line : (line : ℕ) → (line == 26 || line == 27) ≡ true → is_pending chip line ≡ due w s line
   due_line line e = by (line == 26) refl e
     where
-      equal : (n : ℕ) → (line == n) ≡ true → line ≡ n
-      equal n e = grind (arith, nat_tests)
-
       by : (q : Bool) → (line == 26) ≡ q → q || line == 27 ≡ true → is_pending chip line ≡ due w s line
-      by true i f = due_unit 0 line (omega arith) (equal 26 i) (ap unit_of (equal 26 i))
-      by false i f = due_unit 1 line (omega arith) (equal 27 f) (ap unit_of (equal 27 f))
+      by true i f = due_unit 0 line (omega arith) (eq_is line 26 i) (ap unit_of (eq_is line 26 i))
+      by false i f = due_unit 1 line (omega arith) (eq_is line 27 f) (ap unit_of (eq_is line 27 f))
 
   -- a handler serves a unit that runs a job
   runs_used : (u : ℕ) → u < 2 → is_some (run_at s u) ≡ true → has_handler d u ≡ true
@@ -393,13 +384,13 @@ module _ (d : SpiTable) (fits : FitsSpi d) (held : Reservations) (chip : Chip) (
   -- ---- starts
 
   none_for : (u : ℕ) → ((p : Pending) → Contains s.pending p → is_for d u p ≡ true → ⊥) → next_on d u s.pending ≡ None
-  none_for u none = ap (λ ps. best d ps) (by s.pending none)
+  none_for u none = ap (λ ps. best d ps) (none_filtered s.pending none)
     where
-      by : (ps : List Pending) → ((p : Pending) → Contains ps p → is_for d u p ≡ true → ⊥) → filter (is_for d u) ps ≡ []
-      by [] none = refl
-      by (p ∷ ps) none = whether (is_for d u p)
+      none_filtered : (ps : List Pending) → ((p : Pending) → Contains ps p → is_for d u p ≡ true → ⊥) → filter (is_for d u) ps ≡ []
+      none_filtered [] none = refl
+      none_filtered (p ∷ ps) none = whether (is_for d u p)
           (λ e. absurd (none p (0, omega arith, refl) e))
-          (λ e. ap (λ b. if b then p ∷ filter (is_for d u) ps else filter (is_for d u) ps) e ∙ (by ps (λ x there. none x (suc there.0, let lt = there.1 in omega (arith, lt), there.2))))
+          (λ e. ap (λ b. if b then p ∷ filter (is_for d u) ps else filter (is_for d u) ps) e ∙ (none_filtered ps (λ x there. none x (suc there.0, let lt = there.1 in omega (arith, lt), there.2))))
 
 used_line : (d : SpiTable) (line : ℕ) → is_used d line ≡ true → (line == 26 || line == 27) ≡ true
 used_line d line e = by (line == 26) (line == 27) refl refl

@@ -9,12 +9,12 @@ use Terms.{entries_begun, entries_of, Entry, false, filter, FitsSpi, get_or-drop
 use Terms.{has_mark, inl, inr, is_for, is_left, is_of, is_off, is_pending, is_sync_sequence, is_sync_unit, is_there}
 use Terms.{IsLast, IsOfSequence, IsOnce, IsSoundState, item-other, item-same, job_code, job_result, job_word, jobs_by}
 use Terms.{jobs_of, length, length-drop, List, list_any, map, MARKS, Memory, next_in, NEXTS, None, not, Option}
-use Terms.{order_word, Pending, refl, repeats, repeats-drop, results-other, results-own, same_or_other, sequence_code}
-use Terms.{sequence_of, sequence_result, sequence_word, SequencesAgree, shares_job, slice_get, slice_index_or, Some}
-use Terms.{some_is, some_or_none, SpiJobOk, SpiJobPending, SpiJobQueued, SpiSeqOk, SpiSeqPending, SpiTable}
-use Terms.{started_bit, subst, suc, sym, true, unit_of_sequence, View, whether, whether_as, with_item, without, zero}
-use Terms.{ℕ}
-use Rattle.spi_sequences.specs.laws.{words.SameWords.{job_small}, words.ListTests.{any_in}}
+use Terms.{or_right, order_word, Pending, refl, repeats, repeats-drop, results-other, results-own, same_or_other}
+use Terms.{sequence_code, sequence_of, sequence_result, sequence_word, SequencesAgree, shares_job, slice_get}
+use Terms.{slice_index_or, Some, some_is, some_or_none, SpiJobOk, SpiJobPending, SpiJobQueued, SpiSeqOk}
+use Terms.{SpiSeqPending, SpiTable, started_bit, subst, suc, sym, true, unit_of_sequence, View, whether, whether_as}
+use Terms.{with_item, without, zero, ℕ}
+use Rattle.spi_sequences.specs.laws.{words.SameWords.{job_small}, words.ListTests.{any_in, nothing_in}}
 use Rattle.spi_sequences.specs.laws.words.AllSequences.{all_carried, all_cases, all_pending, aside_pending, one_of_all}
 use Rattle.spi_sequences.specs.laws.{words.JobPlaces.{LeftAt, at_left, left_at}, words.WordsToState.{any_none}}
 use Rattle.spi_sequences.specs.laws.{words.WordsToState.{any_some, at_contained, is_number}}
@@ -44,13 +44,13 @@ module _ {A : Type 0} (t : A → Bool) where
   -- those that are kept stand in their order
   pub kept_order : (xs : List A) (i j : ℕ) (x y : A) → i < j → slice_get (filter t xs) i ≡ Some x → slice_get (filter t xs) j ≡ Some y → (a : ℕ) × (b : ℕ) × (a < b) × (slice_get xs a ≡ Some x) × (slice_get xs b ≡ Some y)
   kept_order [] i j x y lt e f = absurd (cc)
-  kept_order (z ∷ zs) i j x y lt e f = by (t z) refl (λ a b. kept_order zs a b x y) i j lt e f
+  kept_order (z ∷ zs) i j x y lt e f = order_with_first (t z) refl (λ a b. kept_order zs a b x y) i j lt e f
     where
-      by : (q : Bool) → t z ≡ q → ((i j : ℕ) → i < j → slice_get (filter t zs) i ≡ Some x → slice_get (filter t zs) j ≡ Some y → (a : ℕ) × (b : ℕ) × (a < b) × (slice_get zs a ≡ Some x) × (slice_get zs b ≡ Some y)) → (i j : ℕ) → i < j → slice_get (if q then z ∷ filter t zs else filter t zs) i ≡ Some x → slice_get (if q then z ∷ filter t zs else filter t zs) j ≡ Some y → (a : ℕ) × (b : ℕ) × (a < b) × (slice_get (z ∷ zs) a ≡ Some x) × (slice_get (z ∷ zs) b ≡ Some y)
-      by true g rest zero (suc j) lt e f = let r = kept_one zs j y f in (0, suc r.0, omega arith, e, r.1)
-      by true g rest (suc i) (suc j) lt e f = let r = rest i j (omega (arith, lt)) e f in (suc r.0, suc r.1, let less = r.2 in omega (arith, less), r.3, r.4)
-      by false g rest i j lt e f = let r = rest i j lt e f in (suc r.0, suc r.1, let less = r.2 in omega (arith, less), r.3, r.4)
-      by _ g rest _ _ lt e f = absurd (omega (arith, lt))
+      order_with_first : (q : Bool) → t z ≡ q → ((i j : ℕ) → i < j → slice_get (filter t zs) i ≡ Some x → slice_get (filter t zs) j ≡ Some y → (a : ℕ) × (b : ℕ) × (a < b) × (slice_get zs a ≡ Some x) × (slice_get zs b ≡ Some y)) → (i j : ℕ) → i < j → slice_get (if q then z ∷ filter t zs else filter t zs) i ≡ Some x → slice_get (if q then z ∷ filter t zs else filter t zs) j ≡ Some y → (a : ℕ) × (b : ℕ) × (a < b) × (slice_get (z ∷ zs) a ≡ Some x) × (slice_get (z ∷ zs) b ≡ Some y)
+      order_with_first true g rest zero (suc j) lt e f = let r = kept_one zs j y f in (0, suc r.0, omega arith, e, r.1)
+      order_with_first true g rest (suc i) (suc j) lt e f = let r = rest i j (omega (arith, lt)) e f in (suc r.0, suc r.1, let less = r.2 in omega (arith, less), r.3, r.4)
+      order_with_first false g rest i j lt e f = let r = rest i j lt e f in (suc r.0, suc r.1, let less = r.2 in omega (arith, less), r.3, r.4)
+      order_with_first _ g rest _ _ lt e f = absurd (omega (arith, lt))
 
   pub filter_back : (xs : List A) (y : A) → Contains (filter t xs) y → Contains xs y × (t y ≡ true)
   filter_back xs y (k, lt, e) = let r = kept_one xs k y (at_contained (filter t xs) k y lt e) in (get_contained xs r.0 y r.1, r.2)
@@ -98,29 +98,29 @@ module _ (d : SpiTable) (u q : ℕ) (running running1 : ℕ → Bool) (others : 
   -- where it isn't there the entries stay
   pub stay : (ps : List Pending) → is_there q (map was (filter (is_for d u) ps)) ≡ false → map is (filter (is_for d u) (without q ps)) ≡ map was (filter (is_for d u) ps)
   stay [] e = refl
-  stay (p ∷ ps) e = by (is_of q p) refl (is_for d u p) refl e (stay ps)
+  stay (p ∷ ps) e = stay_with_first (is_of q p) refl (is_for d u p) refl e (stay ps)
     where
-      by : (a : Bool) → is_of q p ≡ a → (b : Bool) → is_for d u p ≡ b → is_there q (map was (if b then p ∷ filter (is_for d u) ps else filter (is_for d u) ps)) ≡ false
+      stay_with_first : (a : Bool) → is_of q p ≡ a → (b : Bool) → is_for d u p ≡ b → is_there q (map was (if b then p ∷ filter (is_for d u) ps else filter (is_for d u) ps)) ≡ false
           → (is_there q (map was (filter (is_for d u) ps)) ≡ false → map is (filter (is_for d u) (without q ps)) ≡ map was (filter (is_for d u) ps))
           → map is (filter (is_for d u) (if not a then p ∷ without q ps else without q ps)) ≡ map was (if b then p ∷ filter (is_for d u) ps else filter (is_for d u) ps)
-      by true f true g e rest = absurd (let h = sym e ∙ ap (λ b. b || is_there q (map was (filter (is_for d u) ps))) f in cc)
-      by true f false g e rest = rest e
-      by false f true g e rest = ap (λ b. map is (if b then p ∷ filter (is_for d u) (without q ps) else filter (is_for d u) (without q ps))) g ∙ ap (λ x. x ∷ map is (filter (is_for d u) (without q ps))) (other_entry p f) ∙ ap (λ xs. was p ∷ xs) (rest (ap (λ b. b || is_there q (map was (filter (is_for d u) ps))) (sym f) ∙ e))
-      by false f false g e rest = ap (λ b. map is (if b then p ∷ filter (is_for d u) (without q ps) else filter (is_for d u) (without q ps))) g ∙ rest e
+      stay_with_first true f true g e rest = absurd (let h = sym e ∙ ap (λ b. b || is_there q (map was (filter (is_for d u) ps))) f in cc)
+      stay_with_first true f false g e rest = rest e
+      stay_with_first false f true g e rest = ap (λ b. map is (if b then p ∷ filter (is_for d u) (without q ps) else filter (is_for d u) (without q ps))) g ∙ ap (λ x. x ∷ map is (filter (is_for d u) (without q ps))) (other_entry p f) ∙ ap (λ xs. was p ∷ xs) (rest (ap (λ b. b || is_there q (map was (filter (is_for d u) ps))) (sym f) ∙ e))
+      stay_with_first false f false g e rest = ap (λ b. map is (if b then p ∷ filter (is_for d u) (without q ps) else filter (is_for d u) (without q ps))) g ∙ rest e
 
   -- else its entry is taken out
   pub left_order : (ps : List Pending) → IsOnce (map was (filter (is_for d u) ps)) → map is (filter (is_for d u) (without q ps)) ≡ order.without q (map was (filter (is_for d u) ps))
   left_order [] once = refl
-  left_order (p ∷ ps) once = by (is_of q p) refl (is_for d u p) refl once (left_order ps)
+  left_order (p ∷ ps) once = left_with_first (is_of q p) refl (is_for d u p) refl once (left_order ps)
     where
-      by : (a : Bool) → is_of q p ≡ a → (b : Bool) → is_for d u p ≡ b → IsOnce (map was (if b then p ∷ filter (is_for d u) ps else filter (is_for d u) ps))
+      left_with_first : (a : Bool) → is_of q p ≡ a → (b : Bool) → is_for d u p ≡ b → IsOnce (map was (if b then p ∷ filter (is_for d u) ps else filter (is_for d u) ps))
           → (IsOnce (map was (filter (is_for d u) ps)) → map is (filter (is_for d u) (without q ps)) ≡ order.without q (map was (filter (is_for d u) ps)))
           → map is (filter (is_for d u) (if not a then p ∷ without q ps else without q ps)) ≡ order.without q (map was (if b then p ∷ filter (is_for d u) ps else filter (is_for d u) ps))
-      by true f true g o rest = stay ps (ap (λ n. is_there n (map was (filter (is_for d u) ps))) (sym (is_number p.sequence q f)) ∙ o.0) ∙ sym (ap (λ b. if b then map was (filter (is_for d u) ps) else was p ∷ order.without q (map was (filter (is_for d u) ps))) f)
-      by true f false g o rest = rest o
-      by false f true g o rest = ap (λ b. map is (if b then p ∷ filter (is_for d u) (without q ps) else filter (is_for d u) (without q ps))) g ∙ ap (λ x. x ∷ map is (filter (is_for d u) (without q ps))) (other_entry p f) ∙ ap (λ xs. was p ∷ xs) (rest o.1)
+      left_with_first true f true g o rest = stay ps (ap (λ n. is_there n (map was (filter (is_for d u) ps))) (sym (is_number p.sequence q f)) ∙ o.0) ∙ sym (ap (λ b. if b then map was (filter (is_for d u) ps) else was p ∷ order.without q (map was (filter (is_for d u) ps))) f)
+      left_with_first true f false g o rest = rest o
+      left_with_first false f true g o rest = ap (λ b. map is (if b then p ∷ filter (is_for d u) (without q ps) else filter (is_for d u) (without q ps))) g ∙ ap (λ x. x ∷ map is (filter (is_for d u) (without q ps))) (other_entry p f) ∙ ap (λ xs. was p ∷ xs) (rest o.1)
           ∙ sym (ap (λ b. if b then map was (filter (is_for d u) ps) else was p ∷ order.without q (map was (filter (is_for d u) ps))) f)
-      by false f false g o rest = ap (λ b. map is (if b then p ∷ filter (is_for d u) (without q ps) else filter (is_for d u) (without q ps))) g ∙ rest o
+      left_with_first false f false g o rest = ap (λ b. map is (if b then p ∷ filter (is_for d u) (without q ps) else filter (is_for d u) (without q ps))) g ∙ rest o
 
 -- an entry that is there is that of a pending sequence for the unit, and the other way round
 pub there_back : (running : ℕ → Bool) (n : ℕ) (ps : List Pending) → is_there n (map (λ p. record { number = p.sequence; waits = not (running p.sequence) }) ps) ≡ true → (x : Pending) × Contains ps x × (x.sequence ≡ n)
@@ -132,11 +132,7 @@ there_back running n (p ∷ ps) e = whether (is_of n p)
 pub there_by : (running : ℕ → Bool) (ps : List Pending) (x : Pending) → Contains ps x → is_there x.sequence (map (λ p. record { number = p.sequence; waits = not (running p.sequence) }) ps) ≡ true
 there_by running [] x (k, lt, e) = absurd (omega (arith, lt))
 there_by running (p ∷ ps) x (zero, lt, e) = ap (λ b. b || is_there x.sequence (map (λ p. record { number = p.sequence; waits = not (running p.sequence) }) ps)) (ap (λ z. z.sequence == x.sequence) e ∙ same_number x.sequence)
-there_by running (p ∷ ps) x (suc k, lt, e) = or_true (p.sequence == x.sequence) (there_by running ps x (k, omega (arith, lt), e))
-  where
-    or_true : (a : Bool) {b : Bool} → b ≡ true → a || b ≡ true
-    or_true true f = refl
-    or_true false f = f
+there_by running (p ∷ ps) x (suc k, lt, e) = or_right (p.sequence == x.sequence) _ (there_by running ps x (k, omega (arith, lt), e))
 
 -- ---- the state
 
@@ -236,12 +232,10 @@ module _ (d : SpiTable) (fits : FitsSpi d) (v : View) (h : IsSoundState d v) (p 
 
   -- a job of another pending sequence is none of them
   not_left : (x : Pending) (j : ℕ) → Contains (all_of v) x → x.sequence ≢ p.sequence → Contains (jobs_of d x.sequence) j → is_left d j p ≡ false
-  not_left x j also ne has = not_true (is_left d j p) (λ e. shared (at_left jobs p.next j e))
-    where
-      shared : LeftAt jobs p.next j → ⊥
-      shared l =
-          let own : Contains jobs j = (l.place, l.within, get_or_default jobs l.place j 0 l.within ∙ l.is) in
-          ne (ap (λ z. z.sequence) (one_of_all d fits v h x p also there (pair x.sequence p.sequence j has own) (pair p.sequence x.sequence j own has)))
+  not_left x j also ne has = not_true (is_left d j p) (λ e.
+      let l : LeftAt jobs p.next j = at_left jobs p.next j e in
+      let own : Contains jobs j = (l.place, l.within, get_or_default jobs l.place j 0 l.within ∙ l.is) in
+      ne (ap (λ z. z.sequence) (one_of_all d fits v h x p also there (pair x.sequence p.sequence j has own) (pair p.sequence x.sequence j own has))))
 
   left_rest : (j : ℕ) → rest j ≡ true → is_left d j p ≡ true
   left_rest j e = let l = at_left jobs from j e in left_at jobs p.next l.place j l.within (let le = l.from in omega (arith, le, from_next)) l.is
@@ -294,7 +288,7 @@ module _ (d : SpiTable) (fits : FitsSpi d) (v : View) (h : IsSoundState d v) (p 
         off = λ e u. none_begun (begun u) (λ x i. let f = sym (leaves.carried u x i).0 ∙ h.carries.off e u in cc);
       };
       few = few;
-      off = λ e. (none_pending ps (λ x is. none_in x (subst (λ xs. Contains xs x) (h.off e).0 (leaves.kept x is).0)), off e);
+      off = λ e. (nothing_in ps (λ x is. none_in x (subst (λ xs. Contains xs x) (h.off e).0 (leaves.kept x is).0)), off e);
     }
       where
         none_begun : (o : Option Pending) → ((x : Pending) → o ≡ Some x → ⊥) → o ≡ None
@@ -303,10 +297,6 @@ module _ (d : SpiTable) (fits : FitsSpi d) (v : View) (h : IsSoundState d v) (p 
 
         none_in : (x : Pending) → Contains [] x → ⊥
         none_in x (k, lt, e) = omega (arith, lt)
-
-        none_pending : (xs : List Pending) → ((x : Pending) → Contains xs x → ⊥) → xs ≡ []
-        none_pending [] never = refl
-        none_pending (x ∷ xs) never = absurd (never x (0, omega arith, refl))
 
         gone : is_pending p.sequence (all_of ended_view) ≡ false
         gone = none_any (is_of p.sequence) (all_of ended_view) (λ x is. other_number x.sequence p.sequence (kept x is).1)

@@ -180,18 +180,18 @@ module _ (d : SpiTable) (fits : FitsSpi d) (held : Reservations) (chip : Chip) (
 
   -- the array that is filled
   own_source : (i : ℕ) → i < length_by (channel_of d c) → word_of after (place_of (Source c) i) ≡ word_at (filled ws (channel_of d c) (channel_at s c)).source i
-  own_source i small = by (nat_lt i (length ws)) refl
+  own_source i small = filled_word (nat_lt i (length ws)) refl
     where
       places : place_of (Source c) i ≡ place_of (Source c) 0 + i
       places = omega arith
 
-      by : (q : Bool) → nat_lt i (length ws) ≡ q → word_of after (place_of (Source c) i) ≡ word_at (take (length_by (channel_of d c)) (ws ++ drop (length ws) (channel_at s c).source)) i
-      by true e =
+      filled_word : (q : Bool) → nat_lt i (length ws) ≡ q → word_of after (place_of (Source c) i) ≡ word_at (take (length_by (channel_of d c)) (ws ++ drop (length ws) (channel_at s c).source)) i
+      filled_word true e =
           let wired = h.wired c lt in
           let below : i < length ws = grind (arith, nat_tests) in
           ap (λ n. word_of after n) places ∙ over_inside chip.words given (place_of (Source c) 0) room i (omega (arith, length-take (source_length chip c) ws, below, small, wired))
           ∙ get_or-take (source_length chip c) ws i 0 (omega (arith, small, wired)) ∙ sym (array_filled (length_by (channel_of d c)) ws (channel_at s c).source i small true e)
-      by false e =
+      filled_word false e =
           let wired = h.wired c lt in
           let above : length ws ≤ i = grind (arith, nat_tests) in
           ap (λ n. word_of after n) places ∙ over_after chip.words given (place_of (Source c) 0) room i (omega (arith, length-take (source_length chip c) ws, above))

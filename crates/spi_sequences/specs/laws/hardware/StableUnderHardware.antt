@@ -1,18 +1,18 @@
 -- The agreement stays while nothing of the module's changes, and as the hardware moves.
 -- From words.WordsOfModule, words.SendsKept, words.Cases, words.SameWords.
--- Used by services.QueryRight, spi_driver: bookkeeping.UnpolledFrames, bookkeeping.RefinementRight and 17 more.
+-- Used by services.QueryRight, spi_driver: bookkeeping.UnpolledFrames, bookkeeping.RefinementRight and 23 more.
 use Rattle.std.proofs.Common.{◌≡◌, ◌≢◌, ◌+◌, ◌-◌, ◌<◌, ◌≤◌, ◌||◌, [], ◌∷◌, ◌++◌, ◌∙◌, ◌⊎◌, if◌then◌else◌}
 use Rattle.spi_sequences.specs.Terms
 use Terms.{all_of, ap, AreCarried, arith, Bool, carried_at, CarriesAgrees, Carrying, cases, Channel, channel_of, Chip}
 use Terms.{Destination, entries_begun, entry_carried, false, faulted, faulted_carrying, faulted_run, Fill, FitsSpi}
-use Terms.{get_or-set_other, get_or-set_same, Going, happened, has_bit, held_word, HoldsArrays, idle, inl, inr}
-use Terms.{InTransfer, is_done, is_done_at, is_running, is_some, is_sync_unit, is_word_of, IsSoundState, item-other}
-use Terms.{item-same, KnowsEnd, length, length-set, length_by, List, list_any, moved, nat_le, nat_tests, None, not}
-use Terms.{Option, Order, Part, place_of, placed_of, refl, Reservations, Run, run_at, run_carried, runs_sequence}
-use Terms.{RunsNext, same_or_other, Serial, slice_get, slice_index, slice_index_or, Some, Source, source_word}
-use Terms.{SpiFault, SpiRepresents, SpiState, SpiTable, stands-event, StandsIn, subst, suc, sym, Transfer, true}
-use Terms.{unit_at, UnitAgrees, view, with_carried, with_item, with_run, word_of, WordAgrees, WordsAgree, World, zero}
-use Terms.{ℕ}
+use Terms.{get_or-set_other, get_or-set_same, Going, happened, Hardware, has_bit, held_word, HoldsArrays, idle, inl}
+use Terms.{inr, InTransfer, is_done, is_done_at, is_fill, is_running, is_some, is_sync_unit, is_word_of, IsSoundState}
+use Terms.{item-other, item-same, KnowsEnd, length, length-set, length_by, List, list_any, moved, nat_le, nat_tests}
+use Terms.{None, not, Option, Order, Part, place_of, placed_of, refl, Reservations, Run, run_at, run_carried}
+use Terms.{runs_sequence, RunsNext, same_or_other, Serial, slice_get, slice_index, slice_index_or, slice_set, Some}
+use Terms.{Source, source_word, SpiFault, SpiRepresents, SpiState, SpiTable, stands-event, StandsIn, subst, suc, sym}
+use Terms.{Transfer, true, unit_at, UnitAgrees, view, with_carried, with_item, with_run, word-left, word_of}
+use Terms.{WordAgrees, WordsAgree, World, zero, ℕ}
 use Rattle.spi_sequences.specs.laws.words.SameWords.{words_alike}
 use Rattle.spi_sequences.specs.laws.words.SendsKept.{end_later, sends_as}
 use Rattle.spi_sequences.specs.laws.words.WordsOfModule.{word_of_own, own_held, own_set_up, source_own, destination_own}
@@ -51,6 +51,15 @@ same_agrees d fits held chip chip1 w w1 s later outside wiring units words enabl
   where
     sources : (u : ℕ) (g : Going) (n : ℕ) (x : Part) (k : Channel) (i : ℕ) → u < 2 → h.going u ≡ Some g → slice_get g.parts n ≡ Some x → channel_of d x.channel ≡ Some k → i < length_by (channel_of d x.channel) → word_of chip1 (source_word (placed_of d x.channel) i) ≡ word_of chip (source_word (placed_of d x.channel) i)
     sources u g n x k i lt is e there few = words _ (source_own d fits x.channel i few)
+
+-- what is so of the unit that was set, and of the others, is so of each
+pub set_unit : (P : ℕ → Serial → Type 0) (xs : List Serial) (u : ℕ) (x : Serial) → length xs ≡ 2 → (u < 2 → P u x) → ((n : ℕ) → n < 2 → n ≢ u → P n (slice_index_or xs n idle)) → (n : ℕ) → n < 2 → P n (slice_index_or (slice_set xs u x) n idle)
+set_unit P xs u x size here other n few = cases (same_or_other n u)
+    (λ e. subst (λ k. P k (slice_index_or (slice_set xs u x) k idle)) (sym e) (own (subst (λ k. k < 2) e few)))
+    (λ ne. subst (P n) (sym (get_or-set_other xs u n x idle ne)) (other n few ne))
+  where
+    own : u < 2 → P u (slice_index_or (slice_set xs u x) u idle)
+    own lt = subst (P u) (sym (get_or-set_same xs u x idle (subst (λ k. u < k) (sym size) lt))) (here lt)
 
 -- ---- a fault
 
@@ -120,15 +129,15 @@ done_same w t now e = subst (λ b. nat_le 8 (now - b) ≡ nat_le (t.began + 8) n
     by a b = grind (arith, nat_tests)
 
 fails_alike : (d : SpiTable) (x : Serial) (t : Transfer) (now : ℕ) → InTransfer x.word t → InTransfer (serials.faulted now x).word (faulted now t)
-fails_alike d x t now h = by x.word refl h
+fails_alike d x t now h = word_fails_alike x.word refl h
   where
     both : (w : chips.Word) → WordAgrees w t → (q : Bool) → InTransfer (if not q then record x { word = Some (record w { failed = true }) } else record x { word = Some w }).word (if q then t else record t { failed = true })
     both w a true = a
     both w a false = record { start = a.start; incoming = λ e. absurd (cc); failed = refl }
 
-    by : (o : Option chips.Word) → x.word ≡ o → InTransfer o t → InTransfer (serials.faulted now x).word (faulted now t)
-    by None e a = absurd a
-    by (Some w) e a =
+    word_fails_alike : (o : Option chips.Word) → x.word ≡ o → InTransfer o t → InTransfer (serials.faulted now x).word (faulted now t)
+    word_fails_alike None e a = absurd a
+    word_fails_alike (Some w) e a =
         let same = done_same w t now a.start in
         subst (λ o. InTransfer (if serials.in_transfer o now then record x { word = serials.failing o } else record x { word = o }).word (faulted now t)) (sym e)
         (subst (λ q. InTransfer (if not q then record x { word = Some (record w { failed = true }) } else record x { word = Some w }).word (faulted now t)) (sym same) (both w a (is_done now t)))
@@ -165,9 +174,15 @@ fault_agrees d held chip w s u h = record {
   sound = subst (λ v. IsSoundState d v) (sym same) h.sound;
   going = h.going;
   nexts = λ n lt. subst (λ v. RunsNext d v n (h.going n)) (sym same) (h.nexts n lt);
-  units = λ n lt async. unit_by n lt async (same_or_other n u);
-  sends = λ n lt sync. carried_by n lt sync (same_or_other n u);
-  sending = sends_as d chip (happened chip (SpiFault u)) w w h.going h.going s (moved d w s (SpiFault u)) (λ n g lt sync is. refl) (λ n g lt sync is. select_by n lt (same_or_other n u)) (λ n g i x k lt sync is there known. refl) (λ n o knows. end_by n o (same_or_other n u) knows) held h.sending;
+  units = set_unit (λ n x. is_sync_unit d n ≡ false → UnitAgrees d x (run_at (moved d w s (SpiFault u)) n) (h.going n)) chip.serials.units u new h.size
+      (λ lt async. subst (λ r. UnitAgrees d new r (h.going u)) (sym (item-same None s.units u (faulted_run w.now (run_at s u))))
+      (subst (λ t. UnitAgrees d (serials.faulted t (unit_at chip.serials u)) (faulted_run w.now (run_at s u)) (h.going u)) (sym time) (fault_unit d (unit_at chip.serials u) (run_at s u) w.now (h.going u) (h.units u lt async))))
+      (λ n lt ne async. subst (λ r. UnitAgrees d (unit_at chip.serials n) r (h.going n)) (sym (item-other None s.units u n (faulted_run w.now (run_at s u)) ne)) (h.units n lt async));
+  sends = set_unit (λ n x. is_sync_unit d n ≡ true → CarriesAgrees d x (run_carried (carried_at (moved d w s (SpiFault u)) n)) (h.going n)) chip.serials.units u new h.size
+      (λ lt sync. subst (λ r. CarriesAgrees d new r (h.going u)) (sym (carried_run w.now s u))
+      (subst (λ t. CarriesAgrees d (serials.faulted t (unit_at chip.serials u)) (faulted_run w.now (run_carried (carried_at s u))) (h.going u)) (sym time) (fault_carried d (unit_at chip.serials u) (run_carried (carried_at s u)) w.now (h.going u) (h.sends u lt sync))))
+      (λ n lt ne sync. subst (λ o. CarriesAgrees d (unit_at chip.serials n) (run_carried o) (h.going n)) (sym (item-other None s.carried u n (faulted_carrying w.now (carried_at s u)) ne)) (h.sends n lt sync));
+  sending = sends_as d chip (happened chip (SpiFault u)) w w h.going h.going s (moved d w s (SpiFault u)) (λ n g lt sync is. refl) (λ n g lt sync is. select_by n lt) (λ n g i x k lt sync is there known. refl) (λ n o knows. end_by n o (same_or_other n u) knows) held h.sending;
   carriers = subst (λ v. AreCarried v held) (sym same) h.carriers;
   words = subst (λ v. WordsAgree d held h.going (word_of chip) v) (sym same) h.words;
   set_ups = h.set_ups;
@@ -183,38 +198,25 @@ fault_agrees d held chip w s u h = record {
     time : chip.serials.time ≡ w.now
     time = h.outside.together.serials ∙ h.outside.now
 
-    unit_by : (n : ℕ) → n < 2 → is_sync_unit d n ≡ false → (n ≡ u) ⊎ (n ≢ u) → UnitAgrees d (unit_at (serials.after_fault chip.serials u) n) (run_at (moved d w s (SpiFault u)) n) (h.going n)
-    unit_by n lt async (inl e) =
-        subst (λ k. UnitAgrees d (unit_at (serials.after_fault chip.serials k) n) (run_at (moved d w s (SpiFault k)) n) (h.going n)) e
-        (subst (λ x. UnitAgrees d x (run_at (moved d w s (SpiFault n)) n) (h.going n)) (sym (get_or-set_same chip.serials.units n _ idle (subst (λ k. n < k) (sym h.size) lt)))
-        (subst (λ r. UnitAgrees d (serials.faulted chip.serials.time (unit_at chip.serials n)) r (h.going n)) (sym (item-same None s.units n (faulted_run w.now (run_at s n))))
-        (subst (λ t. UnitAgrees d (serials.faulted t (unit_at chip.serials n)) (faulted_run w.now (run_at s n)) (h.going n)) (sym time) (fault_unit d (unit_at chip.serials n) (run_at s n) w.now (h.going n) (h.units n lt async)))))
-    unit_by n lt async (inr ne) =
-        subst (λ x. UnitAgrees d x (run_at (moved d w s (SpiFault u)) n) (h.going n)) (sym (get_or-set_other chip.serials.units u n _ idle ne))
-        (subst (λ r. UnitAgrees d (unit_at chip.serials n) r (h.going n)) (sym (item-other None s.units u n (faulted_run w.now (run_at s u)) ne)) (h.units n lt async))
+    new : Serial
+    new = serials.faulted chip.serials.time (unit_at chip.serials u)
 
-    unit_after : (n : ℕ) → n < 2 → n ≡ u → unit_at (serials.after_fault chip.serials u) n ≡ serials.faulted w.now (unit_at chip.serials n)
-    unit_after n lt e = subst (λ k. unit_at (serials.after_fault chip.serials k) n ≡ serials.faulted w.now (unit_at chip.serials n)) e
-        (get_or-set_same chip.serials.units n (serials.faulted chip.serials.time (unit_at chip.serials n)) idle (subst (λ k. n < k) (sym h.size) lt) ∙ ap (λ t. serials.faulted t (unit_at chip.serials n)) time)
-
-    carried_by : (n : ℕ) → n < 2 → is_sync_unit d n ≡ true → (n ≡ u) ⊎ (n ≢ u) → CarriesAgrees d (unit_at (serials.after_fault chip.serials u) n) (run_carried (carried_at (moved d w s (SpiFault u)) n)) (h.going n)
-    carried_by n lt sync (inl e) =
-        subst (λ x. CarriesAgrees d x (run_carried (carried_at (moved d w s (SpiFault u)) n)) (h.going n)) (sym (unit_after n lt e))
-        (subst (λ k. CarriesAgrees d (serials.faulted w.now (unit_at chip.serials n)) (run_carried (carried_at (moved d w s (SpiFault k)) n)) (h.going n)) e
-        (subst (λ r. CarriesAgrees d (serials.faulted w.now (unit_at chip.serials n)) r (h.going n)) (sym (carried_run w.now s n)) (fault_carried d (unit_at chip.serials n) (run_carried (carried_at s n)) w.now (h.going n) (h.sends n lt sync))))
-    carried_by n lt sync (inr ne) =
-        subst (λ x. CarriesAgrees d x (run_carried (carried_at (moved d w s (SpiFault u)) n)) (h.going n)) (sym (get_or-set_other chip.serials.units u n _ idle ne))
-        (subst (λ o. CarriesAgrees d (unit_at chip.serials n) (run_carried o) (h.going n)) (sym (item-other None s.carried u n (faulted_carrying w.now (carried_at s u)) ne)) (h.sends n lt sync))
-
-    select_by : (n : ℕ) → n < 2 → (n ≡ u) ⊎ (n ≢ u) → (unit_at (serials.after_fault chip.serials u) n).select ≡ (unit_at chip.serials n).select
-    select_by n lt (inl e) = ap (λ x. x.select) (unit_after n lt e) ∙ same_select (unit_at chip.serials n) (serials.failing (unit_at chip.serials n).word) (serials.is_busy (unit_at chip.serials n) w.now)
-    select_by n lt (inr ne) = ap (λ x. x.select) (get_or-set_other chip.serials.units u n _ idle ne)
+    select_by : (n : ℕ) → n < 2 → (unit_at (serials.after_fault chip.serials u) n).select ≡ (unit_at chip.serials n).select
+    select_by = set_unit (λ n x. x.select ≡ (unit_at chip.serials n).select) chip.serials.units u new h.size
+        (λ lt. same_select (unit_at chip.serials u) (serials.failing (unit_at chip.serials u).word) (serials.is_busy (unit_at chip.serials u) chip.serials.time)) (λ n lt ne. refl)
 
     end_by : (n : ℕ) (o : Option Bool) → (n ≡ u) ⊎ (n ≢ u) → KnowsEnd w.now (run_carried (carried_at s n)) o → KnowsEnd w.now (run_carried (carried_at (moved d w s (SpiFault u)) n)) o
     end_by n o (inl e) knows = subst (λ k. KnowsEnd w.now (run_carried (carried_at (moved d w s (SpiFault k)) n)) o) e (subst (λ r. KnowsEnd w.now r o) (sym (carried_run w.now s n)) (fault_end w.now (run_carried (carried_at s n)) o knows))
     end_by n o (inr ne) knows = subst (λ x. KnowsEnd w.now (run_carried x) o) (sym (item-other None s.carried u n (faulted_carrying w.now (carried_at s u)) ne)) knows
 
--- ---- what the hardware leaves of the state
+-- ---- what the hardware leaves of the words, and of the state
+
+pub words_kept : (chip : Chip) (order : Order) → is_fill order ≡ false → word_of (happened chip order) ≡ word_of chip
+words_kept chip order e = pointwise (word_of (happened chip order)) (word_of chip) (λ k. by order e k)
+  where
+    by : (order : Order) → is_fill order ≡ false → (k : ℕ) → word_of (happened chip order) k ≡ word_of chip k
+    by (Fill c ws) e k = absurd (cc)
+    by order e k = word-left k chip (Hardware order) tt
 
 pub running_later : (d : SpiTable) (w : World) (s : SpiState) (order : Order) → is_running (moved d w s order) ≡ is_running s
 running_later d w s (SpiFault u) = running_same w.now s u

@@ -62,11 +62,11 @@ pub record IsFound (q : ℕ) (ps : List Pending) : Type 0 where
 
 pub found_entry : (q : ℕ) (ps : List Pending) → is_pending q ps ≡ true → IsFound q ps
 found_entry q [] e = absurd (cc)
-found_entry q (p ∷ ps) e = by (is_of q p) refl e (found_entry q ps)
+found_entry q (p ∷ ps) e = found_with_first (is_of q p) refl e (found_entry q ps)
   where
-    by : (b : Bool) → is_of q p ≡ b → is_of q p || is_pending q ps ≡ true → (is_pending q ps ≡ true → IsFound q ps) → IsFound q (p ∷ ps)
-    by true f g rest = record { entry = p; is = ap (λ b. if b then Some p else find (is_of q) ps) f; there = (0, omega arith, refl); of = is_number p.sequence q f }
-    by false f g rest =
+    found_with_first : (b : Bool) → is_of q p ≡ b → is_of q p || is_pending q ps ≡ true → (is_pending q ps ≡ true → IsFound q ps) → IsFound q (p ∷ ps)
+    found_with_first true f g rest = record { entry = p; is = ap (λ b. if b then Some p else find (is_of q) ps) f; there = (0, omega arith, refl); of = is_number p.sequence q f }
+    found_with_first false f g rest =
         let r = rest (ap (λ b. b || is_pending q ps) (sym f) ∙ g) in
         record { entry = r.entry; is = ap (λ b. if b then Some p else find (is_of q) ps) f ∙ r.is; there = (suc r.there.0, let lt = r.there.1 in omega (arith, lt), r.there.2); of = r.of }
 
@@ -186,13 +186,11 @@ module _ (d : SpiTable) (fits : FitsSpi d) (below : Reservations) (chip : Chip) 
   in_own = there_by (is_running s) (filter (is_for d unit) s.pending) p (filter_keeps (is_for d unit) s.pending p there for_unit)
 
   in_other : (u : ℕ) → u ≢ unit → order.is_there p.sequence (entries_of d (view s) u) ≡ false
-  in_other u ne = not_true (order.is_there p.sequence (entries_of d (view s) u)) (λ e. by (there_back (is_running s) p.sequence (filter (is_for d u) s.pending) e))
-    where
-      by : (x : Pending) × Contains (filter (is_for d u) s.pending) x × (x.sequence ≡ p.sequence) → ⊥
-      by (x, is, same) =
-          let k = filter_back (is_for d u) s.pending x is in
-          let one : x ≡ p = one_pending d fits below chip w s h x p (all_pending (view s) x k.0) (all_pending (view s) p there) same in
-          ne (one_unit d u unit (next_job d p) (subst (λ z. is_for d u z ≡ true) one k.1) for_unit)
+  in_other u ne = not_true (order.is_there p.sequence (entries_of d (view s) u)) (λ e.
+      let (x, is, same) = there_back (is_running s) p.sequence (filter (is_for d u) s.pending) e in
+      let k = filter_back (is_for d u) s.pending x is in
+      let one : x ≡ p = one_pending d fits below chip w s h x p (all_pending (view s) x k.0) (all_pending (view s) p there) same in
+      ne (one_unit d u unit (next_job d p) (subst (λ z. is_for d u z ≡ true) one k.1) for_unit))
 
   module _ (c : Chip) (differs : DiffersIn (ranked.own_of (ordered unit)) chip1 c) (holds : ranked.Holds (ordered unit) (word_of c) (order.without p.sequence (entries_of d (view s) unit))) where
     word_same : (j : ℕ) → ranked.own_of (ordered unit) j ≡ false → j ≢ sequence_word p.sequence → word_of c j ≡ word_of chip j
@@ -314,31 +312,25 @@ module _ (d : SpiTable) (fits : FitsSpi d) (below : Reservations) (chip : Chip) 
   }
 
   -- whether its unit runs the sequence
+  own_unit : (q : ℕ) (r : RunsOn d fits below chip w s h q) → h.going (unit_of_sequence d q) ≡ Some r.job
+  own_unit q r =
+      let next = going_next d fits below chip w s h r.unit r.job r.few r.is in
+      let entry = h.sound.entries r.job.pending next.0 in
+      let own = job_unit d fits r.job.pending.sequence r.job.pending.next entry.next in
+      let unit : r.unit ≡ unit_of_sequence d q = one_unit d r.unit (unit_of_sequence d r.job.pending.sequence) (next_job d r.job.pending) next.2 own ∙ ap (unit_of_sequence d) r.of in
+      ap h.going (sym unit) ∙ r.is
+
   runs_here : (q : ℕ) → is_sync_sequence d q ≡ false → (g : Option Going) → h.going (unit_of_sequence d q) ≡ g → is_running_sequence q (running_by d g) ≡ is_running s q
-  runs_here q there None e = sym (not_true (is_running s q) (λ f. absurd (elsewhere (runs_on d fits below chip w s h q f))))
+  runs_here q there None e = sym (not_true (is_running s q) (λ f. let c = sym e ∙ own_unit q (runs_on d fits below chip w s h q f) in cc))
+  runs_here q there (Some g) e = runs_alike (g.pending.sequence == q) refl
     where
-      elsewhere : RunsOn d fits below chip w s h q → ⊥
-      elsewhere r =
-          let next = going_next d fits below chip w s h r.unit r.job r.few r.is in
-          let entry = h.sound.entries r.job.pending next.0 in
-          let own = job_unit d fits r.job.pending.sequence r.job.pending.next entry.next in
-          let unit : r.unit ≡ unit_of_sequence d q = one_unit d r.unit (unit_of_sequence d r.job.pending.sequence) (next_job d r.job.pending) next.2 own ∙ ap (unit_of_sequence d) r.of in
-          let c = sym e ∙ ap h.going (sym unit) ∙ r.is in cc
-  runs_here q there (Some g) e = by (g.pending.sequence == q) refl
-    where
-      by : (b : Bool) → (g.pending.sequence == q) ≡ b → (g.pending.sequence == q) ≡ is_running s q
-      by true f = f ∙ sym (ap (is_running s) (sym (is_number g.pending.sequence q f)) ∙ going_runs d fits below chip w s h (unit_of_sequence d q) g (unit_few d fits q) there e)
-      by false f = f ∙ sym (not_true (is_running s q) (λ i. elsewhere (runs_on d fits below chip w s h q i)))
-        where
-          elsewhere : RunsOn d fits below chip w s h q → ⊥
-          elsewhere r =
-              let next = going_next d fits below chip w s h r.unit r.job r.few r.is in
-              let entry = h.sound.entries r.job.pending next.0 in
-              let own = job_unit d fits r.job.pending.sequence r.job.pending.next entry.next in
-              let unit : r.unit ≡ unit_of_sequence d q = one_unit d r.unit (unit_of_sequence d r.job.pending.sequence) (next_job d r.job.pending) next.2 own ∙ ap (unit_of_sequence d) r.of in
-              let same : Some g ≡ Some r.job = sym e ∙ ap h.going (sym unit) ∙ r.is in
-              let job : g ≡ r.job = cc in
-              let no = sym f ∙ ap (λ x. x.pending.sequence == q) job ∙ ap (λ n. n == q) r.of ∙ same_number q in cc
+      runs_alike : (b : Bool) → (g.pending.sequence == q) ≡ b → (g.pending.sequence == q) ≡ is_running s q
+      runs_alike true f = f ∙ sym (ap (is_running s) (sym (is_number g.pending.sequence q f)) ∙ going_runs d fits below chip w s h (unit_of_sequence d q) g (unit_few d fits q) there e)
+      runs_alike false f = f ∙ sym (not_true (is_running s q) (λ i.
+          let r : RunsOn d fits below chip w s h q = runs_on d fits below chip w s h q i in
+          let same : Some g ≡ Some r.job = sym e ∙ own_unit q r in
+          let job : g ≡ r.job = cc in
+          let no = sym f ∙ ap (λ x. x.pending.sequence == q) job ∙ ap (λ n. n == q) r.of ∙ same_number q in cc))
 
   running : (r : Cancelled) (q n value : ℕ) → q < 8 → error_by d (asks q) (is_off s.mode) false ≡ None → IsOf d r q → is_pending q s.pending ≡ true → (b : Bool) → is_running s q ≡ b → CancelMakes q (cancel.Running r) (Load n) chip value (if b then cancel.Marks r else cancel.Store r, goes)
   running r q n value lt clear of there true e = (h, (q, (Is_this_frame, lt, clear, on), of, there, e))
@@ -346,10 +338,9 @@ module _ (d : SpiTable) (fits : FitsSpi d) (below : Reservations) (chip : Chip) 
 
   marks : (v q : ℕ) → q < 8 → error_by d (asks q) (is_off s.mode) false ≡ None → is_pending q s.pending ≡ true → is_running s q ≡ true → v ≡ bit_or (word_of chip MARKS) (cancelled_bit q)
       → CancelMakes q (cancel.Mark v) (Store MARKS v) (chip_after chip (Store MARKS v) y) 0 (cancel.Mark v, ends (Some Act) no_answer Nothing)
-  marks v q lt clear there runs is = by (found_entry q s.pending there)
-    where
-      by : IsFound q s.pending → CancelMakes q (cancel.Mark v) (Store MARKS v) (chip_after chip (Store MARKS v) y) 0 (cancel.Mark v, ends (Some Act) no_answer Nothing)
-      by f = record {
+  marks v q lt clear there runs is =
+      let f : IsFound q s.pending = found_entry q s.pending there in
+      record {
         may = refl;
         stands = tt;
         state = record s { pending = changed q cancels s.pending };
@@ -366,10 +357,9 @@ module _ (d : SpiTable) (fits : FitsSpi d) (below : Reservations) (chip : Chip) 
 
   stores : (r : Cancelled) (q : ℕ) → q < 8 → error_by d (asks q) (is_off s.mode) false ≡ None → IsOf d r q → is_pending q s.pending ≡ true → is_running s q ≡ false
       → CancelMakes q (cancel.Store r) (Store (sequence_word r.sequence) CANCELLED) (chip_after chip (Store (sequence_word r.sequence) CANCELLED) y) 0 (cancel.Drop r (drops.Look (search_of r.unit) r.sequence), acts)
-  stores r q lt clear of there runs = by (found_entry q s.pending there)
-    where
-      by : IsFound q s.pending → CancelMakes q (cancel.Store r) (Store (sequence_word r.sequence) CANCELLED) (chip_after chip (Store (sequence_word r.sequence) CANCELLED) y) 0 (cancel.Drop r (drops.Look (search_of r.unit) r.sequence), acts)
-      by f = record {
+  stores r q lt clear of there runs =
+      let f : IsFound q s.pending = found_entry q s.pending there in
+      record {
         may = refl;
         stands = tt;
         state = ended d s f.entry f.entry.next SpiSeqCanceled;

@@ -44,10 +44,10 @@ module _ (d : SpiTable) (fits : FitsSpi d) where
 within : (xs : List (Option Channel)) → sum_by cost_by xs ≤ 48 * count_by is_some xs + 8 * sum_by internal_by xs
 within [] = omega arith
 within (None ∷ xs) = let rest = within xs in omega (arith, rest)
-within (Some x ∷ xs) = let rest = within xs in by x.internal refl rest
+within (Some x ∷ xs) = let rest = within xs in within_with_first x.internal refl rest
   where
-    by : (q : Bool) → x.internal ≡ q → sum_by cost_by xs ≤ 48 * count_by is_some xs + 8 * sum_by internal_by xs → sum_by cost_by (Some x ∷ xs) ≤ 48 * count_by is_some (Some x ∷ xs) + 8 * sum_by internal_by (Some x ∷ xs)
-    by q e rest =
+    within_with_first : (q : Bool) → x.internal ≡ q → sum_by cost_by xs ≤ 48 * count_by is_some xs + 8 * sum_by internal_by xs → sum_by cost_by (Some x ∷ xs) ≤ 48 * count_by is_some (Some x ∷ xs) + 8 * sum_by internal_by (Some x ∷ xs)
+    within_with_first q e rest =
         let costs = sum_by-cons cost_by (Some x) xs in
         let number = sum_by-cons (λ (y : Option Channel). cond (is_some y) 1 0) (Some x) xs in
         let words = sum_by-cons internal_by (Some x) xs in

@@ -1,21 +1,22 @@
 -- What stands of a module that is being initialised, and what the steps of Spi_Init change of it.
--- From words.SideWords, words.WordsOfModule, service_outline: Words, words.Cases, words.ListTests and 2 more.
+-- From words.SideWords, words.ListTests, words.WordsOfModule, service_outline: Words, words.Cases and 2 more.
 -- Used by services.InitWords, services.InitClearing, services.InitActRight, bookkeeping.NextChosen and 1 more.
 use Rattle.std.proofs.Common.{◌≡◌, ◌≢◌, ◌+◌, ◌*◌, ◌%◌, ◌/◌, ◌<◌, ◌==◌, ◌&&◌, [], ◌∷◌, ◌∙◌, ◌⊎◌, ◌++◌, if◌then◌else◌}
 use Rattle.spi_sequences.specs.Terms
 use Terms.{ap, arith, Banks, BanksAgree, Bool, Call, Called, carried_at, CarriesAgrees, Carrying, cases, Channel}
 use Terms.{channel_of, Chip, chip_after, chooses, choosing, commits, committing, Contains, entry_carried, false}
-use Terms.{filling, fills, FitsSpi, flat_map-cons, Going, HoldsArrays, Init, inl, inr, is_off, is_own_word, is_some}
+use Terms.{filling, fills, FitsSpi, flat_map-cons, Going, HoldsArrays, Init, inl, inr, is_off, is_own_word}
 use Terms.{is_sync_unit, IsSoundState, Keeps, length, LinesAgree, List, Memory, mode_word, None, not, Option, or_rest}
 use Terms.{own-control, own-word, Pins, placed_of, Preparing, put_held, PutRight, Putting, readied_by, readied_in}
-use Terms.{Received, refl, replicate, Reservation, Reservations, ReservedBy, Run, run_at, run_carried, same_or_other}
-use Terms.{Sent, Side, Some, some_is, SOURCES, SpiRepresents, SpiState, SpiTable, stands-agree, stands-move, StandsIn}
+use Terms.{Received, refl, replicate, Reservation, Reservations, ReservedBy, run_at, run_carried, same_or_other, Sent}
+use Terms.{Side, Some, some_is, SOURCES, SpiRepresents, SpiState, SpiTable, stands-agree, stands-move, StandsIn}
 use Terms.{STATE, Store, stored_by, stored_in, stored_other, stored_same, subst, suc, sym, take_held, TakeRight}
 use Terms.{Taking, trio_of, TripleBuffer, true, unit_at, UnitAgrees, view, whether, WiredAs, word_of, World, zero, ℕ}
 use Rattle.spi_sequences.specs.laws.{words.SideWords.{mine, not_first, not_of_other, sides_apart, stands_by_store}}
 use Rattle.spi_sequences.specs.laws.{words.SideWords.{trio_fits}, hardware.SourceFilled.{own_low}}
 use Rattle.spi_sequences.specs.laws.{hardware.AfterReset.{none_in}, words.WordsOfModule.{has_channel, of_banks}}
 use Rattle.spi_sequences.specs.laws.{words.WordsOfModule.{own_banks}, words.WordsToState.{other_number, same_number}}
+use Rattle.spi_sequences.specs.laws.words.ListTests.{none_by}
 use Rattle.word_shapes.specs.TripleBuffer as trio
 
 -- ---- what is held
@@ -88,10 +89,6 @@ pub record Prepared (d : SpiTable) (st : List (ℕ × ℕ)) (rd : List (ℕ × B
   pub lines : LinesAgree d s.mode chip.control.enabled
 
 -- an uninitialised module runs no job
-no_run : (r : Option Run) → not (is_some r) ≡ true → r ≡ None
-no_run None e = refl
-no_run (Some r) e = absurd (cc)
-
 no_run_carried : (o : Option Carrying) → entry_carried o ≡ None → run_carried o ≡ None
 no_run_carried None e = refl
 no_run_carried (Some x) e = absurd (cc)
@@ -105,7 +102,7 @@ module _ (d : SpiTable) (held : Reservations) (chip : Chip) (w : World) (s : Spi
     where
       by : (g : Option Going) → UnitAgrees d (unit_at chip.serials u) (run_at s u) g → g ≡ None
       by None a = refl
-      by (Some g) a = absurd (let e = sym (no_run (run_at s u) ((h.sound.off off).1 u)) ∙ a.1 in cc)
+      by (Some g) a = absurd (let e = sym (none_by (run_at s u) ((h.sound.off off).1 u)) ∙ a.1 in cc)
 
       by_carried : (g : Option Going) → CarriesAgrees d (unit_at chip.serials u) (run_carried (carried_at s u)) g → g ≡ None
       by_carried None a = refl
@@ -188,7 +185,7 @@ module _ (d : SpiTable) (st : List (ℕ × ℕ)) (rd : List (ℕ × Bool)) (x : 
     sound = p.sound;
     going = none_going;
     nexts = λ u lt. tt;
-    units = λ u lt async. (p.units u lt, no_run (run_at s u) ((p.sound.off p.off).1 u));
+    units = λ u lt async. (p.units u lt, none_by (run_at s u) ((p.sound.off p.off).1 u));
     sends = λ u lt sync. (p.units u lt, no_run_carried (carried_at s u) (p.sound.carries.off p.off u));
     sending = (tt, tt);
     carriers = λ u y e. absurd (let no = sym e ∙ p.sound.carries.off p.off u in cc);

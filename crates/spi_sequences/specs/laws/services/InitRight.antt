@@ -33,13 +33,13 @@ module _ (d : SpiTable) where
 
   module _ (fits : FitsSpi d) where
     init_steps : (below : Reservations) (chip : Chip) (w : World) (s : SpiState) (k : InitBody) (o : Origin Call) (y : ℕ) (t : FrameHistory) (m : ℕ → Bool) → AssertedAt (spi_basis d) (init_bodies d) below chip w s k o t → Right (spi_basis d) (init_bodies d) below chip w s k o y t m
-    init_steps below chip w s k o y t m h = by below k.table o t (known_frame below chip w s k.table k.place o t h.1) h
+    init_steps below chip w s k o y t m h = steps_alone below k.table o t (known_frame below chip w s k.table k.place o t h.1) h
       where
-        by : (below : Reservations) (x : SpiTable) (o : Origin Call) (t : FrameHistory) → IsInit d x below o t → AssertedAt (spi_basis d) (init_bodies d) below chip w s (record { table = x; place = k.place }) o t → Right (spi_basis d) (init_bodies d) below chip w s (record { table = x; place = k.place }) o y t m
-        by [] x _ _ (Is_this_frame, e, is) a =
+        steps_alone : (below : Reservations) (x : SpiTable) (o : Origin Call) (t : FrameHistory) → IsInit d x below o t → AssertedAt (spi_basis d) (init_bodies d) below chip w s (record { table = x; place = k.place }) o t → Right (spi_basis d) (init_bodies d) below chip w s (record { table = x; place = k.place }) o y t m
+        steps_alone [] x _ _ (Is_this_frame, e, is) a =
             subst (λ z. Right (spi_basis d) (init_bodies d) [] chip w s (record { table = z; place = k.place }) (Called calls.Init) y fresh_history m) (sym is)
             (steps_at d fits w s chip y m k.place (subst (λ z. AssertedAt (spi_basis d) (init_bodies d) [] chip w s (record { table = z; place = k.place }) (Called calls.Init) fresh_history) is a))
-        by (b ∷ bs) x o t (being, e, is) a = absurd (cc)
+        steps_alone (b ∷ bs) x o t (being, e, is) a = absurd (cc)
 
   -- ---- masks and windows
 
@@ -89,13 +89,10 @@ module _ (d : SpiTable) where
   -- ---- the steps that are left
 
   cost_step : (x : SpiTable) (c : ℕ) → c < 15 → costs x (15 - c) ≡ 1 + channel_cost x (c + 1) + costs x (15 - (c + 1))
-  cost_step x c lt = ap (costs x) next ∙ ap (λ n. 1 + channel_cost x n + costs x (15 - (c + 1))) back
-    where
-      next : 15 - c ≡ suc (15 - (c + 1))
-      next = omega (arith, lt)
-
-      back : 15 - (15 - (c + 1)) ≡ c + 1
-      back = omega (arith, lt)
+  cost_step x c lt =
+      let next : 15 - c ≡ suc (15 - (c + 1)) = omega (arith, lt) in
+      let back : 15 - (15 - (c + 1)) ≡ c + 1 = omega (arith, lt) in
+      ap (costs x) next ∙ ap (λ n. 1 + channel_cost x n + costs x (15 - (c + 1))) back
 
   after_channel_less : (x : SpiTable) (c : ℕ) → init_fuel_at x (after_channel c) ≤ rest_after x c
   after_channel_less x c = whether_as (nat_lt c 15) (λ q. init_fuel_at x (if q then init.SetUp (c + 1) else init.Closes) ≤ rest_after x c)

@@ -6,7 +6,7 @@ use Rattle.spi_sequences.specs.Terms
 use Terms.{acts_by, ap, arith, AssertedAt, bank_word, Bool, Call, Called, Channel, channel_of, Chip, chip_after}
 use Terms.{control_word, error_by, false, FitsSpi, FrameHistory, free_bank, fresh_history, goes, InitBody, initial}
 use Terms.{InitPlace, inl, inr, is_off, Is_this_frame, IsThisFrame, job_word, length, length-replicate, List}
-use Terms.{LongBodies, MakesTo, Mask, Memory, missed_after, nat_lt, nat_tests, NO_CHANNEL, None, Option, or_else}
+use Terms.{LongBodies, lt_from, MakesTo, Mask, Memory, missed_after, nat_lt, NO_CHANNEL, None, Option, or_else}
 use Terms.{order_word, Origin, Outside, placed_of, PointAssertion, Preparing, Put, put_more, Putting, Received, refl}
 use Terms.{replicate, Reservation, Reservations, Right, running_word, Sent, sequence_word, set_up_word, Side}
 use Terms.{slice_index_or, Some, some_or_none, spi_basis, spi_machine, SpiRepresents, SpiState, SpiTable, STATE}
@@ -283,33 +283,19 @@ module _ (d : SpiTable) (fits : FitsSpi d) (w : World) (s : SpiState) where
         next : SpiRepresents d (prep (sequences_below (suc q)) [] None) (chip_after chip (Store (sequence_word q) 0) 0) w s
         next = clears_first (sequences_below q) chip (sequence_word q) (omega arith) (omega (arith, lt)) (sequences_cleared d q (omega (arith, lt))) h
     steps_at (init.SetUp c) (h, (i, lt)) = set_up_step c lt h
-    steps_at (init.Choose c side) (h, (i, (k, known, internal))) = filled_from c k known internal chip side (free_bank v) 0 (omega arith) (prepared_agrees d st rd (filled_to d c side (free_bank v) 0) chip w s (chosen d fits c k known internal side st rd chip w s (prepared_by d st rd None chip w s h) (free_bank v) (free_few v)))
-      where
-        v : ℕ
-        v = word_of chip (control_word (placed_of d c) side)
-
-        st : List (ℕ × ℕ)
-        st = set_ups_below d (suc c)
-
-        rd : List (ℕ × Bool)
-        rd = readied_at d c side
-    steps_at (init.Fill c side b i) (h, (is, (k, known, internal), lt)) = subst (λ q. StandsAt (chip_after chip (Store (bank_word (placed_of d c) side b i) (first_in (placed_of d c) side)) y) (if q then fill_from d c side b (i + 1) else init.Shut c side b)) (sym (few i (let w1 = width c k known internal in let n = (fits.channels c k known).few in omega (arith, lt, w1, n))))
+    steps_at (init.Choose c side) (h, (i, (k, known, internal))) =
+        let v : ℕ = word_of chip (control_word (placed_of d c) side) in
+        let st : List (ℕ × ℕ) = set_ups_below d (suc c) in
+        let rd : List (ℕ × Bool) = readied_at d c side in
+        filled_from c k known internal chip side (free_bank v) 0 (omega arith) (prepared_agrees d st rd (filled_to d c side (free_bank v) 0) chip w s (chosen d fits c k known internal side st rd chip w s (prepared_by d st rd None chip w s h) (free_bank v) (free_few v)))
+    steps_at (init.Fill c side b i) (h, (is, (k, known, internal), lt)) = subst (λ q. StandsAt (chip_after chip (Store (bank_word (placed_of d c) side b i) (first_in (placed_of d c) side)) y) (if q then fill_from d c side b (i + 1) else init.Shut c side b)) (sym (lt_from i 255 (let w1 = width c k known internal in let n = (fits.channels c k known).few in omega (arith, lt, w1, n))))
         (filled_from c k known internal (chip_after chip (Store (bank_word (placed_of d c) side b i) (first_in (placed_of d c) side)) y) side b (i + 1) (omega (arith, lt)) (fills_one c k known internal chip side b i lt h))
-      where
-        few : (n : ℕ) → n < 255 → nat_lt n 255 ≡ true
-        few n lt = grind (arith, nat_tests)
     steps_at (init.Shut c side b) (h, (i, internal)) = (apart_agrees d fits _ chip w s Mask y refl h, (here, internal, refl))
     steps_at (init.Commit c side (puts.Commit j b)) (h, (i, (k, known, internal), at)) =
+        let few : b < 3 = small_bank c k known internal chip side b (placed_of d c).channel.length h in
+        let same : b ≡ (b % 4 + 4 * (word_of chip j / 4)) % 4 = omega (arith, few) in
+        let told : b % 4 + 4 * (word_of chip j / 4) ≡ (b % 4 + 4 * (word_of chip j / 4)) % 4 + 4 * (word_of chip j / 4) = omega arith in
         (subst (λ n. SpiRepresents d (prep (set_ups_below d (suc c)) (readied_at d c side) (filled_to d c side n (placed_of d c).channel.length)) chip w s) same h, (here, (k, known, internal), (at, told)))
-      where
-        few : b < 3
-        few = small_bank c k known internal chip side b (placed_of d c).channel.length h
-
-        same : b ≡ (b % 4 + 4 * (word_of chip j / 4)) % 4
-        same = omega (arith, few)
-
-        told : b % 4 + 4 * (word_of chip j / 4) ≡ (b % 4 + 4 * (word_of chip j / 4)) % 4 + 4 * (word_of chip j / 4)
-        told = omega arith
     steps_at (init.Commit c side (puts.Tell j v)) (h, (i, (k, known, internal), (at, is))) =
         (subst (λ n. SpiRepresents d readied (chip_after chip (Store n v) 0) w s) (sym at) (subst (λ n. SpiRepresents d readied (chip_after chip (Store (control_word (placed_of d c) side) n) 0) w s) same (commits_all c k known internal chip side (v % 4) h)), (here, (k, known, internal)))
       where

@@ -10,15 +10,15 @@ use Terms.{entry_carried, EOk, error_by, false, FitsSpi, FrameHistory, fresh_his
 use Terms.{GoesFree, Going, happened, has_bit, has_bit-or, has_bit-without, held_word, idle, inl, inr, Interrupt}
 use Terms.{is_busy, is_interrupt, is_off, is_pending, is_shared, is_simple, is_some, is_sync_unit, Is_this_frame}
 use Terms.{IsSoundState, IsThisFrame, length, length_by, LINES, LinesAgree, List, list_any, Load, LongBodies}
-use Terms.{looked_at, may, missed_after, Mode, mode_of, mode_word, Modes, moved, named, nat_eq, nat_lt, nat_tests}
-use Terms.{None, not, Nothing, Off, Option, Order, Origin, owed_left, owed_move, Part, PENDING, Pending}
-use Terms.{PendingWrites, place_at, placed_of, PointAssertion, Polling, refl, Reg, Reservations, resets_chip, Right}
-use Terms.{run_at, run_carried, same_chip, same_Some, sequence_word, served_lines, SetAsyncMode, Shortens, slice_get}
-use Terms.{slice_index, slice_index_or, Some, some_or_none, source_word, spi_bare, spi_basis, spi_machine, spi_owing}
-use Terms.{SpiBusy, SpiIdle, SpiRepresents, SpiState, SpiTable, stands-move, StandsIn, STATE, state_word_after}
-use Terms.{status_by, Store, stored_other, stored_same, subst, suc, sym, true, TurnsTo, Under, UnitAgrees}
-use Terms.{unless_busy, value_of, View, view, whether, Whole, whole_owed, whole_takes, whole_work, WholeBody, Wholes}
-use Terms.{Windows, windows, windows_right, Within, word_of, Works, World, world_after, Write, ℕ}
+use Terms.{looked_at, may, missed_after, Mode, mode_of, mode_word, Modes, moved, named, nat_eq, nat_lt, None, not}
+use Terms.{Nothing, Off, Option, Order, Origin, owed_left, owed_move, Part, PENDING, Pending, PendingWrites, place_at}
+use Terms.{placed_of, PointAssertion, Polling, refl, Reg, Reservations, resets_chip, Right, run_at, run_carried}
+use Terms.{same_chip, same_Some, sequence_word, served_lines, SetAsyncMode, Shortens, slice_get, slice_index}
+use Terms.{slice_index_or, Some, some_or_none, source_word, spi_bare, spi_basis, spi_machine, spi_owing, SpiBusy}
+use Terms.{SpiIdle, SpiRepresents, SpiState, SpiTable, stands-move, StandsIn, STATE, state_word_after, status_by}
+use Terms.{Store, stored_other, stored_same, subst, suc, sym, true, TurnsTo, Under, UnitAgrees, unless_busy, value_of}
+use Terms.{View, view, whether, Whole, whole_owed, whole_takes, whole_work, WholeBody, Wholes, Windows, windows}
+use Terms.{windows_right, Within, word_of, Works, World, world_after, Write, ℕ}
 use Rattle.spi_sequences.specs.laws.bookkeeping.RefinementRight.{frame_may, frame_names}
 use Rattle.spi_sequences.specs.declared.service.whole.Whole.TheVariants.{DeInit, Status}
 use Rattle.spi_sequences.specs.laws.words.SameWords.{sequences_alike, run_alike, banks_alike}
@@ -31,6 +31,7 @@ use Rattle.spi_sequences.specs.laws.services.QueryRight.{answers_now, may_first}
 use Rattle.spi_sequences.specs.laws.words.WordsToState.{entry_of, going_free, going_next, is_below, is_past, is_there}
 use Rattle.spi_sequences.specs.laws.words.WordsToState.{none_any, other_number, pending_word}
 use Rattle.spi_sequences.specs.laws.words.AllSequences.{all_carried, all_cases, all_pending}
+use Rattle.spi_sequences.specs.laws.words.ListTests.{last_below, nothing_in}
 use Rattle.spi_machine.specs.declared.call.AsyncMode.TheVariants as modes
 use Rattle.spi_machine.specs.declared.call.Call.TheVariants as calls
 use Rattle.spi_machine.specs.declared.call.Query.TheVariants as queries
@@ -55,11 +56,7 @@ busy_some s p there = by (all_cases (view s) p there)
     by (inr (u, e)) = ap (λ b. not (nat_eq (length s.pending) 0) || b) (some u (carried_at s u) refl e) ∙ or_true (not (nat_eq (length s.pending) 0))
 
 none_pending : (v : View) → all_of v ≡ [] → v.pending ≡ []
-none_pending v none = by v.pending (λ p there. none_in p (subst (λ ps. Contains ps p) none (all_pending v p there)))
-  where
-    by : (ps : List Pending) → ((p : Pending) → Contains ps p → ⊥) → ps ≡ []
-    by [] never = refl
-    by (p ∷ ps) never = absurd (never p (0, omega arith, refl))
+none_pending v none = nothing_in v.pending (λ p there. none_in p (subst (λ ps. Contains ps p) none (all_pending v p there)))
 
 none_begun : (d : SpiTable) (v : View) → IsSoundState d v → all_of v ≡ [] → (u : ℕ) → v.begun u ≡ None
 none_begun d v h none u = some_or_none (v.begun u)
@@ -237,13 +234,13 @@ module _ (d : SpiTable) (fits : FitsSpi d) where
 
     -- a unit that carries out sequences for calls has had no line enabled, and any other has its line enabled then
     lines_now : (n : ℕ) → ((u : ℕ) → u < 2 → has_bit n (26 + u) ≡ not (is_sync_unit d u)) → LinesAgree d Interrupt (chip_after (chip_after chip (Store STATE 2) 0) (Write EnableSet n) 0).control.enabled
-    lines_now n bits u lt = enabled chip 2 n u ∙ ap (λ q. has_bit chip.control.enabled (26 + u) || q) (bits u lt) ∙ ap (λ q. q || not (is_sync_unit d u)) (h.lines u lt) ∙ by (is_interrupt s.mode) (is_sync_unit d u)
+    lines_now n bits u lt = enabled chip 2 n u ∙ ap (λ q. has_bit chip.control.enabled (26 + u) || q) (bits u lt) ∙ ap (λ q. q || not (is_sync_unit d u)) (h.lines u lt) ∙ absorbs (is_interrupt s.mode) (is_sync_unit d u)
       where
-        by : (a b : Bool) → (a && not b) || not b ≡ not b
-        by true true = refl
-        by true false = refl
-        by false true = refl
-        by false false = refl
+        absorbs : (a b : Bool) → (a && not b) || not b ≡ not b
+        absorbs true true = refl
+        absorbs true false = refl
+        absorbs false true = refl
+        absorbs false false = refl
 
     interrupt : (n : ℕ) (a b : Bool) → is_sync_unit d 0 ≡ a → is_sync_unit d 1 ≡ b → n ≡ (if a then 0 else 2 ^ 26) + (if b then 0 else 2 ^ 27) → Rest (Modes modes.Interrupt n)
     interrupt n true true e f is = subst (λ k. Rest (Modes modes.Interrupt k)) (sym is)
@@ -285,11 +282,7 @@ module _ (d : SpiTable) (fits : FitsSpi d) where
     busy Status n value q clear some = answers_now d (whole_bodies d) below chip w s queries.Status n value y m false (whole.Look Status q) SpiBusy clear (sym (ap (λ b. status_by b (is_busy s)) on ∙ ap (λ b. status_by false b) some)) h
 
     all_gone : NoneBefore (all_of (view s)) 8 → all_of (view s) ≡ []
-    all_gone none = by (all_of (view s)) (λ p there. let f = sym (is_there d fits below chip w s h (all_of (view s)) p there) ∙ none p.sequence (h.sound.entries p there).number in cc)
-      where
-        by : (ps : List Pending) → ((p : Pending) → Contains ps p → ⊥) → ps ≡ []
-        by [] never = refl
-        by (p ∷ ps) never = absurd (never p (0, omega arith, refl))
+    all_gone none = nothing_in (all_of (view s)) (λ p there. let f = sym (is_there d fits below chip w s h (all_of (view s)) p there) ∙ none p.sequence (h.sound.entries p there).number in cc)
 
     all_seen : (x : Whole) (n value q : ℕ) → error_by d (call_by x) (is_off s.mode) false ≡ None → IsAbove x below → HasLines d x → all_of (view s) ≡ [] → LookMakes x n value (all_looked x q)
     all_seen Status n value q clear above l none = answers_now d (whole_bodies d) below chip w s queries.Status n value y m false (whole.Look Status q) SpiIdle clear (sym (ap (λ b. status_by b (is_busy s)) on ∙ ap (λ b. status_by false b) (busy_none d s h.sound none))) h
@@ -301,13 +294,10 @@ module _ (d : SpiTable) (fits : FitsSpi d) where
         (λ f. subst (λ b. LookMakes x n value (if b then (whole.Look x (q + 1), goes) else all_looked x q)) (sym f) (h, ((Is_this_frame, clear, on, above, l), let less = is_below q 7 f in omega (arith, less), upto)))
         (λ f. subst (λ b. LookMakes x n value (if b then (whole.Look x (q + 1), goes) else all_looked x q)) (sym f) (all_seen x n value q clear above l (all_gone (λ k less. upto k (let past = is_past q 7 f in omega (arith, past, less))))))
       where
-        split : (a b : ℕ) → a < b + 1 → nat_lt a b ≡ false → a ≡ b
-        split a b l f = grind (arith, nat_tests)
-
         upto : NoneBefore (all_of (view s)) (q + 1)
         upto k less = whether (nat_lt k q)
             (λ f. none k (is_below k q f))
-            (λ f. ap (λ i. is_pending i (all_of (view s))) (split k q less f) ∙ e)
+            (λ f. ap (λ i. is_pending i (all_of (view s))) (last_below k q less f) ∙ e)
 
   whole_steps : (below : Reservations) (chip : Chip) (w : World) (s : SpiState) (k : WholeBody) (o : Origin Call) (y : ℕ) (t : FrameHistory) (m : ℕ → Bool) → whole_owed k ≡ None → AssertedAt (spi_basis d) (whole_bodies d) below chip w s k o t → Right (spi_basis d) (whole_bodies d) below chip w s k o y t m
   whole_steps below chip w s (whole.Look x q) o y t m e (h, ((Is_this_frame, clear, on, above, l), lt, none)) =
@@ -356,11 +346,11 @@ module _ (d : SpiTable) (fits : FitsSpi d) where
 
   looked_turns : (x : Whole) (q : ℕ) (b : Bool) → TurnsTo (whole_bodies d) 32 (whole.Look x q) (looked_at x q b)
   looked_turns x q true = omega arith
-  looked_turns x q false = by (nat_lt q 7) refl
+  looked_turns x q false = further_turns (nat_lt q 7) refl
     where
-      by : (b : Bool) → nat_lt q 7 ≡ b → TurnsTo (whole_bodies d) 32 (whole.Look x q) (if b then (whole.Look x (q + 1), goes) else all_looked x q)
-      by true e = let lt : q < 7 = is_below q 7 e in (refl, omega (arith, lt))
-      by false e =
+      further_turns : (b : Bool) → nat_lt q 7 ≡ b → TurnsTo (whole_bodies d) 32 (whole.Look x q) (if b then (whole.Look x (q + 1), goes) else all_looked x q)
+      further_turns true e = let lt : q < 7 = is_below q 7 e in (refl, omega (arith, lt))
+      further_turns false e =
           elim x as (λ x. TurnsTo (whole_bodies d) 32 (whole.Look x q) (all_looked x q))
           [ Status ↦ omega arith | _ ↦ (refl, omega arith) ]
 
@@ -385,11 +375,11 @@ module _ (d : SpiTable) (fits : FitsSpi d) where
         where
           looked_short : (x : Whole) (q : ℕ) (b : Bool) → Shortens (whole_bodies d).fuel (whole.Look x q) (looked_at x q b)
           looked_short x q true = omega arith
-          looked_short x q false = by (nat_lt q 7) refl
+          looked_short x q false = further_short (nat_lt q 7) refl
             where
-              by : (b : Bool) → nat_lt q 7 ≡ b → Shortens (whole_bodies d).fuel (whole.Look x q) (if b then (whole.Look x (q + 1), goes) else all_looked x q)
-              by true e = let lt : q < 7 = is_below q 7 e in omega (arith, lt)
-              by false e =
+              further_short : (b : Bool) → nat_lt q 7 ≡ b → Shortens (whole_bodies d).fuel (whole.Look x q) (if b then (whole.Look x (q + 1), goes) else all_looked x q)
+              further_short true e = let lt : q < 7 = is_below q 7 e in omega (arith, lt)
+              further_short false e =
                   elim x as (λ x. Shortens (whole_bodies d).fuel (whole.Look x q) (all_looked x q))
                   [ DeInit ↦ omega arith | _ ↦ omega arith ]
       shortens (whole.Store x) v e = omega arith
@@ -412,11 +402,11 @@ module _ (d : SpiTable) (fits : FitsSpi d) where
         where
           looked_clean : (x : Whole) (q : ℕ) (b : Bool) → Cleans (whole_bodies d).clean (Load (sequence_word q)) (whole.Look x q) (looked_at x q b)
           looked_clean x q true = tt
-          looked_clean x q false = by (nat_lt q 7)
+          looked_clean x q false = further_clean (nat_lt q 7)
             where
-              by : (b : Bool) → Cleans (whole_bodies d).clean (Load (sequence_word q)) (whole.Look x q) (if b then (whole.Look x (q + 1), goes) else all_looked x q)
-              by true = λ f. absurd (cc)
-              by false =
+              further_clean : (b : Bool) → Cleans (whole_bodies d).clean (Load (sequence_word q)) (whole.Look x q) (if b then (whole.Look x (q + 1), goes) else all_looked x q)
+              further_clean true = λ f. absurd (cc)
+              further_clean false =
                   elim x as (λ x. Cleans (whole_bodies d).clean (Load (sequence_word q)) (whole.Look x q) (all_looked x q))
                   [ Status ↦ tt | _ ↦ (λ f. absurd (cc)) ]
       cleans (whole.Store x) v e = λ f. absurd (cc)

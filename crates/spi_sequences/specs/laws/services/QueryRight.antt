@@ -25,7 +25,7 @@ use Rattle.spi_sequences.specs.laws.words.WordsOfModule.{in_list, own_first}
 use Rattle.spi_sequences.specs.laws.words.JobPlaces.{at_left, place_found, place_missing, one_place}
 use Rattle.spi_sequences.specs.laws.services.QuerySteps.{job_move, job_took, job_looked, by_place, after_look}
 use Rattle.spi_sequences.specs.laws.services.QuerySteps.{is_running_job, answers_by, query_work, query_takes}
-use Rattle.spi_sequences.specs.laws.words.ListTests.{any_in, any_some}
+use Rattle.spi_sequences.specs.laws.words.ListTests.{any_in, any_some, last_below}
 use Rattle.spi_sequences.specs.laws.words.AllSequences.{all_carried, all_cases}
 use Rattle.spi_sequences.specs.laws.words.WordsToState.{is_below, is_number, is_past, is_there, entry_of}
 use Rattle.spi_sequences.specs.laws.words.WordsToState.{job_said, none_any, not_true, one_by_job, one_pending, one_unit}
@@ -216,10 +216,10 @@ module _ (d : SpiTable) (fits : FitsSpi d) (below : Reservations) (chip : Chip) 
 
   -- a sequence that has it no longer, and so no other one has it
   left_none : (p : Pending) (i : ℕ) → Contains under_way p → i < p.next → i < length (jobs_of d p.sequence) → slice_index_or (jobs_of d p.sequence) i 0 ≡ j → list_any (is_left d j) under_way ≡ false
-  left_none p i there past lt at = none_any (is_left d j) under_way (λ x also. not_true (is_left d j x) (λ e. by x also e))
+  left_none p i there past lt at = none_any (is_left d j) under_way (λ x also. not_true (is_left d j x) (λ e. not_left x also e))
     where
-      by : (x : Pending) → Contains under_way x → is_left d j x ≡ true → ⊥
-      by x also e =
+      not_left : (x : Pending) → Contains under_way x → is_left d j x ≡ true → ⊥
+      not_left x also e =
           let same : x ≡ p = one_by_job d fits below chip w s h x p also there (shares_it x p (left_has x e) (has_it p.sequence i lt at)) (shares_it p x (has_it p.sequence i lt at) (left_has x e)) in
           let l = at_left (jobs_of d p.sequence) p.next j (subst (λ z. is_left d j z ≡ true) same e) in
           let one : l.place ≡ i = one_place d fits p.sequence l.place i l.within lt (l.is ∙ sym at) in
@@ -243,7 +243,7 @@ module _ (d : SpiTable) (fits : FitsSpi d) (below : Reservations) (chip : Chip) 
     -- the unit's word
     runs_by : (n value : ℕ) (g : Option Going) → h.going k.unit ≡ g → JobMakes n value (if is_running_job r.job (running_by d g) then (place.Running, Some SpiJobPending) else (place.Look 0, None))
     runs_by n value None e = goes_to n value (place.Look 0) (omega arith, runs_none (λ g f i. let c = sym e ∙ f in cc), λ p there lt. absurd (omega (arith, lt)))
-    runs_by n value (Some g) e = by (next_job d g.pending == r.job) refl
+    runs_by n value (Some g) e = makes_by_job (next_job d g.pending == r.job) refl
       where
         few : k.unit < 2
         few = (fits.jobs j k known).unit
@@ -251,8 +251,8 @@ module _ (d : SpiTable) (fits : FitsSpi d) (below : Reservations) (chip : Chip) 
         next : RunsNext d (view s) k.unit (Some g)
         next = going_next d fits below chip w s h k.unit g few e
 
-        by : (q : Bool) → (next_job d g.pending == r.job) ≡ q → JobMakes n value (if next_job d g.pending == r.job then (place.Running, Some SpiJobPending) else (place.Look 0, None))
-        by true f = subst (λ b. JobMakes n value (if b then (place.Running, Some SpiJobPending) else (place.Look 0, None))) (sym f) (tells n value place.Running SpiJobPending (sym runs))
+        makes_by_job : (q : Bool) → (next_job d g.pending == r.job) ≡ q → JobMakes n value (if next_job d g.pending == r.job then (place.Running, Some SpiJobPending) else (place.Look 0, None))
+        makes_by_job true f = subst (λ b. JobMakes n value (if b then (place.Running, Some SpiJobPending) else (place.Look 0, None))) (sym f) (tells n value place.Running SpiJobPending (sym runs))
           where
             job : next_job d g.pending ≡ j
             job = is_number (next_job d g.pending) r.job f ∙ is.number
@@ -271,7 +271,7 @@ module _ (d : SpiTable) (fits : FitsSpi d) (below : Reservations) (chip : Chip) 
 
             runs : job_result s.job_results j ≡ SpiJobPending
             runs = ap (job_result s.job_results) (sym job) ∙ result (is_sync_unit d k.unit) refl
-        by false f = subst (λ b. JobMakes n value (if b then (place.Running, Some SpiJobPending) else (place.Look 0, None))) (sym f) (goes_to n value (place.Look 0) (
+        makes_by_job false f = subst (λ b. JobMakes n value (if b then (place.Running, Some SpiJobPending) else (place.Look 0, None))) (sym f) (goes_to n value (place.Look 0) (
           omega arith,
           runs_none (λ g1 i same. let one : g ≡ g1 = let c = sym e ∙ i in cc in let job : next_job d g.pending ≡ r.job = ap (λ x. next_job d x.pending) one ∙ same ∙ sym is.number in let no = sym f ∙ ap (λ n. n == r.job) job ∙ same_number r.job in cc),
           λ p there lt. absurd (omega (arith, lt)),
@@ -283,13 +283,10 @@ module _ (d : SpiTable) (fits : FitsSpi d) (below : Reservations) (chip : Chip) 
         (λ f. subst (λ b. JobMakes n value (if b then place.Look (q + 1) else place.Result, None)) (sym f) (goes_to n value (place.Look (q + 1)) (let less = is_below q 7 f in omega (arith, less), none, upto)))
         (λ f. subst (λ b. JobMakes n value (if b then place.Look (q + 1) else place.Result, None)) (sym f) (goes_to n value place.Result (none_any (is_left d j) under_way (λ p there. upto p there (let few = (h.sound.entries p there).number in let past = is_past q 7 f in omega (arith, few, past, lt))))))
       where
-        split : (a b : ℕ) → a < b + 1 → nat_lt a b ≡ false → a ≡ b
-        split a b l f = grind (arith, nat_tests)
-
         upto : LeftNone d under_way j (q + 1)
         upto p there less = whether (nat_lt p.sequence q)
             (λ f. left p there (is_below p.sequence q f))
-            (λ f. this p there (split p.sequence q less f))
+            (λ f. this p there (last_below p.sequence q less f))
 
     looks : (n value q : ℕ) → q < 8 → RunsNone d under_way works j → LeftNone d under_way j q → (b : Bool) → is_pending q under_way ≡ b → JobMakes n value (job_looked r q b, None)
     looks n value q lt none left false e = looks_on n value q lt none left (λ p there same. absurd (let g = subst (λ k. is_pending k under_way ≡ true) same (is_there d fits below chip w s h under_way p there) in let c = sym e ∙ g in cc))
@@ -304,7 +301,10 @@ module _ (d : SpiTable) (fits : FitsSpi d) (below : Reservations) (chip : Chip) 
 
     nexts : (n value q i v : ℕ) → RunsNone d under_way works j → (p : Pending) → Contains under_way p → p.sequence ≡ q → i < length (jobs_of d q) → slice_index_or (jobs_of d q) i 0 ≡ j → v ≡ p.next
         → JobMakes n value (if nat_le v i then (place.Next q i, Some SpiJobQueued) else (place.Result, None))
-    nexts n value q i v none p there of lt at e = whether (nat_le v i)
+    nexts n value q i v none p there of lt at e =
+        let within : i < length (jobs_of d p.sequence) = subst (λ k. i < length (jobs_of d k)) (sym of) lt in
+        let is_at : slice_index_or (jobs_of d p.sequence) i 0 ≡ j = subst (λ k. slice_index_or (jobs_of d k) i 0 ≡ j) (sym of) at in
+        whether (nat_le v i)
         (λ f. subst (λ b. JobMakes n value (if b then (place.Next q i, Some SpiJobQueued) else (place.Result, None))) (sym f) (tells n value (place.Next q i) SpiJobQueued (sym (queued p i there none (let l = le v i f in omega (arith, l, e)) within is_at))))
         (λ f. subst (λ b. JobMakes n value (if b then (place.Next q i, Some SpiJobQueued) else (place.Result, None))) (sym f) (goes_to n value place.Result (left_none p i there (let l = gt v i f in omega (arith, l, e)) within is_at)))
       where
@@ -313,12 +313,6 @@ module _ (d : SpiTable) (fits : FitsSpi d) (below : Reservations) (chip : Chip) 
 
         gt : (a b : ℕ) → nat_le a b ≡ false → b < a
         gt a b f = grind (arith, nat_tests)
-
-        within : i < length (jobs_of d p.sequence)
-        within = subst (λ k. i < length (jobs_of d k)) (sym of) lt
-
-        is_at : slice_index_or (jobs_of d p.sequence) i 0 ≡ j
-        is_at = subst (λ k. slice_index_or (jobs_of d k) i 0 ≡ j) (sym of) at
 
     job_steps : (p : JobPlace) → JobAt d under_way works j p → (n value : ℕ) → job_move r p ≡ Load n → value ≡ word_of chip n → JobMakes n value (job_took r p value)
     job_steps place.Running at n value move is_value = by (h.going k.unit) refl
@@ -358,17 +352,17 @@ job_less r place.Running x = by (is_running_job r.job (run_in x))
     by : (q : Bool) → let t : JobPlace × Option AnswerName = if q then (place.Running, Some SpiJobPending) else (place.Look 0, None) in ShortensTo 12 (job_fuel t.0) (answers_by t.1).done
     by true = omega arith
     by false = omega arith
-job_less r (place.Look q) x = by (x == PENDING)
+job_less r (place.Look q) x = looked_less (x == PENDING)
   where
     after : (b : Bool) → nat_lt q 7 ≡ b → job_fuel (if b then place.Look (q + 1) else place.Result) < 3 + (8 - q)
     after true e = let lt : q < 7 = is_below q 7 e in omega (arith, lt)
     after false e = omega arith
 
-    by : (b : Bool) → job_fuel (job_looked r q b) < 3 + (8 - q)
-    by true =
+    looked_less : (b : Bool) → job_fuel (job_looked r q b) < 3 + (8 - q)
+    looked_less true =
         elim (place_in (jobs_list r.table q) r.job) as (λ o. job_fuel (by_place q o) < 3 + (8 - q))
         [ None ↦ after (nat_lt q 7) refl | Some i ↦ omega arith ]
-    by false = after (nat_lt q 7) refl
+    looked_less false = after (nat_lt q 7) refl
 job_less r (place.Next q i) x = by (nat_le (next_in x q) i)
   where
     by : (b : Bool) → let t : JobPlace × Option AnswerName = if b then (place.Next q i, Some SpiJobQueued) else (place.Result, None) in ShortensTo 2 (job_fuel t.0) (answers_by t.1).done
@@ -407,7 +401,7 @@ module _ (d : SpiTable) (fits : FitsSpi d) where
   may_first k low high = may_store d fits k 0 (own_first d k low high)
 
   query_own : (below : Reservations) (chip : Chip) (w : World) (s : SpiState) (k : QueryBody) (o : Origin Call) (t : FrameHistory) → AssertedAt (spi_basis d) (query_bodies d) below chip w s k o t → is_shared (query_work k) || may d (query_work k) ≡ true
-  query_own below chip w s (query.Job r) o t (h, (j, asks, is, at)) = by r.place at
+  query_own below chip w s (query.Job r) o t (h, (j, asks, is, at)) = job_own r.place at
     where
       unit : r.unit < 2
       unit = subst (λ n. n < 2) (sym is.unit) (fits.jobs j is.job is.known).unit
@@ -415,11 +409,11 @@ module _ (d : SpiTable) (fits : FitsSpi d) where
       small : r.job < 16
       small = let lt = in_list d.jobs j is.job is.known in let n = is.number in omega (arith, lt, n, fits.rows.1)
 
-      by : (p : JobPlace) → JobStands d s.pending (view s).begun (is_running s) j p → is_shared (job_move r p) || may d (job_move r p) ≡ true
-      by place.Running i = may_first (running_word r.unit) (omega arith) (omega (arith, unit))
-      by (place.Look q) i = may_first (sequence_word q) (omega arith) (let lt = i.0 in omega (arith, lt))
-      by (place.Next q n) i = may_first NEXTS (omega arith) (omega arith)
-      by place.Result i = may_first (job_word r.job) (omega arith) (omega (arith, small))
+      job_own : (p : JobPlace) → JobStands d s.pending (view s).begun (is_running s) j p → is_shared (job_move r p) || may d (job_move r p) ≡ true
+      job_own place.Running i = may_first (running_word r.unit) (omega arith) (omega (arith, unit))
+      job_own (place.Look q) i = may_first (sequence_word q) (omega arith) (let lt = i.0 in omega (arith, lt))
+      job_own (place.Next q n) i = may_first NEXTS (omega arith) (omega arith)
+      job_own place.Result i = may_first (job_word r.job) (omega arith) (omega (arith, small))
   query_own below chip w s (query.Sequence q) o t (h, (n, asks, lt, at)) = may_first (sequence_word q) (omega arith) (omega (arith, lt, at))
   query_own below chip w s (query.Unit u) o t (h, (n, asks, lt, at)) = may_first (running_word u) (omega arith) (omega (arith, lt, at))
 

@@ -7,8 +7,8 @@ use Terms.{acts_by, Adding, agrees_after, Answer, answers, ap, AreEnding, arith,
 use Terms.{BanksAgree, begins_word, Bool, Call, Called, Channel, channel_at, channel_of, Chip, chip_after, Contains}
 use Terms.{control_word, DiffersIn, ended_by, EOk, error_by, false, first_items, FitsSpi, FrameHistory, fresh_history}
 use Terms.{gap_at, gave, happened, has_ended, holds_at, is_closed, is_off, is_own_word, is_shared, Is_this_frame}
-use Terms.{IsThisFrame, KeepsMask, kept-word, length, length_by, length_push, List, Load, LongBodies, MakesTo, Mask}
-use Terms.{may, MayStop, Memory, missed_after, moved, named_with, nat_lt, nat_tests, never_clean, newest-in, None}
+use Terms.{IsThisFrame, KeepsMask, kept-word, length, length_by, length_push, List, Load, LongBodies, lt_from}
+use Terms.{MakesTo, Mask, may, MayStop, Memory, missed_after, moved, named_with, nat_lt, never_clean, newest-in, None}
 use Terms.{one_more, Option, or_rest, Order, Origin, Outside, owes_nothing, own-control, own-word, pins, place_at}
 use Terms.{Placed, placed_of, PointAssertion, prepares, read_answer, ReadBody, ReadIb, readied_in, Reading, ReadPlace}
 use Terms.{ready, Received, refl, releases, Reservation, Reservations, resets_chip, RightOr, ShortensTo, slice_index}
@@ -255,13 +255,13 @@ module _ (d : SpiTable) (fits : FitsSpi d) (below : Reservations) (chip : Chip) 
 onward : (d : SpiTable) (below : Reservations) (chip : Chip) (w : World) (s : SpiState) (r : ReadBody) (ws : List ℕ) (c : ℕ) (k : Channel) (xs : List ℕ) → IsReader d r below c k → r.placed.channel.length ≡ k.length → length xs ≡ k.length → k.length ≤ 64 → r.bank < 3
     → ws ≡ take (length ws) xs → length ws ≤ length xs → SpiRepresents d (record { by = Called (asks c); what = Reading r.placed.number r.bank; acted = Some (named_with EOk xs) } ∷ below) chip w s
     → AssertedAt (spi_basis d) (read_bodies d) below chip w s (record r { words = ws; place = read_further r.placed ws }) (Called (asks c)) (answered xs)
-onward d below chip w s r ws c k xs i len count few lt part le h = by (nat_lt (length ws) 64) refl (nat_lt (length ws) r.placed.channel.length) refl
+onward d below chip w s r ws c k xs i len count few lt part le h = asserted_further (nat_lt (length ws) 64) refl (nat_lt (length ws) r.placed.channel.length) refl
   where
     reader : (p : ReadPlace) → IsReader d (record r { words = ws; place = p }) below c k
     reader p = record { known = i.known; internal = i.internal; placed = i.placed; alone = i.alone }
 
-    by : (a : Bool) → nat_lt (length ws) 64 ≡ a → (b : Bool) → nat_lt (length ws) r.placed.channel.length ≡ b → AssertedAt (spi_basis d) (read_bodies d) below chip w s (record r { words = ws; place = if nat_lt (length ws) 64 && nat_lt (length ws) r.placed.channel.length then read.Load else read.Shut }) (Called (asks c)) (answered xs)
-    by a ea b eb = subst (λ q. AssertedAt (spi_basis d) (read_bodies d) below chip w s (record r { words = ws; place = if q then read.Load else read.Shut }) (Called (asks c)) (answered xs)) (sym (ap (λ q. q && nat_lt (length ws) r.placed.channel.length) ea ∙ ap (λ q. a && q) eb)) (split a ea b eb)
+    asserted_further : (a : Bool) → nat_lt (length ws) 64 ≡ a → (b : Bool) → nat_lt (length ws) r.placed.channel.length ≡ b → AssertedAt (spi_basis d) (read_bodies d) below chip w s (record r { words = ws; place = if nat_lt (length ws) 64 && nat_lt (length ws) r.placed.channel.length then read.Load else read.Shut }) (Called (asks c)) (answered xs)
+    asserted_further a ea b eb = subst (λ q. AssertedAt (spi_basis d) (read_bodies d) below chip w s (record r { words = ws; place = if q then read.Load else read.Shut }) (Called (asks c)) (answered xs)) (sym (ap (λ q. q && nat_lt (length ws) r.placed.channel.length) ea ∙ ap (λ q. a && q) eb)) (split a ea b eb)
       where
         done : length ws ≡ length xs → ws ≡ xs
         done e = part ∙ take_all (length ws) xs (omega (arith, e))
@@ -351,11 +351,8 @@ module _ (d : SpiTable) (fits : FitsSpi d) (below : Reservations) (chip : Chip) 
       v : ℕ
       v = word_of chip (bank_word r.placed Received r.bank (length r.words))
 
-      fits64 : (n : ℕ) → n < 64 → nat_lt n 64 ≡ true
-      fits64 n lt = grind (arith, nat_tests)
-
       word_is : read_word r.words v ≡ r.words ++ v ∷ []
-      word_is = ap (λ b. if b then r.words ++ v ∷ [] else r.words) (fits64 (length r.words) (omega (arith, less, count, few)))
+      word_is = ap (λ b. if b then r.words ++ v ∷ [] else r.words) (lt_from (length r.words) 64 (omega (arith, less, count, few)))
 
       longer : length (r.words ++ v ∷ []) ≡ length r.words + 1
       longer = length_push r.words v
@@ -396,11 +393,11 @@ read_less r (read.Pin p) x = by (has_ended (take_gave p x)) refl
     by true e = omega arith
     by false e = let lt = take_less p x e in omega (arith, lt)
 read_less r read.Opens x = further_less r r.words (9 + r.placed.channel.length) (omega arith) (λ e. omega arith)
-read_less r read.Load x = by (nat_lt (length r.words) 64) refl
+read_less r read.Load x = loaded_less (nat_lt (length r.words) 64) refl
   where
-    by : (q : Bool) → nat_lt (length r.words) 64 ≡ q → let ws = if q then r.words ++ x ∷ [] else r.words in read_fuel_at (record r { words = ws; place = read_further r.placed ws }) (read_further r.placed ws) < 8 + (r.placed.channel.length - length r.words)
-    by true e = further_less r (r.words ++ x ∷ []) (8 + (r.placed.channel.length - length r.words)) (omega arith) (λ f. let n = length_push r.words x in let lt = is_below (length (r.words ++ x ∷ [])) r.placed.channel.length f in omega (arith, n, lt))
-    by false e = none
+    loaded_less : (q : Bool) → nat_lt (length r.words) 64 ≡ q → let ws = if q then r.words ++ x ∷ [] else r.words in read_fuel_at (record r { words = ws; place = read_further r.placed ws }) (read_further r.placed ws) < 8 + (r.placed.channel.length - length r.words)
+    loaded_less true e = further_less r (r.words ++ x ∷ []) (8 + (r.placed.channel.length - length r.words)) (omega arith) (λ f. let n = length_push r.words x in let lt = is_below (length (r.words ++ x ∷ [])) r.placed.channel.length f in omega (arith, n, lt))
+    loaded_less false e = none
       where
         none : read_fuel_at (record r { words = r.words; place = read_further r.placed r.words }) (read_further r.placed r.words) < 8 + (r.placed.channel.length - length r.words)
         none = subst (λ b. read_fuel_at (record r { words = r.words; place = if b && nat_lt (length r.words) r.placed.channel.length then read.Load else read.Shut }) (if b && nat_lt (length r.words) r.placed.channel.length then read.Load else read.Shut) < 8 + (r.placed.channel.length - length r.words)) (sym e) (omega arith)

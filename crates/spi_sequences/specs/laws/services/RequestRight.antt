@@ -7,7 +7,7 @@ use Terms.{accepted, Add, add-ends, add_gave, adding, after_request, Answer, ap,
 use Terms.{Chip, chip_after, CommitsAfter, Contains, Contains-append_left, Contains-push_cases, Debt, DiffersIn}
 use Terms.{entries_of, false, filter, FitsSpi, Going, holds-agree, inl, inr, is_for, is_held, is_off, is_owed}
 use Terms.{is_running, is_some, is_sync_sequence, is_sync_unit, IsPart, IsSoundState, job_word, jobs_of, length}
-use Terms.{MARKS, NEXTS, None, one_owed, Option, order_places, order_word, Origin, PartTo, PENDING, Pending}
+use Terms.{MARKS, NEXTS, None, one_owed, Option, or_right, order_places, order_word, Origin, PartTo, PENDING, Pending}
 use Terms.{PendingWrites, position_word, refl, request_adds, RequestPlace, Reservations, running_word, RunsBy}
 use Terms.{RunsNext, same_or_other, Sequence, sequence_of, sequence_word, SequencesAgree, settles_part, shares_job}
 use Terms.{slice_index_or, Some, spi_owing, SpiRepresents, SpiState, SpiTable, stands-move, StandsIn, STATE, Store}
@@ -66,10 +66,10 @@ module _ (d : SpiTable) (fits : FitsSpi d) (below : Reservations) (chip : Chip) 
 
   -- the sequence runs no job
   rests : is_running s q ≡ false
-  rests = not_true (is_running s q) (λ e. by (runs_on d fits below chip w s h q e))
+  rests = not_true (is_running s q) (λ e. runs_nowhere (runs_on d fits below chip w s h q e))
     where
-      by : RunsOn d fits below chip w s h q → ⊥
-      by r =
+      runs_nowhere : RunsOn d fits below chip w s h q → ⊥
+      runs_nowhere r =
           let there = (going_asked d fits below chip w s h r.unit r.job r.few r.async r.is).0 in
           let none = any_none (λ p. held_by q p) s.pending free r.job.pending there in
           let f = sym none ∙ ap (λ b. b || shares_with q r.job.pending) (ap (λ n. n == q) r.of ∙ same_number q) in cc
@@ -167,18 +167,12 @@ module _ (d : SpiTable) (fits : FitsSpi d) (below : Reservations) (chip : Chip) 
         (word_same STATE (apart STATE (inl state_at.1)) (before_sequences q STATE state_at.2) state_apart.0 state_apart.1) runs_same after.pending after.requests after.sequence_results after.job_results ((few, on, async), h.right) (tt, h.sending) h.carriers soundly (λ u lt. nexts_kept u lt (h.going u) (h.nexts u lt)) wordly owed
       where
         owed_by : (u : ℕ) (p : Pending) → u < 2 → h.going u ≡ None → is_for d u p ≡ true → Contains s.pending p ⊎ (new d fits (view s) h.sound q small x known free async rests on ≡ p) → (unit == u) || is_owed u below ≡ true
-        owed_by u p lt none for (inl there) = or_right (unit == u) (h.owed u p lt none there for)
-          where
-            or_right : (a : Bool) {b : Bool} → b ≡ true → a || b ≡ true
-            or_right true e = refl
-            or_right false e = e
+        owed_by u p lt none for (inl there) = or_right (unit == u) _ (h.owed u p lt none there for)
         owed_by u p lt none for (inr e) =
+            let some_job : 0 < length (jobs_of d q) = some d fits (view s) h.sound q small x known free async rests on in
             let at : is_for d u (new d fits (view s) h.sound q small x known free async rests on) ≡ true = subst (λ z. is_for d u z ≡ true) (sym e) for in
             let same : unit ≡ u = one_unit d unit u (slice_index_or (jobs_of d q) 0 0) (job_unit d fits q 0 (some_job)) at in
             ap (λ b. b || is_owed u below) (ap (λ n. unit == n) (sym same) ∙ same_number unit)
-          where
-            some_job : 0 < length (jobs_of d q)
-            some_job = some d fits (view s) h.sound q small x known free async rests on
 
         owed : AreOwed d (record { by = by; what = Debt unit; acted = acted } ∷ below) h.going after
         owed u p lt none there for = owed_by u p lt none for (Contains-push_cases s.pending (new d fits (view s) h.sound q small x known free async rests on) p there)

@@ -8,7 +8,7 @@ use Terms.{cases, Channel, channel-seen, channel_at, channel_of, ChannelFits, Ch
 use Terms.{Contains, EOk, error_by, false, FitsSpi, flat_map-cons, FrameHistory, fresh_history, Going, happened}
 use Terms.{held_word, HeldRight, HoldsArrays, inl, inr, is_off, is_own_word, is_shared, Is_this_frame, is_users}
 use Terms.{is_word_of, IsSoundState, IsThisFrame, item-other, item-same, length, length_by, List, Load, LongBodies}
-use Terms.{may, Mode, moved, named, nat_lt, nat_tests, never_clean, None, Order, Origin, packed, Part, place_at}
+use Terms.{lt_from, may, Mode, moved, named, nat_lt, never_clean, None, Order, Origin, packed, Part, place_at}
 use Terms.{place_of, Placed, placed_of, PointAssertion, Pointer, Preparing, refl, Reservation, Reservations}
 use Terms.{ReservedBy, resets_chip, Right, RunsNext, same_or_other, set_up_code, set_up_word, SetUpBody, SetupEb}
 use Terms.{SetUpFits, slice_get, Some, Source, source_word, spi_basis, SpiRepresents, SpiState, SpiTable, stands-move}
@@ -170,16 +170,10 @@ module _ (d : SpiTable) (fits : FitsSpi d) where
       }))
 
   pub may_store : (k v : ℕ) → is_own_word d k ≡ true → may d (Store k v) ≡ true
-  may_store k v own = let low = own_low d fits k own in ap (λ q. q && nat_lt k WORDS) (word_of_own d k own) ∙ below k (omega (arith, low))
-    where
-      below : (k : ℕ) → k < WORDS → nat_lt k WORDS ≡ true
-      below k lt = grind (arith, nat_tests)
+  may_store k v own = let low = own_low d fits k own in ap (λ q. q && nat_lt k WORDS) (word_of_own d k own) ∙ lt_from k WORDS (omega (arith, low))
 
   pub may_users : (k : ℕ) → is_word_of d k ≡ true → k < WORDS → may d (Load k) ≡ true
-  may_users k own lt = ap (λ q. q && nat_lt k WORDS) own ∙ below k lt
-    where
-      below : (k : ℕ) → k < WORDS → nat_lt k WORDS ≡ true
-      below k lt = grind (arith, nat_tests)
+  may_users k own lt = ap (λ q. q && nat_lt k WORDS) own ∙ lt_from k WORDS lt
 
   set_up_own : (below : Reservations) (chip : Chip) (w : World) (s : SpiState) (k : SetUpBody) (o : Origin Call) (t : FrameHistory) → AssertedAt (spi_basis d) (set_up_bodies d) below chip w s k o t → is_shared (set_up_work k) || may d (set_up_work k) ≡ true
   set_up_own below chip w s (set_up.Store x by) o t (h, (c, k, p, q, n, being, known, external, at, is, clear, on, some, few)) = subst (λ z. may d (Store (set_up_word z) (packed by)) ≡ true) (sym at) (may_store (set_up_word (placed_of d c)) (packed by) (own_set_up d fits c k known))

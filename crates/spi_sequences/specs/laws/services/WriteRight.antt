@@ -8,8 +8,8 @@ use Terms.{Bool, Call, Called, Channel, channel-seen, channel_at, channel_of, Ch
 use Terms.{choosing, commits, committing, Contains, control_word, DiffersIn, EOk, error_by, false, filling, fills}
 use Terms.{first_items, FitsSpi, FrameHistory, free_bank, fresh_history, get_or-replicate, happened, has_ended}
 use Terms.{is_closed, is_off, is_own_word, is_shared, is_some, Is_this_frame, IsReady, IsThisFrame, item-other}
-use Terms.{item-same, length, length-replicate, length-take-le, length_by, List, Load, LongBodies, Mask, may, Memory}
-use Terms.{moved, named, nat_lt, nat_tests, never_clean, None, Null, Option, or_rest, Order, Origin, Outside}
+use Terms.{item-same, length, length-replicate, length-take-le, length_by, List, Load, LongBodies, lt_from, Mask, may}
+use Terms.{Memory, moved, named, nat_lt, nat_tests, never_clean, None, Null, Option, or_rest, Order, Origin, Outside}
 use Terms.{own-control, own-word, place_at, place_of, placed_of, PointAssertion, Pointer, prepares, Put, put_gave}
 use Terms.{put_held, put_left, put_more, Putting, readied_in, refl, Reservation, Reservations, resets_chip, Right}
 use Terms.{Sent, Shortens, slice_index_or, Some, Source, source_word, spi_basis, SpiRepresents, SpiState, SpiTable}
@@ -401,18 +401,11 @@ module _ (d : SpiTable) (fits : FitsSpi d) where
           ap (λ x. word_of chip (source_word x n)) i.placed ∙ (h.arrays c).source n (subst (λ z. n < length_by z) (sym i.known) (omega (arith, less, width)))
           ∙ sym (first-at k.length (channel_at s c).source n (omega (arith, less, width))) ∙ sym (ap (λ q. slice_index_or (words_from q k.length k (channel_at s c)) n 0) e) ∙ sym (ap (λ xs. slice_index_or xs n 0) (all_is d fits below r c k i s))
   write_steps below chip w s (write.Fill r b n v) o y t m (h, ((c, k, Is_this_frame, i), lt, less)) =
-      subst (λ q. AssertedAt (spi_basis d) (write_bodies d) below (chip_after chip (Store (bank_word r.placed Sent b n) v) y) w s (if q then write_from r b (n + 1) else write.Shut r b) (Called (asks c r.source)) fresh_history) (sym (few n (omega (arith, less, width, small))))
+      let width : r.placed.channel.length ≡ k.length = len d fits below r c k i in
+      let small : k.length ≤ 64 = (fits.channels c k i.known).few in
+      subst (λ q. AssertedAt (spi_basis d) (write_bodies d) below (chip_after chip (Store (bank_word r.placed Sent b n) v) y) w s (if q then write_from r b (n + 1) else write.Shut r b) (Called (asks c r.source)) fresh_history) (sym (lt_from n 255 (omega (arith, less, width, small))))
       (onward d fits below (chip_after chip (Store (bank_word r.placed Sent b n) v) y) w s r b (n + 1) c k i lt (omega (arith, less, width))
       (subst (λ x. SpiRepresents d (holding d fits below r c k i b (n + 1) None) (chip_after chip (Store (bank_word x Sent b n) v) y) w s) (sym i.placed) (filled_now d fits below chip w s r c k i b n v h (omega (arith, less, width)))))
-    where
-      width : r.placed.channel.length ≡ k.length
-      width = len d fits below r c k i
-
-      small : k.length ≤ 64
-      small = (fits.channels c k i.known).few
-
-      few : (n : ℕ) → n < 255 → nat_lt n 255 ≡ true
-      few n lt = grind (arith, nat_tests)
   write_steps below chip w s (write.Shut r b) o y t m (h, ((c, k, Is_this_frame, i), lt)) = (apart_agrees d fits _ chip w s Mask y refl h, ((c, k, Is_this_frame, i), lt, (refl, refl)))
   write_steps below chip w s (write.Commit r b (puts.Commit j n)) o y t m (h, (writing, lt, (at, is))) = (h, (writing, lt, (at, ap (λ z. z % 4 + 4 * (word_of chip j / 4)) is)))
   write_steps below chip w s (write.Commit r b (puts.Tell j v)) o y t m (h, ((c, k, Is_this_frame, i), lt, (at, is))) = record {

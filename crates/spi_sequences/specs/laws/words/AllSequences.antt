@@ -33,16 +33,16 @@ module _ (v : View) where
       by (suc (suc u)) lt f = absurd (omega (arith, lt))
 
   pub all_cases : (p : Pending) → Contains (all_of v) p → Contains v.pending p ⊎ ((u : ℕ) × (v.begun u ≡ Some p))
-  all_cases p there = by (Contains-append_cases v.pending others p there)
+  all_cases p there = queued_or_begun (Contains-append_cases v.pending others p there)
     where
       one : (u : ℕ) (o : Option Pending) → v.begun u ≡ o → Contains (entries_begun o) p → (u : ℕ) × (v.begun u ≡ Some p)
       one u None e (k, lt, at) = absurd (omega (arith, lt))
       one u (Some x) e (zero, lt, at) = (u, e ∙ ap (λ z. Some z) at)
       one u (Some x) e (suc k, lt, at) = absurd (omega (arith, lt))
 
-      by : Contains v.pending p ⊎ Contains others p → Contains v.pending p ⊎ ((u : ℕ) × (v.begun u ≡ Some p))
-      by (inl there) = inl there
-      by (inr there) = inr (cases (Contains-append_cases (entries_begun (v.begun 0)) (entries_begun (v.begun 1)) p there)
+      queued_or_begun : Contains v.pending p ⊎ Contains others p → Contains v.pending p ⊎ ((u : ℕ) × (v.begun u ≡ Some p))
+      queued_or_begun (inl there) = inl there
+      queued_or_begun (inr there) = inr (cases (Contains-append_cases (entries_begun (v.begun 0)) (entries_begun (v.begun 1)) p there)
           (λ there. one 0 (v.begun 0) refl there)
           (λ there. one 1 (v.begun 1) refl there))
 
@@ -90,13 +90,12 @@ job_on d fits q j (i, lt, at) = subst (λ n. is_on_unit (unit_of_sequence d q) (
 
 -- and two sequences that share a job have one unit
 pub shares_unit : (d : SpiTable) → FitsSpi d → (p q : ℕ) → shares_job d p q ≡ true → unit_of_sequence d p ≡ unit_of_sequence d q
-shares_unit d fits p q e = by (any_some (has_job d p) (jobs_of d q) e)
+shares_unit d fits p q e =
+    let (j, there, has) = any_some (has_job d p) (jobs_of d q) e in
+    found j there (any_some (λ k. k == j) (jobs_of d p) has)
   where
     found : (j : ℕ) → Contains (jobs_of d q) j → (k : ℕ) × Contains (jobs_of d p) k × ((k == j) ≡ true) → unit_of_sequence d p ≡ unit_of_sequence d q
     found j there (k, also, same) = one_unit d (unit_of_sequence d p) (unit_of_sequence d q) j (subst (λ n. is_on_unit (unit_of_sequence d p) (job_of d n) ≡ true) (is_number k j same) (job_on d fits p k also)) (job_on d fits q j there)
-
-    by : (j : ℕ) × Contains (jobs_of d q) j × (has_job d p j ≡ true) → unit_of_sequence d p ≡ unit_of_sequence d q
-    by (j, there, has) = found j there (any_some (λ k. k == j) (jobs_of d p) has)
 
 -- ---- each is of one unit
 
@@ -113,7 +112,7 @@ module _ (d : SpiTable) (fits : FitsSpi d) (v : View) (h : IsSoundState d v) whe
 
   -- two that share a job are one
   pub one_of_all : (p q : Pending) → Contains (all_of v) p → Contains (all_of v) q → shares_job d p.sequence q.sequence ≡ true → shares_job d q.sequence p.sequence ≡ true → p ≡ q
-  one_of_all p q there also share back = by (all_cases v p there) (all_cases v q also)
+  one_of_all p q there also share back = same_entry (all_cases v p there) (all_cases v q also)
     where
       unit : unit_of_sequence d p.sequence ≡ unit_of_sequence d q.sequence
       unit = shares_unit d fits p.sequence q.sequence share
@@ -136,8 +135,8 @@ module _ (d : SpiTable) (fits : FitsSpi d) (v : View) (h : IsSoundState d v) whe
       unlike : (a b : Pending) (u : ℕ) → Contains v.pending a → v.begun u ≡ Some b → unit_of_sequence d a.sequence ≡ unit_of_sequence d b.sequence → p ≡ q
       unlike a b u is e same = absurd (let r = h.carries.unit u b e in let f = sym (h.carries.asked a is) ∙ ap (is_sync_unit d) (same ∙ r.2) ∙ r.1 in cc)
 
-      by : Contains v.pending p ⊎ ((u : ℕ) × (v.begun u ≡ Some p)) → Contains v.pending q ⊎ ((u : ℕ) × (v.begun u ≡ Some q)) → p ≡ q
-      by (inl a) (inl b) = both a b
-      by (inl a) (inr (u, e)) = unlike p q u a e unit
-      by (inr (u, e)) (inl b) = unlike q p u b e (sym unit)
-      by (inr (u, e)) (inr (n, f)) = same_Some p q (sym e ∙ ap v.begun (sym (h.carries.unit u p e).2 ∙ unit ∙ (h.carries.unit n q f).2) ∙ f)
+      same_entry : Contains v.pending p ⊎ ((u : ℕ) × (v.begun u ≡ Some p)) → Contains v.pending q ⊎ ((u : ℕ) × (v.begun u ≡ Some q)) → p ≡ q
+      same_entry (inl a) (inl b) = both a b
+      same_entry (inl a) (inr (u, e)) = unlike p q u a e unit
+      same_entry (inr (u, e)) (inl b) = unlike q p u b e (sym unit)
+      same_entry (inr (u, e)) (inr (n, f)) = same_Some p q (sym e ∙ ap v.begun (sym (h.carries.unit u p e).2 ∙ unit ∙ (h.carries.unit n q f).2) ∙ f)

@@ -1,5 +1,5 @@
 -- A proof by cases, told where it is needed: of one of two facts, of a test, and of a value that may be there.
--- Used by bookkeeping.SequenceEnded, services.CancelRight, services.InitWords and 71 more.
+-- Used by bookkeeping.SequenceEnded, services.CancelRight, services.InitWords and 72 more.
 use Rattle.std.proofs.Common.{◌≡◌, ◌⊎◌}
 use Rattle.std.proofs.Common.{Bool, false, inl, inr, None, Option, refl, Some, true}
 

@@ -3,12 +3,13 @@
 -- Used by spi_sending: services.SendGoesOn, spi_sending: services.SendLast and 24 more.
 use Rattle.std.proofs.Common.{◌≡◌, ◌≢◌, ◌+◌, ◌-◌, ◌<◌, ◌≤◌, ◌==◌, ◌∙◌, if◌then◌else◌}
 use Rattle.spi_sequences.specs.Terms
-use Terms.{ap, arith, Bool, Contains, Contains-get_or, drop, false, FitsSpi, get_or-drop, get_or-take, get_or_default}
-use Terms.{is_on_unit, job_at_place, job_number, job_of, jobs_by, jobs_list, jobs_of, length, length-drop}
-use Terms.{length-take-le, List, list_any, nat_lt, nat_tests, None, Option, or_else, place_before, place_in, refl}
-use Terms.{Sequence, sequence_of, slice_get, slice_index_or, Some, some_or_none, SpiTable, subst, suc, sym, true}
-use Terms.{unit_by, unit_of_sequence, zero, ℕ}
-use Rattle.spi_sequences.specs.laws.words.ListTests.{any_in, any_some, at_contained, is_number, same_number}
+use Terms.{ap, arith, Bool, cases, Contains-get_or, drop, eq_isnt, false, FitsSpi, get_or-drop, get_or-take}
+use Terms.{get_or_default, is_left, is_on_unit, job_at_place, job_number, job_of, jobs_by, jobs_list, jobs_of, length}
+use Terms.{length-drop, length-take-le, List, list_any, nat_lt, next_job, None, Option, or_else, Pending}
+use Terms.{place_before, place_in, refl, same_or_other, Sequence, sequence_of, slice_get, slice_index_or, Some}
+use Terms.{some_or_none, SpiTable, subst, suc, sym, true, unit_by, unit_of_sequence, zero, ℕ}
+use Rattle.spi_sequences.specs.laws.words.ListTests.{any_in, any_some, at_contained, is_number, not_true}
+use Rattle.spi_sequences.specs.laws.words.ListTests.{last_below, same_number}
 use Rattle.spi_machine.specs.Wiring as wiring
 use Rattle.mcal_base.specs.facts.Numbers.{lt_is}
 
@@ -34,12 +35,10 @@ pub record LeftAt (xs : List ℕ) (n j : ℕ) : Type 0 where
   pub is : slice_index_or xs place 0 ≡ j
 
 pub at_left : (xs : List ℕ) (n j : ℕ) → list_any (λ k. k == j) (drop n xs) ≡ true → LeftAt xs n j
-at_left xs n j e = by (any_some (λ k. k == j) (drop n xs) e)
-  where
-    by : (x : ℕ) × Contains (drop n xs) x × ((x == j) ≡ true) → LeftAt xs n j
-    by (x, (k, lt, at), is) =
-        let rest = length-drop n xs in
-        record { place = n + k; from = omega arith; within = omega (arith, rest, lt); is = sym (get_or-drop n xs k 0) ∙ get_or_default (drop n xs) k 0 x lt ∙ at ∙ is_number x j is }
+at_left xs n j e =
+    let (x, (k, lt, at), is) = any_some (λ k. k == j) (drop n xs) e in
+    let rest = length-drop n xs in
+    record { place = n + k; from = omega arith; within = omega (arith, rest, lt); is = sym (get_or-drop n xs k 0) ∙ get_or_default (drop n xs) k 0 x lt ∙ at ∙ is_number x j is }
 
 -- ---- places among the jobs of a sequence
 
@@ -53,21 +52,15 @@ found_before xs j (suc n) i e = by (slice_index_or xs n 0 == j) refl e (found_be
 
 missing_before : (xs : List ℕ) (j n i : ℕ) → place_before xs j n ≡ None → i < n → slice_index_or xs i 0 ≢ j
 missing_before xs j zero i e lt f = absurd (omega (arith, lt))
-missing_before xs j (suc n) i e lt f = by (slice_index_or xs n 0 == j) refl e (λ g less. missing_before xs j n i g less f)
+missing_before xs j (suc n) i e lt f = not_before (slice_index_or xs n 0 == j) refl e (λ g less. missing_before xs j n i g less f)
   where
-    by : (q : Bool) → (slice_index_or xs n 0 == j) ≡ q → (if q then Some n else place_before xs j n) ≡ None → (place_before xs j n ≡ None → i < n → ⊥) → ⊥
-    by true g h rest = cc
-    by false g h rest = last (nat_lt i n) refl
+    not_before : (q : Bool) → (slice_index_or xs n 0 == j) ≡ q → (if q then Some n else place_before xs j n) ≡ None → (place_before xs j n ≡ None → i < n → ⊥) → ⊥
+    not_before true g h rest = cc
+    not_before false g h rest = last (nat_lt i n) refl
       where
-        unlike : (a b : ℕ) → (a == b) ≡ false → a ≡ b → ⊥
-        unlike a b u v = grind (arith, nat_tests)
-
         last : (b : Bool) → nat_lt i n ≡ b → ⊥
         last true u = rest h (lt_is i n u)
-        last false u = unlike (slice_index_or xs n 0) j g (ap (λ k. slice_index_or xs k 0) (sym (at i n lt u)) ∙ f)
-          where
-            at : (i n : ℕ) → i < suc n → nat_lt i n ≡ false → i ≡ n
-            at i n lt u = grind (arith, nat_tests)
+        last false u = eq_isnt (slice_index_or xs n 0) j g (ap (λ k. slice_index_or xs k 0) (sym (last_below i n (omega (arith, lt)) u)) ∙ f)
 
 module _ (d : SpiTable) (fits : FitsSpi d) (q : ℕ) where
   -- the list that a frame reads has its jobs
@@ -117,11 +110,11 @@ module _ (d : SpiTable) (fits : FitsSpi d) (q : ℕ) where
 
   -- its jobs are for its unit
   pub job_unit : (i : ℕ) → i < length (jobs_of d q) → is_on_unit (unit_of_sequence d q) (job_of d (slice_index_or (jobs_of d q) i 0)) ≡ true
-  job_unit i lt = by (sequence_of d q) refl
+  job_unit i lt = on_unit (sequence_of d q) refl
     where
-      by : (o : Option Sequence) → sequence_of d q ≡ o → is_on_unit (unit_of_sequence d q) (job_of d (slice_index_or (jobs_of d q) i 0)) ≡ true
-      by None e = absurd (let none : length (jobs_of d q) ≡ 0 = ap (λ o. length (jobs_by o)) e in omega (arith, lt, none))
-      by (Some k) e =
+      on_unit : (o : Option Sequence) → sequence_of d q ≡ o → is_on_unit (unit_of_sequence d q) (job_of d (slice_index_or (jobs_of d q) i 0)) ≡ true
+      on_unit None e = absurd (let none : length (jobs_of d q) ≡ 0 = ap (λ o. length (jobs_by o)) e in omega (arith, lt, none))
+      on_unit (Some k) e =
           let f = fits.sequences q k e in
           let first = Contains-get_or (jobs_of d q) 0 0 (omega (arith, lt)) in
           let own = Contains-get_or (jobs_of d q) i 0 lt in
@@ -131,3 +124,25 @@ module _ (d : SpiTable) (fits : FitsSpi d) (q : ℕ) where
           let small = (fits.jobs (slice_index_or (jobs_of d q) 0 0) a.1 a.2).unit in
           let unit : unit_of_sequence d q ≡ a.1.unit = ap (λ j. unit_by (job_of d j)) (job_place 0 (omega (arith, lt))) ∙ ap unit_by a.2 ∙ omega (arith, small) in
           ap (is_on_unit (unit_of_sequence d q)) b.2 ∙ ap (λ n. b.1.unit == n) (unit ∙ same) ∙ same_number b.1.unit
+
+-- ---- the jobs that are left of a pending sequence: its next one, and those behind it
+
+module _ (d : SpiTable) (fits : FitsSpi d) (p : Pending) (within : p.next < length (jobs_of d p.sequence)) where
+  abbrev pub is_behind : ℕ → Bool
+  is_behind j = list_any (λ k. k == j) (drop (p.next + 1) (jobs_of d p.sequence))
+
+  pub next_left : is_left d (next_job d p) p ≡ true
+  next_left = left_at (jobs_of d p.sequence) p.next p.next (next_job d p) within (omega arith) refl
+
+  pub next_ahead : is_behind (next_job d p) ≡ false
+  next_ahead = not_true (is_behind (next_job d p)) (λ e. by (at_left (jobs_of d p.sequence) (p.next + 1) (next_job d p) e))
+    where
+      by : LeftAt (jobs_of d p.sequence) (p.next + 1) (next_job d p) → ⊥
+      by a = let same = one_place d fits p.sequence a.place p.next a.within within a.is in let from = a.from in omega (arith, same, from)
+
+  pub is_next : (j : ℕ) → is_left d j p ≡ true → is_behind j ≡ false → j ≡ next_job d p
+  is_next j left none =
+      let a : LeftAt (jobs_of d p.sequence) p.next j = at_left (jobs_of d p.sequence) p.next j left in
+      cases (same_or_other a.place p.next)
+      (λ e. sym a.is ∙ ap (λ n. slice_index_or (jobs_of d p.sequence) n 0) e)
+      (λ ne. absurd (let from = a.from in let past : p.next + 1 ≤ a.place = omega (arith, from, ne) in let f = sym none ∙ left_at (jobs_of d p.sequence) (p.next + 1) a.place j a.within past a.is in cc))

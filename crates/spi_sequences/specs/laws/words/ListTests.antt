@@ -1,10 +1,11 @@
 -- Tests of numbers, and what is so of some of a list.
 -- From words.Cases.
 -- Used by words.WordsToState, spi_sending: bookkeeping.CarriedState, bookkeeping.AcceptedState and 74 more.
-use Rattle.std.proofs.Common.{◌≡◌, ◌≢◌, ◌<◌, ◌≤◌, ◌==◌, ◌||◌, [], ◌∷◌, ◌∙◌}
+use Rattle.std.proofs.Common.{◌≡◌, ◌≢◌, ◌+◌, ◌<◌, ◌≤◌, ◌==◌, ◌||◌, [], ◌∷◌, ◌∙◌}
 use Rattle.spi_sequences.specs.Terms
-use Terms.{ap, arith, Bool, Contains, false, is_on_unit, Job, job_of, length, List, list_any, nat_lt, nat_tests, None}
-use Terms.{Option, refl, slice_get, slice_index_or, Some, SpiTable, suc, sym, true, whether, zero, ℕ}
+use Terms.{ap, arith, Bool, Contains, false, is_on_unit, is_some, Job, job_of, length, List, list_any, nat_lt}
+use Terms.{nat_tests, None, not, Option, refl, slice_get, slice_index_or, Some, SpiTable, suc, sym, true, whether}
+use Terms.{zero, ℕ}
 use Rattle.mcal_base.specs.facts.Truths.{or_true}
 
 -- ---- tests
@@ -60,3 +61,17 @@ one_unit d u v j e f = by (job_of d j) e f
     by : (k : Option Job) → is_on_unit u k ≡ true → is_on_unit v k ≡ true → u ≡ v
     by None e f = absurd (cc)
     by (Some k) e f = sym (is_number k.unit u e) ∙ is_number k.unit v f
+
+-- what isn't there is none
+pub none_by : {A : Type 0} (o : Option A) → not (is_some o) ≡ true → o ≡ None
+none_by None e = refl
+none_by (Some x) e = absurd (cc)
+
+-- a list that nothing is in is empty
+pub nothing_in : {A : Type 0} (xs : List A) → ((x : A) → Contains xs x → ⊥) → xs ≡ []
+nothing_in [] never = refl
+nothing_in (x ∷ xs) never = absurd (never x (0, omega arith, refl))
+
+-- what is at most a number, and not below it, is that number
+pub last_below : (i n : ℕ) → i < n + 1 → nat_lt i n ≡ false → i ≡ n
+last_below i n lt e = grind (arith, nat_tests)

@@ -1,22 +1,22 @@
 -- Numbers of words: which are none of a unit's order, and none of a sequence's. They name no words and no state, so that no
 -- search reads those.
 -- From words.ListTests.
--- Used by services.RequestRight, services.CancelRight, spi_serving: services.ToldRight and 12 more.
+-- Used by services.RequestRight, services.CancelRight, spi_serving: services.ToldRight, words.SameWords and 8 more.
 use Rattle.std.proofs.Common.{◌≡◌, ◌≢◌, ◌+◌, ◌<◌, ◌≤◌, ◌==◌, ◌||◌, ◌∙◌}
 use Rattle.spi_sequences.specs.Terms
 use Terms.{ap, arith, Bool, false, job_word, MARKS, nat_tests, NEXTS, order_word, position_word, refl, running_word}
 use Terms.{sequence_word, STATE, true, ℕ}
-use Rattle.spi_sequences.specs.laws.words.WordsToState.{is_number}
+use Rattle.spi_sequences.specs.laws.words.ListTests.{is_number}
 use Rattle.word_shapes.specs.PriorityQueue as ranked
 
 pub not_order : (u j : ℕ) → j ≢ order_word u → j ≢ order_word u + 1 → j ≢ order_word u + 2 → ranked.own_of (record { at = order_word u }) j ≡ false
-not_order u j a b c = by (j == order_word u) refl (j == order_word u + 1) refl (j == order_word u + 2) refl
+not_order u j a b c = none_of_three (j == order_word u) refl (j == order_word u + 1) refl (j == order_word u + 2) refl
   where
-    by : (x : Bool) → (j == order_word u) ≡ x → (y : Bool) → (j == order_word u + 1) ≡ y → (z : Bool) → (j == order_word u + 2) ≡ z → (j == order_word u || (j == order_word u + 1 || j == order_word u + 2)) ≡ false
-    by true e y f z g = absurd (a (is_number j (order_word u) e))
-    by false e true f z g = absurd (b (is_number j (order_word u + 1) f))
-    by false e false f true g = absurd (c (is_number j (order_word u + 2) g))
-    by false e false f false g = ap (λ x. x || (j == order_word u + 1 || j == order_word u + 2)) e ∙ ap (λ x. x || j == order_word u + 2) f ∙ g
+    none_of_three : (x : Bool) → (j == order_word u) ≡ x → (y : Bool) → (j == order_word u + 1) ≡ y → (z : Bool) → (j == order_word u + 2) ≡ z → (j == order_word u || (j == order_word u + 1 || j == order_word u + 2)) ≡ false
+    none_of_three true e y f z g = absurd (a (is_number j (order_word u) e))
+    none_of_three false e true f z g = absurd (b (is_number j (order_word u + 1) f))
+    none_of_three false e false f true g = absurd (c (is_number j (order_word u + 2) g))
+    none_of_three false e false f false g = ap (λ x. x || (j == order_word u + 1 || j == order_word u + 2)) e ∙ ap (λ x. x || j == order_word u + 2) f ∙ g
 
 pub from_order : (u j : ℕ) → ranked.own_of (record { at = order_word u }) j ≡ true → order_word u ≤ j
 from_order u j own = grind (arith, nat_tests)

@@ -108,8 +108,8 @@ module _ (d : SpiTable) (fits : FitsSpi d) (below held1 : Reservations) (chip ch
 
   run_kept : (u : ℕ) → u < 2 → (g : Option Going) → h.going u ≡ g → RunAgrees d (word_of chip) u g → RunAgrees d (word_of chip1) u g
   run_kept u lt None e r = (runs u lt).0 ∙ r
-  run_kept u lt (Some g) e r = going_words d fits u (word_of chip) (word_of chip1) g (going_next d fits below chip w s h u g lt e).2 (runs u lt).0 (runs u lt).1
-      (λ c x known. above (held_word (placed_of d c)) (past_the_first d c x _ (fits.channels c x known) (of_held d fits c x known))) (λ n x c i at known few. above (source_word (placed_of d x.channel) i) (omega arith)) r
+  run_kept u lt (Some g) e r = going_words d fits u (word_of chip) (word_of chip1) g (going_next d fits below chip w s h u g lt e).2
+      (λ n x c at known outside. above (held_word (placed_of d x.channel)) (past_the_first d x.channel c _ (fits.channels x.channel c known) (of_held d fits x.channel c known))) (λ n x c i at known few. above (source_word (placed_of d x.channel) i) (omega arith)) (runs u lt).0 (runs u lt).1 r
 
   pub firsts_changed : AllRight d s.mode s.channels held1 → AllSend d chip w h.going s held1 → AreCarried (view s) held1 → IsSoundState d (view later) → ((u : ℕ) → u < 2 → RunsNext d (view later) u (h.going u)) → SequencesAgree d (word_of chip1) (view later) → AreOwed d held1 h.going later → SpiRepresents d held1 chip1 w later
   firsts_changed right sending carried sound nexts sequences owed = record {

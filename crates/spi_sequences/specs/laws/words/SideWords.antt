@@ -226,7 +226,7 @@ module _ (d : SpiTable) (fits : FitsSpi d) (c : ℕ) (k : Channel) (e : channel_
           sequences = sequences_as d (view s) s.mode (view (with_channels s cs)).written (view (with_channels s cs)).received (view (with_channels s cs)).sources (word_of chip1) (sequences_alike d fits h.going (word_of chip) (word_of chip1) (view s) after_state held_same sources h.nexts (h.words.on on).sequences);
           runs = runs_kept;
         };
-        banks = λ n x f internal. by n x f internal (same_or_other n c);
+        banks = λ n x f internal. banks_of_each n x f internal (same_or_other n c);
         stored = λ j v is. absurd (none_in (j, v) (subst (λ xs. Contains xs (j, v)) (beside.stored ∙ none_stored d s.mode s.channels below on h.right) is));
       };
       set_ups = λ still n x f external. differs.others _ (set_up_apart n x f external) ∙ h.set_ups on n x f external ∙ ap (λ o. set_up_code o) (sym (like.set_up n));
@@ -239,11 +239,11 @@ module _ (d : SpiTable) (fits : FitsSpi d) (c : ℕ) (k : Channel) (e : channel_
       owed = λ u p lt free there for. beside.owed u ∙ h.owed u p lt free there for;
     }
       where
-        by : (n : ℕ) (x : Channel) → channel_of d n ≡ Some x → x.internal ≡ true → (n ≡ c) ⊎ (n ≢ c) → BanksAgree d held1 h.going (word_of chip1) (view (with_channels s cs)) n x
-        by n x f internal (inl at) =
+        banks_of_each : (n : ℕ) (x : Channel) → channel_of d n ≡ Some x → x.internal ≡ true → (n ≡ c) ⊎ (n ≢ c) → BanksAgree d held1 h.going (word_of chip1) (view (with_channels s cs)) n x
+        banks_of_each n x f internal (inl at) =
             let one : x ≡ k = some_is x k (sym f ∙ ap (channel_of d) at ∙ e) in
             subst (λ i. BanksAgree d held1 h.going (word_of chip1) (view (with_channels s cs)) i x) (sym at) (subst (λ z. BanksAgree d held1 h.going (word_of chip1) (view (with_channels s cs)) c z) (sym one) (own (ap (λ z. z.internal) (sym one) ∙ internal)))
-        by n x f internal (inr ne) = other_banks n x ne f internal
+        banks_of_each n x f internal (inr ne) = other_banks n x ne f internal
 
         sizes_by : (n : ℕ) (x : Channel) → channel_of d n ≡ Some x → x.internal ≡ true → (n ≡ c) ⊎ (n ≢ c) → length (slice_index_or cs n untouched).written ≡ x.length
         sizes_by n x f i (inl at) =

@@ -3,8 +3,8 @@
 -- Used by words.SideWords, spi_serving: services.WellEnded, spi_starting: services.StartAround and 62 more.
 use Rattle.std.proofs.Common.{◌≡◌, ◌≢◌, ◌+◌, ◌-◌, ◌*◌, ◌%◌, ◌<◌, ◌≤◌, ◌==◌, ◌&&◌, ◌||◌, [], ◌∷◌, ◌∙◌, if◌then◌else◌}
 use Rattle.spi_sequences.specs.Terms
-use Terms.{ap, arith, banked, block_of, Bool, Channel, channel_of, control_word, Destination, enumerate_from, false}
-use Terms.{first_word, FitsChannel, FitsSpi, held_word, is_own_word, is_users_place, is_users_word, is_within}
+use Terms.{ap, arith, banked, block_of, Bool, Channel, channel_of, control_word, Destination, enumerate_from, eq_is}
+use Terms.{false, first_word, FitsChannel, FitsSpi, held_word, is_own_word, is_users_place, is_users_word, is_within}
 use Terms.{is_word_of, length, length_by, List, list_any, nat_le, nat_lt, nat_tests, NO_CHANNEL, None, not, Option}
 use Terms.{or_else, or_left, or_right, order_word, own_words, place_of, placed_of, Received, refl, Sent, set_up_word}
 use Terms.{Side, slice_index_or, Some, Source, SpiTable, start_of, STATE, subst, suc, sym, trio_of, true, whether}
@@ -100,7 +100,7 @@ module _ (d : SpiTable) (fits : FitsSpi d) (c : ℕ) (k : Channel) (e : channel_
   in_banks internal Received j lt = let same = ap (λ x. x.length) has_channel in let size = internal_words internal in record { from = omega (arith, starts_at); below = omega (arith, starts_at, lt, same, size) }
 
   pub of_banks : k.internal ≡ true → (side : Side) (j : ℕ) → trio.own_of (trio_of (placed_of d c) side) j ≡ true → IsWordOf d c k j
-  of_banks internal side j own = by (j == control_word (placed_of d c) side) refl own
+  of_banks internal side j own = control_or_bank (j == control_word (placed_of d c) side) refl own
     where
       len : k.length ≡ (placed_of d c).channel.length
       len = sym (ap (λ x. x.length) has_channel)
@@ -111,12 +111,9 @@ module _ (d : SpiTable) (fits : FitsSpi d) (c : ℕ) (k : Channel) (e : channel_
       high : (b n : ℕ) → nat_le b j && nat_lt j (b + n) ≡ true → j < b + n
       high b n i = grind (arith, nat_tests)
 
-      equal : (n : ℕ) → (j == n) ≡ true → j ≡ n
-      equal n i = grind (arith, nat_tests)
-
-      by : (q : Bool) → (j == control_word (placed_of d c) side) ≡ q → q || (nat_le (trio_of (placed_of d c) side).banks j && nat_lt j ((trio_of (placed_of d c) side).banks + 3 * (placed_of d c).channel.length)) ≡ true → IsWordOf d c k j
-      by true i own = subst (λ n. IsWordOf d c k n) (sym (equal _ i)) (of_control side)
-      by false i own =
+      control_or_bank : (q : Bool) → (j == control_word (placed_of d c) side) ≡ q → q || (nat_le (trio_of (placed_of d c) side).banks j && nat_lt j ((trio_of (placed_of d c) side).banks + 3 * (placed_of d c).channel.length)) ≡ true → IsWordOf d c k j
+      control_or_bank true i own = subst (λ n. IsWordOf d c k n) (sym (eq_is j _ i)) (of_control side)
+      control_or_bank false i own =
           let b = (trio_of (placed_of d c) side).banks in
           let lower = low b (3 * (placed_of d c).channel.length) own in
           let higher = high b (3 * (placed_of d c).channel.length) own in

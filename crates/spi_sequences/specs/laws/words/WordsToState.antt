@@ -1,20 +1,20 @@
 -- What the words of an initialised module say: of results, of pending sequences, and of what the units run.
 -- From words.ListTests, words.AllSequences, words.Cases, words.SameWords, words.WordsOfModule.
--- Used by services.QueryRight, services.CancelRight, spi_starting: bookkeeping.UnitsGoOn and 28 more.
+-- Used by services.QueryRight, services.CancelRight, services.ModuleRight and 28 more.
 use Rattle.std.proofs.Common.{◌≡◌, ◌+◌, ◌-◌, ◌*◌, ◌/◌, ◌%◌, ◌<◌, ◌==◌, ◌||◌, ◌∙◌, if◌then◌else◌}
 use Rattle.spi_sequences.specs.Terms
 use Terms.{all_of, AnswerName, ap, arith, Bool, carried_at, CarriesAgrees, Carrying, Chip, Contains, Contains-get_or}
 use Terms.{entry_carried, false, FitsSpi, get_or_default, Going, has_job, inl, inr, is_for, is_of, is_off, is_pending}
 use Terms.{is_running, is_some, is_sync_sequence, is_sync_unit, IsLast, IsOfSequence, job_code, job_result_in}
-use Terms.{jobs_of, List, nat_lt, next_in, next_job, NEXTS, None, not, Option, PENDING, Pending, refl, Reservations}
-use Terms.{Run, run_at, run_carried, run_in, run_of, RunAgrees, Running, running_word, runs_sequence, RunsBy}
-use Terms.{RunsNext, same_Some, sequence_code, sequence_result, sequence_result_in, sequence_word, shares_job, Some}
+use Terms.{jobs_of, List, nat_lt, next_in, next_job, NEXTS, None, Option, PENDING, Pending, refl, Reservations, Run}
+use Terms.{run_at, run_carried, run_in, run_of, RunAgrees, Running, running_word, runs_sequence, RunsBy, RunsNext}
+use Terms.{same_Some, sequence_code, sequence_result, sequence_result_in, sequence_word, shares_job, Some}
 use Terms.{some_or_none, SpiBusy, SpiIdle, SpiJobFailed, SpiJobOk, SpiRepresents, SpiSeqCanceled, SpiSeqFailed}
 use Terms.{SpiSeqOk, SpiSeqPending, SpiState, SpiTable, status_by, subst, sym, Transfer, true, unit_at}
 use Terms.{unit_of_sequence, UnitAgrees, view, whether, word_of, World, ℕ}
 pub use Rattle.spi_sequences.specs.laws.words.ListTests.{any_none, any_some, at_contained, is_below, is_number, is_past}
 pub use Rattle.spi_sequences.specs.laws.words.ListTests.{none_any, not_true, one_unit, other_number, same_number}
-use Rattle.spi_sequences.specs.laws.{words.SameWords.{job_small}, words.ListTests.{any_in}}
+use Rattle.spi_sequences.specs.laws.{words.SameWords.{job_small}, words.ListTests.{any_in, none_by}}
 use Rattle.spi_sequences.specs.laws.{words.AllSequences.{all_cases, all_pending, any_all, one_of_all}}
 use Rattle.spi_sequences.specs.laws.{words.WordsOfModule.{some_at}}
 use Rattle.mcal_base.specs.facts.Truths.{or_true}
@@ -61,12 +61,8 @@ module _ (d : SpiTable) (fits : FitsSpi d) (held : Reservations) (chip : Chip) (
   pub going_run : (u : ℕ) (g : Going) → u < 2 → is_sync_unit d u ≡ false → h.going u ≡ Some g → (t : Transfer) × (run_at s u ≡ Some (run_of d g t))
   going_run u g lt async is = let a = subst (λ o. UnitAgrees d (unit_at chip.serials u) (run_at s u) o) is (h.units u lt async) in (a.0, a.1)
 
-  idle_none : (r : Option Run) → not (is_some r) ≡ true → r ≡ None
-  idle_none None e = refl
-  idle_none (Some r) e = absurd (cc)
-
   pub runs_none_sync : (u : ℕ) → is_sync_unit d u ≡ true → run_at s u ≡ None
-  runs_none_sync u sync = idle_none (run_at s u) (h.sound.carries.idle u sync)
+  runs_none_sync u sync = none_by (run_at s u) (h.sound.carries.idle u sync)
 
   pub going_free : (u : ℕ) → u < 2 → h.going u ≡ None → run_at s u ≡ None
   going_free u lt is = whether (is_sync_unit d u)
@@ -101,15 +97,15 @@ module _ (d : SpiTable) (fits : FitsSpi d) (held : Reservations) (chip : Chip) (
   runs_by q u lt false i e (Some g) is = record { unit = u; few = lt; async = i; job = g; is = is; of = is_number g.pending.sequence q (sym (ap (runs_sequence q) (going_run u g lt i is).1) ∙ e) }
 
   pub runs_on : (q : ℕ) → is_running s q ≡ true → RunsOn q
-  runs_on q e = by (any_some (runs_sequence q) s.units e)
+  runs_on q e = unit_runs (any_some (runs_sequence q) s.units e)
     where
-      by : (x : Option Run) × Contains s.units x × (runs_sequence q x ≡ true) → RunsOn q
-      by (x, (u, lt, at), is) =
+      unit_runs : (x : Option Run) × Contains s.units x × (runs_sequence q x ≡ true) → RunsOn q
+      unit_runs (x, (u, lt, at), is) =
           let same : run_at s u ≡ x = get_or_default s.units u None x lt ∙ at in
           let runs : runs_sequence q (run_at s u) ≡ true = ap (runs_sequence q) same ∙ is in
           whether (nat_lt u 2)
           (λ f. runs_by q u (is_below u 2 f) (is_sync_unit d u) refl runs (h.going u) refl)
-          (λ f. absurd (let g = sym runs ∙ ap (runs_sequence q) (idle_none (run_at s u) (h.sound.few u (is_past u 2 f))) in cc))
+          (λ f. absurd (let g = sym runs ∙ ap (runs_sequence q) (none_by (run_at s u) (h.sound.few u (is_past u 2 f))) in cc))
 
   -- ---- sequences under way
 
@@ -164,17 +160,17 @@ module _ (d : SpiTable) (fits : FitsSpi d) (held : Reservations) (chip : Chip) (
       (λ async. no_entry (carried_at s u) (λ p begun. let f = sym async ∙ (h.sound.carries.unit u p begun).1 in cc))
 
   in_use : (u : ℕ) (g : Going) → u < 2 → h.going u ≡ Some g → is_some (run_at s u) || is_some (carried_at s u) ≡ true
-  in_use u g lt is = by (is_sync_unit d u) refl
+  in_use u g lt is = runs_or_carries (is_sync_unit d u) refl
     where
       some : (o : Option Carrying) (r : Run) → run_carried o ≡ Some r → is_some o ≡ true
       some None r e = absurd (cc)
       some (Some x) r e = refl
 
-      by : (q : Bool) → is_sync_unit d u ≡ q → is_some (run_at s u) || is_some (carried_at s u) ≡ true
-      by true sync =
+      runs_or_carries : (q : Bool) → is_sync_unit d u ≡ q → is_some (run_at s u) || is_some (carried_at s u) ≡ true
+      runs_or_carries true sync =
           let a = subst (λ o. CarriesAgrees d (unit_at chip.serials u) (run_carried (carried_at s u)) o) is (h.sends u lt sync) in
           ap (λ b. is_some (run_at s u) || b) (some (carried_at s u) (run_of d g a.0) a.1) ∙ or_true (is_some (run_at s u))
-      by false async = ap (λ r. is_some r || is_some (carried_at s u)) (going_run u g lt async is).1
+      runs_or_carries false async = ap (λ r. is_some r || is_some (carried_at s u)) (going_run u g lt async is).1
 
   -- a unit that carries out a sequence runs a job of it
   pub carried_going : (u : ℕ) (p : Pending) → (view s).begun u ≡ Some p → (g : Going) × (h.going u ≡ Some g) × (g.pending ≡ p)
@@ -207,11 +203,11 @@ module _ (d : SpiTable) (fits : FitsSpi d) (held : Reservations) (chip : Chip) (
         ap run_in a.running ∙ run_packed (next_job d g.pending) g.pending.sequence (next_small g.pending p.0) (h.sound.entries g.pending p.0).number
 
     pub unit_word_says : (u : ℕ) → u < 2 → (if word_of chip (running_word u) == 0 then SpiIdle else SpiBusy) ≡ status_by false (is_some (run_at s u) || is_some (carried_at s u))
-    unit_word_says u lt = by (h.going u) refl
+    unit_word_says u lt = word_says (h.going u) refl
       where
-        by : (g : Option Going) → h.going u ≡ g → (if word_of chip (running_word u) == 0 then SpiIdle else SpiBusy) ≡ status_by false (is_some (run_at s u) || is_some (carried_at s u))
-        by None is = ap (λ v. if v == 0 then SpiIdle else SpiBusy) (subst (λ o. RunAgrees d (word_of chip) u o) is ((h.words.on on).runs u lt)) ∙ sym (ap (λ r. status_by false (is_some r || is_some (carried_at s u))) (going_free u lt is) ∙ ap (λ x. status_by false (is_some x)) (carried_free u lt is))
-        by (Some g) is =
+        word_says : (g : Option Going) → h.going u ≡ g → (if word_of chip (running_word u) == 0 then SpiIdle else SpiBusy) ≡ status_by false (is_some (run_at s u) || is_some (carried_at s u))
+        word_says None is = ap (λ v. if v == 0 then SpiIdle else SpiBusy) (subst (λ o. RunAgrees d (word_of chip) u o) is ((h.words.on on).runs u lt)) ∙ sym (ap (λ r. status_by false (is_some r || is_some (carried_at s u))) (going_free u lt is) ∙ ap (λ x. status_by false (is_some x)) (carried_free u lt is))
+        word_says (Some g) is =
             let a = subst (λ o. RunAgrees d (word_of chip) u o) is ((h.words.on on).runs u lt) in
             let some : (word_of chip (running_word u) == 0) ≡ false = other_number (word_of chip (running_word u)) 0 (λ e. let f = sym e ∙ a.running in omega (arith, f)) in
             ap (λ b. if b then SpiIdle else SpiBusy) some ∙ sym (ap (status_by false) (in_use u g lt is))

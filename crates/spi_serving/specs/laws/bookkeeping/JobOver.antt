@@ -100,7 +100,7 @@ module _ (d : SpiTable) (fits : FitsSpi d) (below : Reservations) (chip : Chip) 
   now x = record { number = x.sequence; waits = not (running x.sequence) }
 
   own_for : is_for d u (goes_to_next p) ≡ is_for d u p
-  own_for = by (same_or_other u (unit_of_sequence d p.sequence))
+  own_for = same_unit (same_or_other u (unit_of_sequence d p.sequence))
     where
       unit : ℕ
       unit = unit_of_sequence d p.sequence
@@ -111,9 +111,9 @@ module _ (d : SpiTable) (fits : FitsSpi d) (below : Reservations) (chip : Chip) 
       after : is_on_unit (unit_of_sequence d p.sequence) (job_of d (next_job d (goes_to_next p))) ≡ true
       after = job_unit d fits p.sequence (p.next + 1) more
 
-      by : (u ≡ unit_of_sequence d p.sequence) ⊎ (u ≢ unit_of_sequence d p.sequence) → is_for d u (goes_to_next p) ≡ is_for d u p
-      by (inl e) = subst (λ n. is_for d n (goes_to_next p) ≡ is_for d n p) (sym e) (after ∙ sym before)
-      by (inr ne) =
+      same_unit : (u ≡ unit_of_sequence d p.sequence) ⊎ (u ≢ unit_of_sequence d p.sequence) → is_for d u (goes_to_next p) ≡ is_for d u p
+      same_unit (inl e) = subst (λ n. is_for d n (goes_to_next p) ≡ is_for d n p) (sym e) (after ∙ sym before)
+      same_unit (inr ne) =
           not_true (is_for d u (goes_to_next p)) (λ f. ne (one_unit d u (unit_of_sequence d p.sequence) (next_job d (goes_to_next p)) f after))
           ∙ sym (not_true (is_for d u p) (λ f. ne (one_unit d u (unit_of_sequence d p.sequence) (next_job d p) f before)))
 
@@ -123,22 +123,22 @@ module _ (d : SpiTable) (fits : FitsSpi d) (below : Reservations) (chip : Chip) 
       (λ ne. ap (λ q. is_for d u (if q then goes_to_next x else x)) (other_number x.sequence p.sequence ne))
 
   entry_same : (x : Pending) → now (item x) ≡ with_wait p.sequence true (was x)
-  entry_same x = by (same_or_other x.sequence p.sequence)
+  entry_same x = entry_waits (same_or_other x.sequence p.sequence)
     where
-      by : (x.sequence ≡ p.sequence) ⊎ (x.sequence ≢ p.sequence) → now (item x) ≡ with_wait p.sequence true (was x)
-      by (inl e) =
+      entry_waits : (x.sequence ≡ p.sequence) ⊎ (x.sequence ≢ p.sequence) → now (item x) ≡ with_wait p.sequence true (was x)
+      entry_waits (inl e) =
           let same : (x.sequence == p.sequence) ≡ true = ap (λ n. n == p.sequence) e ∙ same_number p.sequence in
           ap (λ q. now (if q then goes_to_next x else x)) same ∙ ap (λ b. record { number = x.sequence; waits = not b }) (ap running e ∙ over) ∙ sym (ap (λ q. if q then record { number = x.sequence; waits = true } else was x) same)
-      by (inr ne) =
+      entry_waits (inr ne) =
           let other = other_number x.sequence p.sequence ne in
           ap (λ q. now (if q then goes_to_next x else x)) other ∙ ap (λ b. record { number = x.sequence; waits = not b }) (others x.sequence ne) ∙ sym (ap (λ q. if q then record { number = x.sequence; waits = true } else was x) other)
 
   waits_in : (ps : List Pending) → ((x : Pending) → Contains ps x → Contains s.pending x) → map now (filter (is_for d u) (map item ps)) ≡ order.waiting p.sequence true (map was (filter (is_for d u) ps))
   waits_in [] all = refl
-  waits_in (x ∷ ps) all = by (is_for d u x) (for_same x (all x (0, omega arith, refl))) (waits_in ps (λ z at. all z (suc at.0, let lt = at.1 in omega (arith, lt), at.2)))
+  waits_in (x ∷ ps) all = waits_with_first (is_for d u x) (for_same x (all x (0, omega arith, refl))) (waits_in ps (λ z at. all z (suc at.0, let lt = at.1 in omega (arith, lt), at.2)))
     where
-      by : (b : Bool) → is_for d u (item x) ≡ is_for d u x → map now (filter (is_for d u) (map item ps)) ≡ order.waiting p.sequence true (map was (filter (is_for d u) ps)) → map now (filter (is_for d u) (map item (x ∷ ps))) ≡ order.waiting p.sequence true (map was (filter (is_for d u) (x ∷ ps)))
-      by b e rest = split (is_for d u x) refl
+      waits_with_first : (b : Bool) → is_for d u (item x) ≡ is_for d u x → map now (filter (is_for d u) (map item ps)) ≡ order.waiting p.sequence true (map was (filter (is_for d u) ps)) → map now (filter (is_for d u) (map item (x ∷ ps))) ≡ order.waiting p.sequence true (map was (filter (is_for d u) (x ∷ ps)))
+      waits_with_first b e rest = split (is_for d u x) refl
         where
           split : (q : Bool) → is_for d u x ≡ q → map now (if is_for d u (item x) then item x ∷ filter (is_for d u) (map item ps) else filter (is_for d u) (map item ps)) ≡ order.waiting p.sequence true (map was (if is_for d u x then x ∷ filter (is_for d u) ps else filter (is_for d u) ps))
           split true f =

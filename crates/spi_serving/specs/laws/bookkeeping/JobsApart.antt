@@ -4,10 +4,10 @@
 use Rattle.std.proofs.Common.{◌≡◌, ◌<◌, ◌==◌, ◌∙◌}
 use Rattle.spi_serving.specs.Terms
 use Terms.{any_in, ap, arith, channels_of, Chip, Contains, contains_map, false, FitsSpi, Going, going_next}
-use Terms.{GoingAgrees, held_word, is_for, is_number, is_off, is_on_unit, is_to_begin, Job, job_of, job_there, Keeps}
-use Terms.{KeepsNone, length, next_job, None, Option, Part, Pins, PinsNone, placed_of, PutRight, Putting, received_of}
-use Terms.{refl, Reservations, RunAgrees, same_number, slice_get, Some, some_is, SpiRepresents, SpiState, SpiTable}
-use Terms.{subst, sym, taken_of, TakeRight, Taking, true, uses_channel, word_of, World, ℕ}
+use Terms.{GoingAgrees, held_word, is_for, is_number, is_off, is_on_unit, is_to_begin, job_there, Keeps, KeepsNone}
+use Terms.{length, next_job, None, Option, Part, Pins, PinsNone, placed_of, PutRight, Putting, received_of, refl}
+use Terms.{Reservations, RunAgrees, same_number, slice_get, Some, some_is, SpiRepresents, SpiState, SpiTable, subst}
+use Terms.{sym, taken_of, TakeRight, Taking, true, uses_channel, word_of, World, ℕ}
 use Rattle.spi_serving.specs.laws.words.JoinedLists.{get_mapped}
 
 module _ (d : SpiTable) (fits : FitsSpi d) (below : Reservations) (chip : Chip) (w : World) (s : SpiState) (h : SpiRepresents d below chip w s) (on : is_off s.mode ≡ false) where
@@ -23,25 +23,23 @@ module _ (d : SpiTable) (fits : FitsSpi d) (below : Reservations) (chip : Chip) 
 
   -- no channel is in jobs of two units
   pub one_job : (u v : ℕ) (g k : Going) → u < 2 → v < 2 → h.going u ≡ Some g → h.going v ≡ Some k → (i j : ℕ) (x y : Part) → slice_get g.parts i ≡ Some x → slice_get k.parts j ≡ Some y → y.channel ≡ x.channel → v ≡ u
-  one_job u v g k lt less e f i j x y at bt same = by (job_there d u g.pending (for_at u g lt e)) (job_there d v k.pending (for_at v k less f))
+  one_job u v g k lt less e f i j x y at bt same =
+      let (a, ea) = job_there d u g.pending (for_at u g lt e) in
+      let (b, eb) = job_there d v k.pending (for_at v k less f) in
+      let one = fits.shared x.channel (next_job d g.pending) (next_job d k.pending) a b (uses u g lt e i x at) other ea eb in
+      sym (is_number b.unit v (sym (ap (is_on_unit v) eb) ∙ for_at v k less f)) ∙ sym one ∙ is_number a.unit u (sym (ap (is_on_unit u) ea) ∙ for_at u g lt e)
     where
       other : uses_channel d x.channel (next_job d k.pending) ≡ true
       other = subst (λ c. uses_channel d c (next_job d k.pending) ≡ true) same (uses v k less f j y bt)
 
-      by : (a : Job) × (job_of d (next_job d g.pending) ≡ Some a) → (b : Job) × (job_of d (next_job d k.pending) ≡ Some b) → v ≡ u
-      by (a, ea) (b, eb) =
-          let one = fits.shared x.channel (next_job d g.pending) (next_job d k.pending) a b (uses u g lt e i x at) other ea eb in
-          sym (is_number b.unit v (sym (ap (is_on_unit v) eb) ∙ for_at v k less f)) ∙ sym one ∙ is_number a.unit u (sym (ap (is_on_unit u) ea) ∙ for_at u g lt e)
-
   -- nor in one job twice
   pub one_part : (u : ℕ) (g : Going) → u < 2 → h.going u ≡ Some g → (i j : ℕ) (x y : Part) → slice_get g.parts i ≡ Some x → slice_get g.parts j ≡ Some y → y.channel ≡ x.channel → j ≡ i
-  one_part u g lt e i j x y at bt same = by (job_there d u g.pending (for_at u g lt e))
+  one_part u g lt e i j x y at bt same =
+      let (a, ea) = job_there d u g.pending (for_at u g lt e) in
+      (fits.jobs (next_job d g.pending) a ea).once j i x.channel (number j y bt ∙ ap (λ c. Some c) same) (number i x at)
     where
       number : (n : ℕ) (z : Part) → slice_get g.parts n ≡ Some z → slice_get (channels_of d (next_job d g.pending)) n ≡ Some z.channel
       number n z there = ap (λ xs. slice_get xs n) (sym (agrees_at u g lt e).channels) ∙ get_mapped (λ y. y.channel) g.parts n z there
-
-      by : (a : Job) × (job_of d (next_job d g.pending) ≡ Some a) → j ≡ i
-      by (a, ea) = (fits.jobs (next_job d g.pending) a ea).once j i x.channel (number j y bt ∙ ap (λ c. Some c) same) (number i x at)
 
   -- ---- the job under way of a unit
 
@@ -73,22 +71,22 @@ module _ (d : SpiTable) (fits : FitsSpi d) (below : Reservations) (chip : Chip) 
     -- what came in of it is kept once a word was taken, in the bank that is held
     pub is_kept : 0 < taken_of g.at i (length x.values) → (o : Option Putting) → PutRight h.going (word_of chip) (placed_of d x.channel) None o → (p : Putting) × (o ≡ Some p) × (p.filled ≡ received_of g i x) × (word_of chip (held_word (placed_of d x.channel)) ≡ p.bank)
     is_kept some None h1 = absurd (let none = subst (λ z. KeepsNone z x.channel) e (h1 u lt) i x (at, refl) in omega (arith, some, none))
-    is_kept some (Some p) (v, less, keeps, held) = by (h.going v) refl keeps
+    is_kept some (Some p) (v, less, keeps, held) = bank_kept (h.going v) refl keeps
       where
-        by : (z : Option Going) → h.going v ≡ z → Keeps z x.channel p.filled → (r : Putting) × (Some p ≡ Some r) × (r.filled ≡ received_of g i x) × (word_of chip (held_word (placed_of d x.channel)) ≡ r.bank)
-        by None f k = absurd k
-        by (Some k) f (j, y, part, more, filled) =
+        bank_kept : (z : Option Going) → h.going v ≡ z → Keeps z x.channel p.filled → (r : Putting) × (Some p ≡ Some r) × (r.filled ≡ received_of g i x) × (word_of chip (held_word (placed_of d x.channel)) ≡ r.bank)
+        bank_kept None f k = absurd k
+        bank_kept (Some k) f (j, y, part, more, filled) =
             let one = is_same v k j y less f part.0 part.1 in
             (p, refl, filled ∙ ap (λ z. received_of z j y) one.job ∙ ap (λ n. received_of g n y) one.place ∙ ap (received_of g i) one.part, held)
 
     -- and is not before
     pub none_kept : taken_of g.at i (length x.values) ≡ 0 → (o : Option Putting) → PutRight h.going (word_of chip) (placed_of d x.channel) None o → o ≡ None
     none_kept none None h1 = refl
-    none_kept none (Some p) (v, less, keeps, held) = by (h.going v) refl keeps
+    none_kept none (Some p) (v, less, keeps, held) = none_is_kept (h.going v) refl keeps
       where
-        by : (z : Option Going) → h.going v ≡ z → Keeps z x.channel p.filled → Some p ≡ None
-        by None f k = absurd k
-        by (Some k) f (j, y, part, more, filled) =
+        none_is_kept : (z : Option Going) → h.going v ≡ z → Keeps z x.channel p.filled → Some p ≡ None
+        none_is_kept None f k = absurd k
+        none_is_kept (Some k) f (j, y, part, more, filled) =
             let one = is_same v k j y less f part.0 part.1 in
             let same : taken_of k.at j (length y.values) ≡ taken_of g.at i (length x.values) = ap (λ z. taken_of z.at j (length y.values)) one.job ∙ ap (λ n. taken_of g.at n (length y.values)) one.place ∙ ap (λ z. taken_of g.at i (length z.values)) one.part in
             absurd (omega (arith, more, same, none))

@@ -113,23 +113,23 @@ module _ (d : SpiTable) (fits : FitsSpi d) (u : ℕ) (m : Memory) (g : Going) (f
 
   -- what was taken of a part before it came in
   taken_within : (n : ℕ) (x : Part) → slice_get g.parts n ≡ Some x → n ≢ g.at.channel → (taken_of g.at n (length x.values) ≡ 0) ⊎ (words_before g.parts n + taken_of g.at n (length x.values) ≤ length g.received)
-  taken_within n x e ne = by (nat_lt n g.at.channel) refl
+  taken_within n x e ne = none_or_within (nat_lt n g.at.channel) refl
     where
-      by : (q : Bool) → nat_lt n g.at.channel ≡ q → (taken_of g.at n (length x.values) ≡ 0) ⊎ (words_before g.parts n + taken_of g.at n (length x.values) ≤ length g.received)
-      by true f =
+      none_or_within : (q : Bool) → nat_lt n g.at.channel ≡ q → (taken_of g.at n (length x.values) ≡ 0) ⊎ (words_before g.parts n + taken_of g.at n (length x.values) ≤ length g.received)
+      none_or_within true f =
           let lt = is_below n g.at.channel f in
           let more = before-next (λ z. length z.values) g.parts n x e in
           let le = before-less (λ z. length z.values) g.parts (suc n) g.at.channel (omega (arith, lt)) in
           let count = at.count in
           inr (subst (λ q. words_before g.parts n + (if q then length x.values else if n == g.at.channel then g.at.word else 0) ≤ length g.received) (sym f) (omega (arith, more, le, count)))
-      by false f = inl (ap (λ q. if q then length x.values else if n == g.at.channel then g.at.word else 0) f ∙ ap (λ q. if q then g.at.word else 0) (other_number n g.at.channel ne))
+      none_or_within false f = inl (ap (λ q. if q then length x.values else if n == g.at.channel then g.at.word else 0) f ∙ ap (λ q. if q then g.at.word else 0) (other_number n g.at.channel ne))
 
   pub received_same : (n : ℕ) (x : Part) → slice_get g.parts n ≡ Some x → n ≢ g.at.channel → received_of (moved_on g p v) n x ≡ received_of g n x
-  received_same n x e ne = ap (λ t. take t (drop (words_before g.parts n) (g.received ++ v ∷ []))) (sym (taken_same n x e ne)) ∙ by (taken_of g.at n (length x.values)) (taken_within n x e ne)
+  received_same n x e ne = ap (λ t. take t (drop (words_before g.parts n) (g.received ++ v ∷ []))) (sym (taken_same n x e ne)) ∙ words_same (taken_of g.at n (length x.values)) (taken_within n x e ne)
     where
-      by : (t : ℕ) → (t ≡ 0) ⊎ (words_before g.parts n + t ≤ length g.received) → take t (drop (words_before g.parts n) (g.received ++ v ∷ [])) ≡ take t (drop (words_before g.parts n) g.received)
-      by t (inl none) = subst (λ k. take k (drop (words_before g.parts n) (g.received ++ v ∷ [])) ≡ take k (drop (words_before g.parts n) g.received)) (sym none) refl
-      by t (inr le) =
+      words_same : (t : ℕ) → (t ≡ 0) ⊎ (words_before g.parts n + t ≤ length g.received) → take t (drop (words_before g.parts n) (g.received ++ v ∷ [])) ≡ take t (drop (words_before g.parts n) g.received)
+      words_same t (inl none) = subst (λ k. take k (drop (words_before g.parts n) (g.received ++ v ∷ [])) ≡ take k (drop (words_before g.parts n) g.received)) (sym none) refl
+      words_same t (inr le) =
           ap (take t) (dropped-more (words_before g.parts n) g.received (v ∷ []) (omega (arith, le)))
           ∙ taken-same t (drop (words_before g.parts n) g.received) (v ∷ []) (let count = dropped-count (words_before g.parts n) g.received in omega (arith, count, le))
 

@@ -1,16 +1,16 @@
 -- A job ends well and its sequence goes on: it waits with its next job, and the state is sound.
--- From spi_sequences: words.ListTests, spi_sequences: words.AllSequences, spi_sequences: words.JobPlaces and 4 more.
+-- From spi_sequences: words.ListTests, spi_sequences: words.AllSequences and 5 more.
 -- Used by words.NextWords, services.GoesOnRight.
 use Rattle.std.proofs.Common.{◌≡◌, ◌≢◌, ◌+◌, ◌<◌, ◌≤◌, ◌==◌, ◌&&◌, ◌∙◌, ◌⊎◌, if◌then◌else◌, ◌++◌, ◌||◌}
 use Rattle.spi_serving.specs.Terms
 use Terms.{all_carried, all_cases, all_of, all_pending, AnswerName, any_in, any_mapped, any_none, ap, arith}
-use Terms.{aside_pending, at_contained, at_left, Bool, cases, changed, Chip, Contains, Contains-get_or, contains_back}
-use Terms.{contains_map, entries_begun, false, FitsSpi, get_back, goes_to_next, has_job, inl, inr, is_left, is_of}
-use Terms.{is_off, is_pending, is_sync_sequence, is_sync_unit, IsEntry, IsSoundState, item-other, item-same}
-use Terms.{job_result, jobs_of, left_at, LeftAt, length, List, list_any, list_any-append, next_job, none_any}
-use Terms.{not_true, one_by_job, one_pending, one_place, other_number, Pending, refl, Reservations, same_number}
-use Terms.{same_or_other, shares_job, slice_get, slice_index_or, Some, SpiJobOk, SpiJobPending, SpiJobQueued}
-use Terms.{SpiRepresents, SpiState, SpiTable, subst, sym, true, View, view, with_item, World, ℕ}
+use Terms.{aside_pending, at_contained, Bool, cases, changed, Chip, Contains, Contains-get_or, contains_back}
+use Terms.{contains_map, entries_begun, false, FitsSpi, get_back, goes_to_next, has_job, inl, inr, is_left, is_next}
+use Terms.{is_of, is_off, is_pending, is_sync_sequence, is_sync_unit, IsEntry, IsSoundState, item-other, item-same}
+use Terms.{job_result, jobs_of, length, List, list_any, list_any-append, next_job, none_any, not_true, one_by_job}
+use Terms.{one_pending, one_place, other_number, Pending, refl, Reservations, same_number, same_or_other, shares_job}
+use Terms.{slice_get, slice_index_or, Some, SpiJobOk, SpiJobPending, SpiJobQueued, SpiRepresents, SpiState, SpiTable}
+use Terms.{subst, sym, true, View, view, with_item, World, ℕ}
 use Rattle.spi_sequences.specs.Refinement.{IsLast}
 
 module _ (d : SpiTable) (fits : FitsSpi d) (below : Reservations) (chip : Chip) (w : World) (s : SpiState) (h : SpiRepresents d below chip w s) (p : Pending) (there : Contains s.pending p) (more : p.next + 1 < length (jobs_of d p.sequence)) (good : p.cancelled ≡ false)
@@ -42,10 +42,10 @@ module _ (d : SpiTable) (fits : FitsSpi d) (below : Reservations) (chip : Chip) 
 
   -- what is so of the entry that went on and of the others is so of each
   pub each_entry : (P : Pending → Type 0) → P (goes_to_next p) → ((x : Pending) → Contains s.pending x → x.sequence ≢ p.sequence → P x) → (x : Pending) → Contains (changed p.sequence goes_to_next s.pending) x → P x
-  each_entry P own other x is = by (contains_back item s.pending x is)
+  each_entry P own other x is = holds_changed (contains_back item s.pending x is)
     where
-      by : (z : Pending) × Contains s.pending z × (x ≡ item z) → P x
-      by (z, at, same) = subst P (sym same) (split (same_or_other z.sequence p.sequence))
+      holds_changed : (z : Pending) × Contains s.pending z × (x ≡ item z) → P x
+      holds_changed (z, at, same) = subst P (sym same) (split (same_or_other z.sequence p.sequence))
         where
           split : (z.sequence ≡ p.sequence) ⊎ (z.sequence ≢ p.sequence) → P (item z)
           split (inl e) = subst (λ k. P (item k)) (sym (one_pending d fits below chip w s h z p (all_pending (view s) z at) (all_pending (view s) p there) e)) (subst P (sym item_own) own)
@@ -126,20 +126,9 @@ module _ (d : SpiTable) (fits : FitsSpi d) (below : Reservations) (chip : Chip) 
       (λ other. ap (is_left d j) (sym (item_other x other)) ∙ any_none (is_left d j) (all_of next_view) none (item x) (all_still x at)))
     where
       own : is_left d j p ≡ false
-      own = not_true (is_left d j p) (λ e. left (at_left (jobs_of d p.sequence) p.next j e))
-        where
-          left : LeftAt (jobs_of d p.sequence) p.next j → ⊥
-          left l = split (same_or_other l.place p.next)
-            where
-              gone : is_left d j (goes_to_next p) ≡ false
-              gone = ap (is_left d j) (sym item_own) ∙ any_none (is_left d j) (all_of next_view) none (item p) (all_pending next_view (item p) (still_there p there))
-
-              split : (l.place ≡ p.next) ⊎ (l.place ≢ p.next) → ⊥
-              split (inl e) = ne (sym l.is ∙ ap (λ n. slice_index_or (jobs_of d p.sequence) n 0) e)
-              split (inr other) = let from = l.from in let later : p.next < l.place = greater p.next l.place from other in let f = sym gone ∙ left_at (jobs_of d p.sequence) (p.next + 1) l.place j l.within (omega (arith, later)) l.is in cc
-                where
-                  greater : (a b : ℕ) → a ≤ b → b ≢ a → a < b
-                  greater a b le ne = grind arith
+      own =
+          let gone : is_left d j (goes_to_next p) ≡ false = ap (is_left d j) (sym item_own) ∙ any_none (is_left d j) (all_of next_view) none (item p) (all_pending next_view (item p) (still_there p there)) in
+          not_true (is_left d j p) (λ e. ne (is_next d fits p (omega (arith, more)) j e gone))
 
   abbrev begun_ones : List Pending
   begun_ones = entries_begun ((view s).begun 0) ++ entries_begun ((view s).begun 1)

@@ -45,15 +45,15 @@ module _ (st : ToServe) where
     take_stays c None more r = λ n lt. by_unit (λ k z. PinsNone z c) h.going u (Some later) (none (subst (λ z. PinsNone z c) is (r u few))) n (r n lt)
       where
         none : PinsNone (Some g) c → PinsNone (Some later) c
-        none was = λ n x part. by n x part (same_or_other n p.channel)
+        none was = λ n x part. none_begins n x part (same_or_other n p.channel)
           where
-            by : (n : ℕ) (x : Part) → HasPart (Some g) c n x → (n ≡ p.channel) ⊎ (n ≢ p.channel) → is_to_begin p n (length x.values) ≡ false
-            by n x part (inl e) =
+            none_begins : (n : ℕ) (x : Part) → HasPart (Some g) c n x → (n ≡ p.channel) ⊎ (n ≢ p.channel) → is_to_begin p n (length x.values) ≡ false
+            none_begins n x part (inl e) =
                 let begins = begins_next d fits u (word_of chip) g (for_at d fits below chip w s h on u g few is) (agrees_at d fits below chip w s h on u g few is) g.at p (length at.part.values) (length next.part.values) follows next.inside in
                 let same : next.part ≡ x = some_is next.part x (sym next.there ∙ ap (slice_get g.parts) (sym e) ∙ part.0) in
                 absurd (let f = sym begins ∙ ap (λ k. is_to_begin g.at k (length next.part.values)) (sym e) ∙ ap (λ z. is_to_begin g.at n (length z.values)) same ∙ was n x part in cc)
-            by n x part (inr ne) = sym (begins_same d fits u (word_of chip) g (for_at d fits below chip w s h on u g few is) (agrees_at d fits below chip w s h on u g few is) at p next follows v n x part.0 ne) ∙ was n x part
-    take_stays c (Some t) more (n, lt, pins) = by (same_or_other n u)
+            none_begins n x part (inr ne) = sym (begins_same d fits u (word_of chip) g (for_at d fits below chip w s h on u g few is) (agrees_at d fits below chip w s h on u g few is) at p next follows v n x part.0 ne) ∙ was n x part
+    take_stays c (Some t) more (n, lt, pins) = take_right (same_or_other n u)
       where
         here : (k : ℕ) (x : Part) → HasPart (Some g) c k x → is_to_begin g.at k (length x.values) ≡ true → (k ≡ p.channel) ⊎ (k ≢ p.channel) → is_to_begin p k (length x.values) ≡ true
         here k x part begins (inl e) =
@@ -61,12 +61,12 @@ module _ (st : ToServe) where
             begins_here d fits u (word_of chip) g (for_at d fits below chip w s h on u g few is) (agrees_at d fits below chip w s h on u g few is) at p next follows v k (length x.values) e ∙ ap (λ z. nat_lt (p.word + 1) (length z.values)) (sym same) ∙ more (ap (λ z. z.channel) same ∙ part.1)
         here k x part begins (inr ne) = sym (begins_same d fits u (word_of chip) g (for_at d fits below chip w s h on u g few is) (agrees_at d fits below chip w s h on u g few is) at p next follows v k x part.0 ne) ∙ begins
 
-        by : (n ≡ u) ⊎ (n ≢ u) → TakeRight going1 c (Some t)
-        by (inl e) = (u, few, subst (λ z. Pins z c t.kept) (sym (going_here h.going u (Some later))) (pinned (subst (λ z. Pins z c t.kept) (ap h.going e ∙ is) pins)))
+        take_right : (n ≡ u) ⊎ (n ≢ u) → TakeRight going1 c (Some t)
+        take_right (inl e) = (u, few, subst (λ z. Pins z c t.kept) (sym (going_here h.going u (Some later))) (pinned (subst (λ z. Pins z c t.kept) (ap h.going e ∙ is) pins)))
           where
             pinned : Pins (Some g) c t.kept → Pins (Some later) c t.kept
             pinned (k, x, part, begins, kept) = (k, x, part, here k x part begins (same_or_other k p.channel), kept)
-        by (inr ne) = (n, lt, subst (λ z. Pins z c t.kept) (sym (going_other h.going u (Some later) n ne)) pins)
+        take_right (inr ne) = (n, lt, subst (λ z. Pins z c t.kept) (sym (going_other h.going u (Some later) n ne)) pins)
 
     -- and ends as its last word begins
     pub take_ends : nat_lt (p.word + 1) (length next.part.values) ≡ false → TakeRight going1 next.part.channel None
@@ -95,16 +95,16 @@ module _ (st : ToServe) where
         where
           none : KeepsNone (Some g) c → KeepsNone (Some later) c
           none was n x part = sym (taken_same d fits u (word_of chip) g (for_at d fits below chip w s h on u g few is) (agrees_at d fits below chip w s h on u g few is) at p next follows v n x part.0 (elsewhere n x part)) ∙ was n x part
-      put_stays (Some t) (n, lt, keeps, bank) = by (same_or_other n u)
+      put_stays (Some t) (n, lt, keeps, bank) = put_right (same_or_other n u)
         where
-          by : (n ≡ u) ⊎ (n ≢ u) → PutRight going1 m1 (placed_of d c) None (Some t)
-          by (inl e) = (u, few, subst (λ z. Keeps z c t.filled) (sym (going_here h.going u (Some later))) (kept (subst (λ z. Keeps z c t.filled) (ap h.going e ∙ is) keeps)), same ∙ bank)
+          put_right : (n ≡ u) ⊎ (n ≢ u) → PutRight going1 m1 (placed_of d c) None (Some t)
+          put_right (inl e) = (u, few, subst (λ z. Keeps z c t.filled) (sym (going_here h.going u (Some later))) (kept (subst (λ z. Keeps z c t.filled) (ap h.going e ∙ is) keeps)), same ∙ bank)
             where
               kept : Keeps (Some g) c t.filled → Keeps (Some later) c t.filled
               kept (k, x, part, some, filled) =
                   let taken = taken_same d fits u (word_of chip) g (for_at d fits below chip w s h on u g few is) (agrees_at d fits below chip w s h on u g few is) at p next follows v k x part.0 (elsewhere k x part) in
                   (k, x, part, subst (λ j. 0 < j) taken some, filled ∙ sym (received_same d fits u (word_of chip) g (for_at d fits below chip w s h on u g few is) (agrees_at d fits below chip w s h on u g few is) at p next follows v k x part.0 (elsewhere k x part)))
-          by (inr other) = (n, lt, subst (λ z. Keeps z c t.filled) (sym (going_other h.going u (Some later) n other)) keeps, same ∙ bank)
+          put_right (inr other) = (n, lt, subst (λ z. Keeps z c t.filled) (sym (going_other h.going u (Some later) n other)) keeps, same ∙ bank)
 
     -- and the word that came in is kept after those of its channel
     pub put_more : (b : ℕ) (m1 : Memory) → m1 (held_word (placed_of d at.part.channel)) ≡ b → PutRight going1 m1 (placed_of d at.part.channel) None (Some (record { bank = b; filled = received_of g g.at.channel at.part ++ v ∷ [] }))

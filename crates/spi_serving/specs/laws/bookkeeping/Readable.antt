@@ -72,16 +72,13 @@ pub record IsIn {A : Type 0} (size : A → ℕ) (xs : List A) (m : ℕ) : Type 0
 
 pub find_item : {A : Type 0} (size : A → ℕ) (xs : List A) (m : ℕ) → m < sum_by size xs → IsIn size xs m
 find_item size [] m lt = absurd (omega (arith, lt))
-find_item size (x ∷ xs) m lt = by (nat_lt m (size x)) refl (λ k. find_item size xs k)
+find_item size (x ∷ xs) m lt = found_with_first (nat_lt m (size x)) refl (λ k. find_item size xs k)
   where
-    whole : sum_by size (x ∷ xs) ≡ size x + sum_by size xs
-    whole = sum_by-cons size x xs
-
-    by : (q : Bool) → nat_lt m (size x) ≡ q → ((k : ℕ) → k < sum_by size xs → IsIn size xs k) → IsIn size (x ∷ xs) m
-    by true e rest = record { place = 0; part = x; there = refl; item = m; inside = is_below m (size x) e; count = omega arith }
-    by false e rest =
+    found_with_first : (q : Bool) → nat_lt m (size x) ≡ q → ((k : ℕ) → k < sum_by size xs → IsIn size xs k) → IsIn size (x ∷ xs) m
+    found_with_first true e rest = record { place = 0; part = x; there = refl; item = m; inside = is_below m (size x) e; count = omega arith }
+    found_with_first false e rest =
         let le = is_past m (size x) e in
-        let all = whole in
+        let all = sum_by-cons size x xs in
         let r = rest (m - size x) (omega (arith, le, lt, all)) in
         let count = r.count in
         let more = sum_by-cons size x (take r.place xs) in
@@ -116,13 +113,11 @@ module _ (st : ToServe) where
 
   -- no word of a channel that is in none of the parts is one of the job's
   pub none_there : (c i : ℕ) → ((n : ℕ) (x : Part) → slice_get g.parts n ≡ Some x → x.channel ≢ c) → go_there c i words ≡ false
-  none_there c i none = none_any (λ x. goes_to_channel c i x x.goes) words (λ x at. not_true (goes_to_channel c i x x.goes) (λ e. by x at e))
-    where
-      by : (x : JobWord) → Contains words x → goes_to_channel c i x x.goes ≡ true → ⊥
-      by x (m, lt, at) e =
-          let r = find_item size g.parts m (let same = count in omega (arith, lt, same)) in
-          let same : x ≡ word_of_part r.part r.item = sym at ∙ get_or_default words m x no_word lt ∙ ap (λ k. slice_index_or words k no_word) r.count ∙ at_place r.place r.item r.part r.there r.inside in
-          none r.place r.part r.there (ap (λ z. z.channel) (sym same) ∙ (goes_where c i x x.goes e).0)
+  none_there c i none = none_any (λ x. goes_to_channel c i x x.goes) words (λ x at. not_true (goes_to_channel c i x x.goes) (λ e.
+      let (m, lt, at) = at in
+      let r = find_item size g.parts m (let same = count in omega (arith, lt, same)) in
+      let same : x ≡ word_of_part r.part r.item = sym at ∙ get_or_default words m x no_word lt ∙ ap (λ k. slice_index_or words k no_word) r.count ∙ at_place r.place r.item r.part r.there r.inside in
+      none r.place r.part r.there (ap (λ z. z.channel) (sym same) ∙ (goes_where c i x x.goes e).0)))
 
   module _ (n : ℕ) (x : Part) (there : slice_get g.parts n ≡ Some x) (i : ℕ) (lt : i < length x.values) where
     abbrev pub number : ℕ
@@ -233,19 +228,15 @@ module _ (st : ToServe) where
         ∙ ap (λ xs. word_at (xs ++ came ∷ []) (words_before g.parts n + i)) received_are
 
     pub all_readable : (n : ℕ) (x : Part) → slice_get g.parts n ≡ Some x → x.goes ≡ ToChannel → (k : ℕ) → length x.values ≡ k → length (whole st came n x) ≡ k → first_items 0 k (channel_at out x.channel).received ≡ whole st came n x
-    all_readable n x there goes k size_is count_is = ext_get_or 0 (first_items 0 k (channel_at out x.channel).received) (whole st came n x) (length-first k (channel_at out x.channel).received ∙ sym count_is) (λ i lt. each i (let few_items = length-first k (channel_at out x.channel).received in omega (arith, lt, few_items)))
-      where
-        each : (i : ℕ) → i < k → slice_index_or (first_items 0 k (channel_at out x.channel).received) i 0 ≡ slice_index_or (whole st came n x) i 0
-        each i lt =
-            first-at k (channel_at out x.channel).received i lt ∙ received_word n x there goes i (let same = size_is in omega (arith, lt, same))
-            ∙ sym (get_or-take (length x.values) (drop (words_before g.parts n) (g.received ++ came ∷ [])) i 0 (let same = size_is in omega (arith, lt, same)) ∙ get_or-drop (words_before g.parts n) (g.received ++ came ∷ []) i 0)
+    all_readable n x there goes k size_is count_is = ext_get_or 0 (first_items 0 k (channel_at out x.channel).received) (whole st came n x) (length-first k (channel_at out x.channel).received ∙ sym count_is) (λ i lt.
+        let lt : i < k = let few_items = length-first k (channel_at out x.channel).received in omega (arith, lt, few_items) in
+        first-at k (channel_at out x.channel).received i lt ∙ received_word n x there goes i (let same = size_is in omega (arith, lt, same))
+        ∙ sym (get_or-take (length x.values) (drop (words_before g.parts n) (g.received ++ came ∷ [])) i 0 (let same = size_is in omega (arith, lt, same)) ∙ get_or-drop (words_before g.parts n) (g.received ++ came ∷ []) i 0))
 
     -- and of a channel that has no part, what was
     pub others_readable : (c k : ℕ) → ((n : ℕ) (x : Part) → slice_get g.parts n ≡ Some x → x.channel ≢ c) → first_items 0 k (channel_at out c).received ≡ first_items 0 k (channel_at s c).received
-    others_readable c k none = ext_get_or 0 (first_items 0 k (channel_at out c).received) (first_items 0 k (channel_at s c).received) (length-first k (channel_at out c).received ∙ sym (length-first k (channel_at s c).received)) (λ i lt. each i (let few_items = length-first k (channel_at out c).received in omega (arith, lt, few_items)))
-      where
-        each : (i : ℕ) → i < k → slice_index_or (first_items 0 k (channel_at out c).received) i 0 ≡ slice_index_or (first_items 0 k (channel_at s c).received) i 0
-        each i lt =
-            first-at k (channel_at out c).received i lt
-            ∙ brings.others c i (ap (go_there c i) words_are ∙ none_there c i none)
-            ∙ sym (first-at k (channel_at s c).received i lt)
+    others_readable c k none = ext_get_or 0 (first_items 0 k (channel_at out c).received) (first_items 0 k (channel_at s c).received) (length-first k (channel_at out c).received ∙ sym (length-first k (channel_at s c).received)) (λ i lt.
+        let lt : i < k = let few_items = length-first k (channel_at out c).received in omega (arith, lt, few_items) in
+        first-at k (channel_at out c).received i lt
+        ∙ brings.others c i (ap (go_there c i) words_are ∙ none_there c i none)
+        ∙ sym (first-at k (channel_at s c).received i lt))

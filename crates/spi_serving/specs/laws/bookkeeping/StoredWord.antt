@@ -30,14 +30,14 @@ stored_there s x v =
     ∙ item-same 0 (channel_at s x.channel).destination x.place v
 
 pub stored_elsewhere : (s : SpiState) (x : JobWord) (v n i : ℕ) → (n ≢ x.channel) ⊎ (i ≢ x.place) → word_at (slice_index_or (stored s x ToDestination v).channels n untouched).destination i ≡ word_at (channel_at s n).destination i
-stored_elsewhere s x v n i ne = by (same_or_other n x.channel) ne
+stored_elsewhere s x v n i ne = word_unchanged (same_or_other n x.channel) ne
   where
     new : ChannelState
     new = record (channel_at s x.channel) { destination = with_item 0 (channel_at s x.channel).destination x.place v }
 
-    by : (n ≡ x.channel) ⊎ (n ≢ x.channel) → (n ≢ x.channel) ⊎ (i ≢ x.place) → word_at (slice_index_or (with_item untouched s.channels x.channel (record (channel_at s x.channel) { destination = with_item 0 (channel_at s x.channel).destination x.place v })) n untouched).destination i ≡ word_at (channel_at s n).destination i
-    by (inr other) q = ap (λ (y : ChannelState). word_at y.destination i) (item-other untouched s.channels x.channel n (record (channel_at s x.channel) { destination = with_item 0 (channel_at s x.channel).destination x.place v }) other)
-    by (inl e) (inl other) = absurd (other e)
-    by (inl e) (inr other) =
+    word_unchanged : (n ≡ x.channel) ⊎ (n ≢ x.channel) → (n ≢ x.channel) ⊎ (i ≢ x.place) → word_at (slice_index_or (with_item untouched s.channels x.channel (record (channel_at s x.channel) { destination = with_item 0 (channel_at s x.channel).destination x.place v })) n untouched).destination i ≡ word_at (channel_at s n).destination i
+    word_unchanged (inr other) q = ap (λ (y : ChannelState). word_at y.destination i) (item-other untouched s.channels x.channel n (record (channel_at s x.channel) { destination = with_item 0 (channel_at s x.channel).destination x.place v }) other)
+    word_unchanged (inl e) (inl other) = absurd (other e)
+    word_unchanged (inl e) (inr other) =
         subst (λ k. word_at (slice_index_or (with_item untouched s.channels x.channel (record (channel_at s x.channel) { destination = with_item 0 (channel_at s x.channel).destination x.place v })) k untouched).destination i ≡ word_at (channel_at s k).destination i) (sym e)
         (ap (λ (y : ChannelState). word_at y.destination i) (item-same untouched s.channels x.channel (record (channel_at s x.channel) { destination = with_item 0 (channel_at s x.channel).destination x.place v })) ∙ item-other 0 (channel_at s x.channel).destination x.place i v other)

@@ -18,17 +18,17 @@ use Rattle.mcal_base.specs.facts.Truths.{and_false}
 -- ---- a unit's state register
 
 pub state_says : (x : Serial) (now : ℕ) → ((serials.state x now / 2 % 2 == 0) ≡ not (serials.is_done x now)) × ((serials.state x now / 4 % 2 == 1) ≡ serials.is_failed x now)
-state_says x now = by (serials.is_busy x now) (serials.is_done x now) (serials.is_failed x now)
+state_says x now = bits_say (serials.is_busy x now) (serials.is_done x now) (serials.is_failed x now)
   where
-    by : (a b c : Bool) → (((bit_of a + 2 * bit_of b + 4 * bit_of c) / 2 % 2 == 0) ≡ not b) × (((bit_of a + 2 * bit_of b + 4 * bit_of c) / 4 % 2 == 1) ≡ c)
-    by true true true = (refl, refl)
-    by true true false = (refl, refl)
-    by true false true = (refl, refl)
-    by true false false = (refl, refl)
-    by false true true = (refl, refl)
-    by false true false = (refl, refl)
-    by false false true = (refl, refl)
-    by false false false = (refl, refl)
+    bits_say : (a b c : Bool) → (((bit_of a + 2 * bit_of b + 4 * bit_of c) / 2 % 2 == 0) ≡ not b) × (((bit_of a + 2 * bit_of b + 4 * bit_of c) / 4 % 2 == 1) ≡ c)
+    bits_say true true true = (refl, refl)
+    bits_say true true false = (refl, refl)
+    bits_say true false true = (refl, refl)
+    bits_say true false false = (refl, refl)
+    bits_say false true true = (refl, refl)
+    bits_say false true false = (refl, refl)
+    bits_say false false true = (refl, refl)
+    bits_say false false false = (refl, refl)
 
 -- the unit of a line
 pub unit_line : (u : ℕ) → u < 2 → unit_of (26 + u) ≡ Some u
@@ -93,11 +93,11 @@ module _ (d : SpiTable) (fits : FitsSpi d) (below : Reservations) (chip : Chip) 
       by (Some y) e a = (y, e, a)
 
   pub under_way : (run : Run) → unit_run d s u ≡ Some run → UnderWay d below chip w s h u run
-  under_way run is = by (h.going u) refl agrees
+  under_way run is = going_under_way (h.going u) refl agrees
     where
-      by : (o : Option Going) → h.going u ≡ o → CarriesAgrees d unit (unit_run d s u) o → UnderWay d below chip w s h u run
-      by None e a = absurd (let f = sym is ∙ a.1 in cc)
-      by (Some g) e a =
+      going_under_way : (o : Option Going) → h.going u ≡ o → CarriesAgrees d unit (unit_run d s u) o → UnderWay d below chip w s h u run
+      going_under_way None e a = absurd (let f = sym is ∙ a.1 in cc)
+      going_under_way (Some g) e a =
           let next = going_next d fits below chip w s h u g few e in
           let on = initialised g.pending next.0 in
           let on_wire = in_transfer unit a.0 a.2 in
@@ -117,11 +117,11 @@ module _ (d : SpiTable) (fits : FitsSpi d) (below : Reservations) (chip : Chip) 
 
   -- its word is done on the chip where it is in the machine
   pub done_alike : serials.is_done unit chip.serials.time ≡ has_done w.now (unit_run d s u)
-  done_alike = ap (λ t. serials.is_done unit t) time ∙ by (h.going u) agrees
+  done_alike = ap (λ t. serials.is_done unit t) time ∙ done_at_now (h.going u) agrees
     where
-      by : (o : Option Going) → CarriesAgrees d unit (unit_run d s u) o → serials.is_done unit w.now ≡ has_done w.now (unit_run d s u)
-      by None a = ap (λ o. serials.has_ended o w.now) a.0 ∙ sym (ap (λ o. has_done w.now o) a.1)
-      by (Some g) a =
+      done_at_now : (o : Option Going) → CarriesAgrees d unit (unit_run d s u) o → serials.is_done unit w.now ≡ has_done w.now (unit_run d s u)
+      done_at_now None a = ap (λ o. serials.has_ended o w.now) a.0 ∙ sym (ap (λ o. has_done w.now o) a.1)
+      done_at_now (Some g) a =
           let on_wire = in_transfer unit a.0 a.2 in
           ap (λ o. serials.has_ended o w.now) on_wire.1 ∙ done_same on_wire.0 a.0 w.now on_wire.2.start ∙ sym (ap (λ o. has_done w.now o) a.1)
 
@@ -139,18 +139,16 @@ module _ (d : SpiTable) (fits : FitsSpi d) (below : Reservations) (chip : Chip) 
 
   -- what the state register says
   pub state_done : (b : Bool) → has_done w.now (unit_run d s u) ≡ true → serials.is_failed unit chip.serials.time ≡ b → IsDone d s w.now u b
-  state_done b e f = by (run_there (unit_run d s u) e)
-    where
-      by : (run : Run) × (unit_run d s u ≡ Some run) × (is_done w.now run.transfer ≡ true) → IsDone d s w.now u b
-      by (run, is, done) =
-          let way = under_way run is in
-          let ended : serials.is_done_at way.word chip.serials.time ≡ true = ap (λ t. serials.is_done_at way.word t) time ∙ done_same way.word way.transfer w.now way.like.start ∙ ap (λ r. is_done w.now r.transfer) (sym way.runs) ∙ done in
-          record {
-            run = run;
-            is = is;
-            done = done;
-            failed = ap (λ r. r.transfer.failed) way.runs ∙ sym way.like.failed ∙ sym (ap (λ q. q && way.word.failed) ended) ∙ sym (ap (λ o. serials.ended_failed o chip.serials.time) way.stands) ∙ f;
-          }
+  state_done b e f =
+      let (run, is, done) = run_there (unit_run d s u) e in
+      let way = under_way run is in
+      let ended : serials.is_done_at way.word chip.serials.time ≡ true = ap (λ t. serials.is_done_at way.word t) time ∙ done_same way.word way.transfer w.now way.like.start ∙ ap (λ r. is_done w.now r.transfer) (sym way.runs) ∙ done in
+      record {
+        run = run;
+        is = is;
+        done = done;
+        failed = ap (λ r. r.transfer.failed) way.runs ∙ sym way.like.failed ∙ sym (ap (λ q. q && way.word.failed) ended) ∙ sym (ap (λ o. serials.ended_failed o chip.serials.time) way.stands) ∙ f;
+      }
 
   -- what came in, unless the word failed
   pub received_says : (run : Run) → unit_run d s u ≡ Some run → is_done w.now run.transfer ≡ true → run.transfer.failed ≡ false → serials.received unit chip.serials.time ≡ run.transfer.incoming

@@ -1,12 +1,12 @@
 -- Writes of a unit's registers: what they leave of the agreement.
--- From spi_sequences: words.SendsKept.
+-- From spi_sequences: hardware.StableUnderHardware, spi_sequences: words.SendsKept.
 -- Used by spi_sending: services.SendSteps, spi_sending: bookkeeping.SelectsNext and 8 more.
-use Rattle.std.proofs.Common.{◌≡◌, ◌≢◌, ◌<◌, ◌∙◌, ◌⊎◌}
+use Rattle.std.proofs.Common.{◌≡◌, ◌≢◌, ◌<◌, ◌∙◌}
 use Rattle.spi_serving.specs.Terms
-use Terms.{ap, carried_at, CarriesAgrees, Chip, chip_after, false, get_or-set_other, get_or-set_same, Going, idle, inl}
-use Terms.{inr, is_sync_unit, length, length-set, None, Option, refl, Reservations, run_at, run_carried, same_or_other}
-use Terms.{sends_as, Serial, SerialWidth, Some, SpiRepresents, SpiState, SpiTable, stands-move, subst, sym, true}
-use Terms.{unit_at, UnitAgrees, World, Write, ℕ}
+use Terms.{ap, carried_at, CarriesAgrees, Chip, chip_after, false, get_or-set_other, get_or-set_same, Going, idle}
+use Terms.{is_sync_unit, length, length-set, None, Option, refl, Reservations, run_at, run_carried, sends_as, Serial}
+use Terms.{SerialWidth, set_unit, Some, SpiRepresents, SpiState, SpiTable, stands-move, subst, sym, true, unit_at}
+use Terms.{UnitAgrees, World, Write, ℕ}
 use Rattle.chip_units.specs.Serials as serials
 
 -- a unit among those of a chip, and the others
@@ -35,9 +35,9 @@ module _ (d : SpiTable) (below : Reservations) (chip : Chip) (w : World) (s : Sp
     sound = h.sound;
     going = h.going;
     nexts = h.nexts;
-    units = λ n lt async. unit_by n lt async (same_or_other n u);
-    sends = λ n lt sync. carried_by n lt sync (same_or_other n u);
-    sending = sends_as d chip (chip_after chip (Write (SerialWidth u) v) y) w w h.going h.going s s (λ n g lt sync is. refl) (λ n g lt sync is. select_by n (same_or_other n u)) (λ n g i x k lt sync is there known. refl) (λ n o knows. knows) below h.sending;
+    units = set_unit (λ n x. is_sync_unit d n ≡ false → UnitAgrees d x (run_at s n) (h.going n)) chip.serials.units u new h.size (λ lt async. width_unit v (h.going u) (h.units u lt async)) (λ n lt ne. h.units n lt);
+    sends = set_unit (λ n x. is_sync_unit d n ≡ true → CarriesAgrees d x (run_carried (carried_at s n)) (h.going n)) chip.serials.units u new h.size (λ lt sync. width_carried v u (h.going u) (h.sends u lt sync)) (λ n lt ne. h.sends n lt);
+    sending = sends_as d chip (chip_after chip (Write (SerialWidth u) v) y) w w h.going h.going s s (λ n g lt sync is. refl) (λ n g lt sync is. set_unit (λ k x. x.select ≡ (unit_at chip.serials k).select) chip.serials.units u new h.size (λ less. refl) (λ k less ne. refl) n lt) (λ n g i x k lt sync is there known. refl) (λ n o knows. knows) below h.sending;
     carriers = h.carriers;
     words = h.words;
     set_ups = h.set_ups;
@@ -49,22 +49,6 @@ module _ (d : SpiTable) (below : Reservations) (chip : Chip) (w : World) (s : Sp
     where
       new : Serial
       new = record (unit_at chip.serials u) { width = v }
-
-      unit_by : (n : ℕ) → n < 2 → is_sync_unit d n ≡ false → (n ≡ u) ⊎ (n ≢ u) → UnitAgrees d (unit_at (serials.with_unit chip.serials u new) n) (run_at s n) (h.going n)
-      unit_by n lt async (inl e) =
-          subst (λ k. UnitAgrees d (unit_at (serials.with_unit chip.serials u new) k) (run_at s k) (h.going k)) (sym e)
-          (subst (λ x. UnitAgrees d x (run_at s u) (h.going u)) (sym (unit_same chip u new h.size few)) (width_unit v (h.going u) (h.units u few (subst (λ k. is_sync_unit d k ≡ false) e async))))
-      unit_by n lt async (inr ne) = subst (λ x. UnitAgrees d x (run_at s n) (h.going n)) (sym (unit_other chip u n new ne)) (h.units n lt async)
-
-      carried_by : (n : ℕ) → n < 2 → is_sync_unit d n ≡ true → (n ≡ u) ⊎ (n ≢ u) → CarriesAgrees d (unit_at (serials.with_unit chip.serials u new) n) (run_carried (carried_at s n)) (h.going n)
-      carried_by n lt sync (inl e) =
-          subst (λ k. CarriesAgrees d (unit_at (serials.with_unit chip.serials u new) k) (run_carried (carried_at s k)) (h.going k)) (sym e)
-          (subst (λ x. CarriesAgrees d x (run_carried (carried_at s u)) (h.going u)) (sym (unit_same chip u new h.size few)) (width_carried v u (h.going u) (h.sends u few (subst (λ k. is_sync_unit d k ≡ true) e sync))))
-      carried_by n lt sync (inr ne) = subst (λ x. CarriesAgrees d x (run_carried (carried_at s n)) (h.going n)) (sym (unit_other chip u n new ne)) (h.sends n lt sync)
-
-      select_by : (n : ℕ) → (n ≡ u) ⊎ (n ≢ u) → (unit_at (serials.with_unit chip.serials u new) n).select ≡ (unit_at chip.serials n).select
-      select_by n (inl e) = ap (λ k. (unit_at (serials.with_unit chip.serials u new) k).select) e ∙ ap (λ x. x.select) (unit_same chip u new h.size few) ∙ ap (λ k. (unit_at chip.serials k).select) (sym e)
-      select_by n (inr ne) = ap (λ x. x.select) (unit_other chip u n new ne)
 
   -- and it is the unit's
   pub width_is : (v y : ℕ) → (unit_at (chip_after chip (Write (SerialWidth u) v) y).serials u).width ≡ v

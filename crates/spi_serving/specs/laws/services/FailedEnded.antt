@@ -5,10 +5,11 @@ use Rattle.std.proofs.Common.{◌≡◌, ◌≢◌, ◌+◌, ◌<◌, ◌≤◌,
 use Rattle.spi_serving.specs.Terms
 use Terms.{abandoning, abandons, Answer, ap, arith, Banks, banks_held, BanksAgree, Call, cases, Channel, channel_of}
 use Terms.{Chip, Contains, Destination, false, first_items, Going, has_channel, held_word, holds_debt, inl, inr}
-use Terms.{IsWordOf, length, nat_lt, nat_tests, None, none_in, none_readied, of_banks, of_held, of_set_up, Option}
-use Terms.{Origin, Part, past_the_first, PinsNone, place_of, placed_of, prepares, put_held, PutRight, Received, refl}
-use Terms.{running_word, same_or_other, Sent, set_up_by, set_up_word, sides_apart, slice_get, Some, Source, SOURCES}
-use Terms.{stands-agree, STATE, subst, sym, TakeRight, trio_of, true, unit_at, UnitAgrees, view, word_of, ℕ}
+use Terms.{IsWordOf, length, lt_from, None, none_in, none_readied, of_banks, of_held, of_set_up, Option, Origin, Part}
+use Terms.{past_the_first, PinsNone, place_of, placed_of, prepares, put_held, PutRight, Received, refl, running_word}
+use Terms.{same_or_other, Sent, set_up_by, set_up_word, sides_apart, slice_get, Some, Source, SOURCES, stands-agree}
+use Terms.{STATE, subst, sym, TakeRight, trio_of, true, unit_at, UnitAgrees, view, word_of, ℕ}
+use Rattle.spi_serving.specs.laws.words.AllKept.{part_channel, part_inside}
 use Rattle.spi_serving.specs.laws.{bookkeeping.JobsApart.{agrees_at, for_at, one_job}, words.CommitWords.{upto}}
 use Rattle.spi_serving.specs.laws.{services.FreedUnit.{IsFilled, IsFree, Left, going_left, start_owed}}
 use Rattle.spi_serving.specs.laws.{words.JoinedLists.{get_within}, bookkeeping.MovedOn.{going_here, going_other}}
@@ -29,20 +30,14 @@ module _ (st : ToServe) (fc : Chip) (freed : IsFree st.d st.w st.chip st.u fc) (
   abbrev Away : ℕ → Type 0
   Away j = IsAway st fc freed j
 
-  known : (n : ℕ) (x : Part) → slice_get g.parts n ≡ Some x → (k : Channel) × (channel_of d x.channel ≡ Some k)
-  known n x there = part_known d fits u (word_of chip) g (for_at d fits below chip w s h on u g few is) (agrees_at d fits below chip w s h on u g few is) n x there
-
-  inner : (n : ℕ) (x : Part) (there : slice_get g.parts n ≡ Some x) → (placed_of d x.channel).channel.internal ≡ true → (known n x there).0.internal ≡ true
-  inner n x there i = is_inside d fits x.channel (known n x there).0 (known n x there).1 i
-
   same : (j : ℕ) → Away j → j ≢ running_word u → word_of c j ≡ word_of chip j
   same j away ne = a.away j away ∙ freed.alike j ne
 
   first_away : (j : ℕ) → j < STATE + 64 → Away j
-  first_away j lt n x there i = banks_past d fits x.channel (known n x there).0 (known n x there).1 (inner n x there i) Sent j lt
+  first_away j lt n x there i = banks_past d fits x.channel (part_channel st n x there).0 (part_channel st n x there).1 (part_inside st n x there i) Sent j lt
 
   users_away : (j : ℕ) → SOURCES ≤ j → Away j
-  users_away j le n x there i = banks_low d fits x.channel (known n x there).0 (known n x there).1 (inner n x there i) Sent j le
+  users_away j le n x there i = banks_low d fits x.channel (part_channel st n x there).0 (part_channel st n x there).1 (part_inside st n x there i) Sent j le
 
   module _ (n : ℕ) (k : Channel) (is_channel : channel_of d n ≡ Some k) where
     -- words of a channel that are in no bank of what it sends
@@ -52,10 +47,10 @@ module _ (st : ToServe) (fc : Chip) (freed : IsFree st.d st.w st.chip st.u fc) (
         away : Away j
         away m x there i = cases (same_or_other n x.channel)
             (λ e. subst (λ z. trio.own_of (trio_of (placed_of d z) Sent) j ≡ false) e (own m x there e))
-            (λ ne. banks_of_one d fits x.channel (known m x there).0 (known m x there).1 (inner m x there i) Sent n k j ne is_channel word)
+            (λ ne. banks_of_one d fits x.channel (part_channel st m x there).0 (part_channel st m x there).1 (part_inside st m x there i) Sent n k j ne is_channel word)
 
     held_same : word_of c (held_word (placed_of d n)) ≡ word_of chip (held_word (placed_of d n))
-    held_same = same (held_word (placed_of d n)) (λ m x there i. banks_unheld d fits x.channel (known m x there).0 (known m x there).1 (inner m x there i) Sent n k is_channel) (λ e. let past = past_the_first d n k (held_word (placed_of d n)) (fits.channels n k is_channel) (of_held d fits n k is_channel) in omega (arith, past, e, few))
+    held_same = same (held_word (placed_of d n)) (λ m x there i. banks_unheld d fits x.channel (part_channel st m x there).0 (part_channel st m x there).1 (part_inside st m x there i) Sent n k is_channel) (λ e. let past = past_the_first d n k (held_word (placed_of d n)) (fits.channels n k is_channel) (of_held d fits n k is_channel) in omega (arith, past, e, few))
 
     set_up_same : word_of c (set_up_word (placed_of d n)) ≡ word_of chip (set_up_word (placed_of d n))
     set_up_same = word_same (set_up_word (placed_of d n)) (of_set_up d fits n k is_channel) (λ i x there e. set_up_by (placed_of d n) Sent)
@@ -78,11 +73,11 @@ module _ (st : ToServe) (fc : Chip) (freed : IsFree st.d st.w st.chip st.u fc) (
 
       -- what came in of a failed job is left
       received_left : ReceivedLeft
-      received_left = by (part_or_none g.parts n)
+      received_left = received_in_either (part_or_none g.parts n)
         where
-          by : ((i : ℕ) × (x : Part) × (slice_get g.parts i ≡ Some x) × (x.channel ≡ n)) ⊎ ((i : ℕ) (x : Part) → slice_get g.parts i ≡ Some x → x.channel ≢ n) → ReceivedLeft
-          by (inl (i, x, there, e)) = (abandoning was.received, abandons (trio_of (placed_of d n) Received) (word_of c) was.received kept_as, refl, refl, subst (λ m. PutRight going_then (word_of c) (placed_of d m) None None) e (λ m lt. keeps_none st i x there m lt))
-          by (inr none) = (
+          received_in_either : ((i : ℕ) × (x : Part) × (slice_get g.parts i ≡ Some x) × (x.channel ≡ n)) ⊎ ((i : ℕ) (x : Part) → slice_get g.parts i ≡ Some x → x.channel ≢ n) → ReceivedLeft
+          received_in_either (inl (i, x, there, e)) = (abandoning was.received, abandons (trio_of (placed_of d n) Received) (word_of c) was.received kept_as, refl, refl, subst (λ m. PutRight going_then (word_of c) (placed_of d m) None None) e (λ m lt. keeps_none st i x there m lt))
+          received_in_either (inr none) = (
             was.received,
             kept_as,
             refl,
@@ -101,20 +96,17 @@ module _ (st : ToServe) (fc : Chip) (freed : IsFree st.d st.w st.chip st.u fc) (
           other ne (Some z) e = λ j y part. absurd (ne (one_job d fits below chip w s h on u m g z few lt is e i j x y there part.0 part.1))
 
       sent_left : SentLeft
-      sent_left = by (part_or_none g.parts n)
+      sent_left = sent_in_either (part_or_none g.parts n)
         where
-          four : (i : ℕ) → i < 4 → nat_lt i 4 ≡ true
-          four i lt = grind (arith, nat_tests)
-
-          by : ((i : ℕ) × (x : Part) × (slice_get g.parts i ≡ Some x) × (x.channel ≡ n)) ⊎ ((i : ℕ) (x : Part) → slice_get g.parts i ≡ Some x → x.channel ≢ n) → SentLeft
-          by (inl (i, x, there, e)) = (r.banks, subst (λ m. trio.Stands (trio_of (placed_of d m) Sent) (word_of c) r.banks) e r.stands, λ none. r.written none ∙ ap (λ m. first_items 0 (placed_of d m).channel.length ((view s).written m)) e ∙ ap (λ (z : Channel). first_items 0 z.length ((view s).written n)) (has_channel d fits n k is_channel), r.puts ∙ ap (λ m. put_held d (view s).sources m false below) e, subst (λ m. TakeRight going_then m r.banks.take) e (subst (λ o. TakeRight going_then x.channel o) (sym (r.free ended)) (λ m lt. pins_none i x there m lt)))
+          sent_in_either : ((i : ℕ) × (x : Part) × (slice_get g.parts i ≡ Some x) × (x.channel ≡ n)) ⊎ ((i : ℕ) (x : Part) → slice_get g.parts i ≡ Some x → x.channel ≢ n) → SentLeft
+          sent_in_either (inl (i, x, there, e)) = (r.banks, subst (λ m. trio.Stands (trio_of (placed_of d m) Sent) (word_of c) r.banks) e r.stands, λ none. r.written none ∙ ap (λ m. first_items 0 (placed_of d m).channel.length ((view s).written m)) e ∙ ap (λ (z : Channel). first_items 0 z.length ((view s).written n)) (has_channel d fits n k is_channel), r.puts ∙ ap (λ m. put_held d (view s).sources m false below) e, subst (λ m. TakeRight going_then m r.banks.take) e (subst (λ o. TakeRight going_then x.channel o) (sym (r.free ended)) (λ m lt. pins_none i x there m lt)))
             where
               r : SentAt st fc freed x (word_of c) (upto 4 i)
               r = a.sent i x there (says_inside d fits x.channel k (ap (channel_of d) e ∙ is_channel) internal)
 
               ended : upto 4 i ≡ true
-              ended = four i (let within = get_within g.parts i x there in let parts = parts_few d fits u (word_of chip) g (for_at d fits below chip w s h on u g few is) (agrees_at d fits below chip w s h on u g few is) in omega (arith, within, parts))
-          by (inr none) = (
+              ended = lt_from i 4 (let within = get_within g.parts i x there in let parts = parts_few d fits u (word_of chip) g (for_at d fits below chip w s h on u g few is) (agrees_at d fits below chip w s h on u g few is) in omega (arith, within, parts))
+          sent_in_either (inr none) = (
             was.sent,
             stands-agree (trio_of (placed_of d n) Sent) (word_of chip) (word_of c) was.sent (λ j own. sym (word_same j (of_banks d fits n k is_channel internal Sent j own) (λ i x there e. absurd (none i x there (sym e))))) was.sends,
             was.written,

@@ -1,18 +1,18 @@
 -- A unit that starts jobs of pending sequences is free after a job: what runs then, and the agreement with the start that
 -- the frame owes it.
--- From services.FreedUnit, spi_sequences: words.ListTests, spi_sequences: words.WordsToState and 7 more.
+-- From services.FreedUnit, spi_sequences: words.ListTests, spi_sequences: words.WordsToState and 8 more.
 -- Used by services.GoesOnRight, services.SequenceOverRight.
 use Rattle.std.proofs.Common.{◌≡◌, ◌≢◌, ◌<◌, ◌≤◌, ◌∷◌, ◌∙◌, ◌⊎◌}
 use Rattle.spi_serving.specs.Terms
-use Terms.{AllSend, Answer, AnswerName, any_some, ap, AreOwed, arith, Call, carried_at, CarriesAgrees, cases}
-use Terms.{ChannelState, Chip, Contains, false, get_or_default, Going, going_free, going_run, held_word, inl, inr}
-use Terms.{is_number, is_running, is_some, is_sync_unit, IsSoundState, item-other, item-same, List, list_any, None}
-use Terms.{not, not_true, of_held, Option, Origin, other_number, past_the_first, Pending, placed_of, refl}
+use Terms.{AllSend, Answer, AnswerName, any_changed, any_some, ap, AreOwed, arith, Call, carried_at, CarriesAgrees}
+use Terms.{cases, ChannelState, Chip, Contains, false, get_or_default, Going, going_free, going_run, held_word, inl}
+use Terms.{inr, is_number, is_running, is_some, is_sync_unit, IsSoundState, item-other, item-same, List, list_any}
+use Terms.{None, not, not_true, of_held, Option, Origin, other_number, past_the_first, Pending, placed_of, refl}
 use Terms.{Reservations, Run, run_at, run_carried, runs_none_sync, runs_sequence, RunsNext, same_or_other, sends_as}
 use Terms.{SequencesAgree, slice_index_or, Some, SpiRepresents, SpiState, subst, sym, true, unit_at, UnitAgrees, view}
 use Terms.{whether, with_item, word_of, ℕ}
 use Rattle.spi_serving.specs.laws.{services.FreedUnit.{freed_as, going_left, IsFilled, IsTold, Left, others_differ}}
-use Rattle.spi_serving.specs.laws.{services.FreedUnit.{start_owed, with_free}, services.FurtherBegun.{any_changed}}
+use Rattle.spi_serving.specs.laws.{services.FreedUnit.{start_owed, with_free}}
 use Rattle.spi_serving.specs.laws.{services.FurtherBegun.{right_like}, bookkeeping.JobsApart.{one_job}}
 use Rattle.spi_serving.specs.laws.{bookkeeping.MovedOn.{going_here, going_other}, ToServe.{ToServe}}
 
@@ -29,7 +29,7 @@ module _ (st : ToServe) (async : is_sync_unit st.d st.u ≡ false) where
   others_run n ne = any_changed (runs_sequence n) None s.units u None refl (sym (ap (runs_sequence n) (going_run d fits below chip w s h u g few async is).1 ∙ other_number g.pending.sequence n (λ e. ne (sym e))))
 
   pub none_runs : list_any (runs_sequence g.pending.sequence) units_left ≡ false
-  none_runs = not_true (list_any (runs_sequence g.pending.sequence) units_left) (λ e. by (any_some (runs_sequence g.pending.sequence) units_left e))
+  none_runs = not_true (list_any (runs_sequence g.pending.sequence) units_left) (λ e. runs_nowhere (any_some (runs_sequence g.pending.sequence) units_left e))
     where
       q : ℕ
       q = g.pending.sequence
@@ -53,8 +53,8 @@ module _ (st : ToServe) (async : is_sync_unit st.d st.u ≡ false) where
               idle None x y = cc
               idle (Some r) x y = cc
 
-      by : (x : Option Run) × Contains units_left x × (runs_sequence q x ≡ true) → ⊥
-      by (x, (n, lt, at), runs) = cases (same_or_other n u)
+      runs_nowhere : (x : Option Run) × Contains units_left x × (runs_sequence q x ≡ true) → ⊥
+      runs_nowhere (x, (n, lt, at), runs) = cases (same_or_other n u)
           (λ e. let f : None ≡ x = sym (item-same None s.units u None) ∙ ap (λ k. slice_index_or units_left k None) (sym e) ∙ same in let z = ap (runs_sequence q) f ∙ runs in cc)
           (λ ne. elsewhere n ne (ap (runs_sequence q) (sym (run_left n ne) ∙ same) ∙ runs))
         where
@@ -76,14 +76,14 @@ module _ (st : ToServe) (async : is_sync_unit st.d st.u ≡ false) where
     after = with_free s u cs ps qs js
 
     unit_left : (n : ℕ) → n < 2 → is_sync_unit d n ≡ false → UnitAgrees d (unit_at c.serials n) (run_at after n) (going_left st n)
-    unit_left n lt asks = by (same_or_other n u)
+    unit_left n lt asks = agrees_left (same_or_other n u)
       where
-        by : (n ≡ u) ⊎ (n ≢ u) → UnitAgrees d (unit_at c.serials n) (run_at after n) (going_left st n)
-        by (inl e) =
+        agrees_left : (n ≡ u) ⊎ (n ≢ u) → UnitAgrees d (unit_at c.serials n) (run_at after n) (going_left st n)
+        agrees_left (inl e) =
             subst (λ k. UnitAgrees d (unit_at c.serials k) (run_at after k) (going_left st k)) (sym e)
             (subst (λ r. UnitAgrees d (unit_at c.serials u) r (going_left st u)) (sym (item-same None s.units u None))
             (subst (λ o. UnitAgrees d (unit_at c.serials u) None o) (sym (going_here h.going u None)) l.unit))
-        by (inr ne) =
+        agrees_left (inr ne) =
             subst (λ x. UnitAgrees d x (run_at after n) (going_left st n)) (sym (l.others n ne))
             (subst (λ r. UnitAgrees d (unit_at chip.serials n) r (going_left st n)) (sym (run_left n ne))
             (subst (λ o. UnitAgrees d (unit_at chip.serials n) (run_at s n) o) (sym (going_other h.going u None n ne)) (h.units n lt asks)))

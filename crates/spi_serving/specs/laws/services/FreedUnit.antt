@@ -1,19 +1,19 @@
 -- A job has ended and its unit is free: the words and registers stand for the machine's state.
--- From spi_sequences: words.WordsOfModule, spi_sequences: words.ListTests and 12 more.
+-- From spi_sequences: words.WordsOfModule, spi_sequences: words.ListTests, spi_sequences: words.SameWords and 10 more.
 -- Used by services.GoesOnRight, services.SequenceOverRight, spi_sending: services.SendLast and 12 more.
-use Rattle.std.proofs.Common.{◌&&◌, ◌≡◌, ◌≢◌, ◌+◌, ◌<◌, ◌≤◌, ◌==◌, ◌||◌, ◌∷◌, ◌∙◌, if◌then◌else◌}
+use Rattle.std.proofs.Common.{◌&&◌, ◌≡◌, ◌≢◌, ◌+◌, ◌<◌, ◌≤◌, ◌==◌, ◌||◌, ◌∷◌, ◌∙◌}
 use Rattle.spi_serving.specs.Terms
 use Terms.{all_pending, AllRight, AllSend, Answer, AnswerName, ap, AreCarried, AreOwed, arith, banks_view}
-use Terms.{banks_words, BanksAgree, Bool, Call, carried_at, CarriesAgrees, cases, Channel, channel_at, channel_of}
-use Terms.{ChannelState, Chip, Contains, Debt, Destination, entries_of, false, few_places, filter, filter_back}
-use Terms.{from_order, Going, going_next, has_bit, has_channel, held_word, holds-agree, is_for, is_interrupt, is_off}
-use Terms.{is_owed, is_sync_unit, IsSoundState, length, length_by, List, mode_word, next_job, None, none_in}
-use Terms.{none_stored, not, not_true, of_banks, of_held, of_set_up, one_pending, one_unit, Option, order_word}
-use Terms.{Origin, Part, part_there, PartBy, past_the_first, Pending, place_of, placed_of, position_word, put_held}
-use Terms.{refl, Reservation, Reservations, ReservedBy, run_at, run_carried, RunAgrees, running_word, RunsNext}
-use Terms.{same_number, same_or_other, SequencesAgree, set_up_code, set_up_word, SetUpFits, slice_get, slice_index}
-use Terms.{slice_index_or, Some, Source, source_word, SpiRepresents, SpiState, SpiTable, StandsIn, STATE, subst, sym}
-use Terms.{there_back, to_order, true, unit_at, UnitAgrees, untouched, view, with_item, word_at, word_of, World, ℕ}
+use Terms.{banks_words, BanksAgree, Call, carried_at, CarriesAgrees, cases, Channel, channel_at, channel_of}
+use Terms.{ChannelState, Chip, Contains, Debt, Destination, entries_of, false, few_places, filter, filter_back, Going}
+use Terms.{going_next, going_words, has_bit, held_word, is_for, is_interrupt, is_off, is_owed, is_sync_unit}
+use Terms.{IsSoundState, length, length_by, List, mode_word, next_job, None, none_in, none_stored, not, not_true}
+use Terms.{of_banks, of_held, of_set_up, one_pending, one_unit, Option, order_stays, order_word, Origin, Part}
+use Terms.{past_the_first, Pending, place_of, placed_of, position_word, put_held, refl, Reservation, Reservations}
+use Terms.{ReservedBy, run_at, run_carried, RunAgrees, running_word, RunsNext, same_number, same_or_other}
+use Terms.{SequencesAgree, set_up_code, set_up_word, SetUpFits, slice_get, slice_index, slice_index_or, Some, Source}
+use Terms.{SpiRepresents, SpiState, SpiTable, StandsIn, STATE, subst, sym, there_back, true, unit_at, UnitAgrees}
+use Terms.{untouched, view, with_item, word_at, word_of, World, ℕ}
 use Rattle.spi_serving.specs.laws.{bookkeeping.MovedOn.{going_here}}
 use Rattle.spi_serving.specs.laws.{bookkeeping.MovedOn.{going_other}, ToServe.{ToServe}}
 use Rattle.word_shapes.specs.Order as order
@@ -82,14 +82,12 @@ module _ (st : ToServe) where
 
   -- the sequence is in the order of its unit alone
   pub in_no_other : (n : ℕ) → n ≢ u → order.is_there g.pending.sequence (entries_of d (view s) n) ≡ false
-  in_no_other n ne = not_true (order.is_there g.pending.sequence (entries_of d (view s) n)) (λ e. by (there_back (view s).running g.pending.sequence (filter (is_for d n) s.pending) e))
-    where
-      by : (x : Pending) × Contains (filter (is_for d n) s.pending) x × (x.sequence ≡ g.pending.sequence) → ⊥
-      by (x, at, same) =
-          let own = going_next d fits below chip w s h u g few is in
-          let k = filter_back (is_for d n) s.pending x at in
-          let one = one_pending d fits below chip w s h x g.pending (all_pending (view s) x k.0) own.0 same in
-          ne (one_unit d n u (next_job d g.pending) (subst (λ z. is_for d n z ≡ true) one k.1) own.2)
+  in_no_other n ne = not_true (order.is_there g.pending.sequence (entries_of d (view s) n)) (λ e.
+      let (x, at, same) = there_back (view s).running g.pending.sequence (filter (is_for d n) s.pending) e in
+      let own = going_next d fits below chip w s h u g few is in
+      let k = filter_back (is_for d n) s.pending x at in
+      let one = one_pending d fits below chip w s h x g.pending (all_pending (view s) x k.0) own.0 same in
+      ne (one_unit d n u (next_job d g.pending) (subst (λ z. is_for d n z ≡ true) one k.1) own.2))
 
   -- ---- the agreement
 
@@ -116,7 +114,7 @@ module _ (st : ToServe) where
 
     -- the orders are as they were
     pub order_left : (c : Chip) → Left c → (n : ℕ) → n < 2 → ranked.Holds (record { at = order_word n }) (word_of c) (entries_of d (view s) n)
-    order_left c l n lt = holds-agree (record { at = order_word n }) (word_of chip) (word_of c) (entries_of d (view s) n) (λ j own. let low = from_order n j own in let high = to_order n j own in sym (l.first j (omega (arith, low)) (omega (arith, high, lt)) (λ f. omega (arith, f, low, high, lt, few)))) ((h.words.on on).sequences.orders n lt)
+    order_left c l n lt = order_stays (word_of chip) (word_of c) (entries_of d (view s) n) n (λ j low high. l.first j (omega (arith, low)) (omega (arith, high, lt)) (λ f. omega (arith, f, low, high, lt, few))) ((h.words.on on).sequences.orders n lt)
 
     module _ (c f : Chip) (l : Left c) (t : IsTold w c f) where
       -- what another unit runs looks at words that are as they were
@@ -128,40 +126,10 @@ module _ (st : ToServe) where
 
       pub run_other : (n : ℕ) → n < 2 → n ≢ u → (o : Option Going) → h.going n ≡ o → RunAgrees d (word_of chip) n o → RunAgrees d (word_of f) n o
       run_other n lt ne None e r = (t.runs n lt).0 ∙ l.first (running_word n) (omega arith) (omega (arith, lt)) (λ x. ne (omega (arith, x))) ∙ r
-      run_other n lt ne (Some k) e r = record {
-        channels = r.channels;
-        running = (t.runs n lt).0 ∙ l.first (running_word n) (omega arith) (omega (arith, lt)) (λ x. ne (omega (arith, x))) ∙ r.running;
-        position = (t.runs n lt).1 ∙ l.first (position_word n) (omega arith) (omega (arith, lt)) (λ x. omega (arith, x, lt, few)) ∙ r.position;
-        place = r.place;
-        inside = r.inside;
-        count = r.count;
-        parts = λ i x there. ((r.parts i x there).0, part_of i x (placed_of d x.channel).channel.internal refl there (r.parts i x there).1);
-      }
-        where
-          part_of : (i : ℕ) (x : Part) (q : Bool) → (placed_of d x.channel).channel.internal ≡ q → slice_get k.parts i ≡ Some x → PartBy q (word_of chip) (placed_of d x.channel) k.at i x → PartBy q (word_of f) (placed_of d x.channel) k.at i x
-          part_of i x true e1 there a = a
-          part_of i x false e1 there a = by (part_there d fits n k i x (going_next d fits below chip w s h n k lt e).2 r.channels there)
-            where
-              by : (x.channel < 16) × (z : Channel) × (channel_of d x.channel ≡ Some z) → PartBy false (word_of f) (placed_of d x.channel) k.at i x
-              by (less, z, known) = record {
-                by = a.by;
-                held = past_held x.channel z known (ap (λ (y : Channel). y.internal) (sym (has_channel d fits x.channel z known)) ∙ e1) ∙ a.held;
-                count = a.count;
-                few = a.few;
-                goes = a.goes;
-                ahead = λ j under ahead. a.ahead j under ahead ∙ from a.by.source j (small j under);
-              }
-                where
-                  small : (j : ℕ) → j < a.by.length → j < 64
-                  small j under =
-                      let fewer = a.few in
-                      let same : (placed_of d x.channel).channel.length ≡ z.length = ap (λ (y : Channel). y.length) (has_channel d fits x.channel z known) in
-                      let most = (fits.channels x.channel z known).few in
-                      omega (arith, under, fewer, same, most)
-
-                  from : (q : Bool) (j : ℕ) → j < 64 → (if q then word_of chip (source_word (placed_of d x.channel) j) else (placed_of d x.channel).channel.default_data) ≡ (if q then word_of f (source_word (placed_of d x.channel) j) else (placed_of d x.channel).channel.default_data)
-                  from true j under = sym (past_source x.channel j less under)
-                  from false j under = refl
+      run_other n lt ne (Some k) e r =
+          going_words d fits n (word_of chip) (word_of f) k (going_next d fits below chip w s h n k lt e).2
+          (λ i x z there known outside. past_held x.channel z known outside) (λ i x z j there known under. let small = few_places d fits x.channel j under in past_source x.channel j small.0 small.1)
+          ((t.runs n lt).0 ∙ l.first (running_word n) (omega arith) (omega (arith, lt)) (λ x. ne (omega (arith, x)))) ((t.runs n lt).1 ∙ l.first (position_word n) (omega arith) (omega (arith, lt)) (λ x. omega (arith, x, lt, few))) r
 
       runs_left : (n : ℕ) → n < 2 → RunAgrees d (word_of f) n (going_left n)
       runs_left n lt = cases (same_or_other n u)

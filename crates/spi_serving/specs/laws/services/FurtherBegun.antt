@@ -1,25 +1,22 @@
 -- A further word has begun and what came in is kept: the words and registers stand for the machine's state.
--- From bookkeeping.MovedOn, bookkeeping.PinsTurned, bookkeeping.JobsApart and 10 more.
--- Used by spi_sending: services.SendFurther, services.FreedServed, services.FurtherServed and 4 more.
-use Rattle.std.proofs.Common.{◌≡◌, ◌≢◌, ◌+◌, ◌<◌, ◌≤◌, ◌&&◌, ◌||◌, [], ◌∷◌, ◌∙◌, ◌⊎◌, if◌then◌else◌}
+-- From bookkeeping.MovedOn, bookkeeping.PinsTurned, spi_sequences: words.SameWords, bookkeeping.JobsApart and 8 more.
+-- Used by spi_sending: services.SendFurther, services.FurtherServed, spi_sending: services.SendGoesOn and 4 more.
+use Rattle.std.proofs.Common.{◌≡◌, ◌≢◌, ◌+◌, ◌<◌, ◌≤◌, ◌&&◌, [], ◌∷◌, ◌∙◌, ◌⊎◌}
 use Rattle.spi_serving.specs.Terms
-use Terms.{AllRight, AllSend, ap, AreCarried, arith, BanksAgree, Bool, Call, cancelled_bit, carried_at, CarriesAgrees}
-use Terms.{cases, Channel, channel_at, channel_of, ChannelState, Chip, Contains, Destination, entries_of, false}
-use Terms.{few_places, from_order, Going, GoingAgrees, has_bit, has_channel, has_mark, held_word, HeldRight}
-use Terms.{holds-agree, inl, inr, is_interrupt, is_off, is_owed, is_some, is_sync_unit, IsReady, IsSoundState}
-use Terms.{item-other, item-same, job_small, job_word, jobs_of, length, length-append, length_by, List, list_any}
-use Terms.{MARKS, next_in, NEXTS, None, none_in, none_stored, not, Option, order_word, packed_position, Part}
-use Terms.{part_there, PartBy, place_of, placed_of, pointwise, Position, position_word, refl, Reservation}
-use Terms.{Reservations, ReservedBy, Run, run_at, run_carried, RunAgrees, running_word, runs_sequence, RunsNext}
-use Terms.{same_or_other, sends_as, sequence_word, SequencesAgree, set_up_code, set_up_word, SetUpFits, slice_get}
-use Terms.{slice_index, slice_index_or, Some, Source, source_word, SpiRepresents, SpiState, SpiTable, StandsIn}
-use Terms.{started_bit, STATE, subst, suc, sym, to_order, to_write, true, unit_at, UnitAgrees, untouched, view}
-use Terms.{with_item, word_at, word_of, WordsAgree, Writing, zero, ℕ}
+use Terms.{AllRight, AllSend, any_changed, ap, AreCarried, arith, BanksAgree, Call, carried_at, CarriesAgrees, cases}
+use Terms.{Channel, channel_at, channel_of, ChannelState, Chip, Contains, Destination, false, few_places, Going}
+use Terms.{going_words, GoingAgrees, has_bit, held_word, HeldRight, inl, inr, is_for, is_interrupt, is_off, is_owed}
+use Terms.{is_some, is_sync_unit, IsReady, IsSoundState, item-other, item-same, length, length-append, length_by}
+use Terms.{List, None, none_in, none_stored, not, Option, packed_position, Part, part_words, place_of, placed_of}
+use Terms.{pointwise, Position, position_word, refl, Reservation, Reservations, ReservedBy, Run, run_at, run_carried}
+use Terms.{RunAgrees, running_word, runs_sequence, RunsNext, same_or_other, sends_as, sequences_stay, SequencesAgree}
+use Terms.{set_up_code, set_up_word, SetUpFits, slice_get, slice_index, slice_index_or, Some, Source, source_word}
+use Terms.{SpiRepresents, SpiState, SpiTable, StandsIn, STATE, subst, sym, to_write, true, unit_at, UnitAgrees}
+use Terms.{untouched, view, with_item, word_at, word_of, WordsAgree, Writing, ℕ}
 use Rattle.spi_serving.specs.laws.{bookkeeping.JobsApart.{agrees_at, for_at, one_job}, bookkeeping.MovedOn.{ahead_still}}
 use Rattle.spi_serving.specs.laws.{bookkeeping.MovedOn.{by_unit, going_here, going_other}}
 use Rattle.spi_serving.specs.laws.{words.JoinedLists.{get_within}, bookkeeping.PinsTurned.{After, At, going1, later}}
 use Rattle.spi_serving.specs.laws.{ToServe.{ToServe}}
-use Rattle.word_shapes.specs.PriorityQueue as ranked
 use Rattle.mcal_base.specs.facts.Options.{some_is}
 
 -- ---- channels that differ in the users' destinations alone
@@ -40,13 +37,6 @@ right_like d s cs like (x ∷ xs) r = (one x x.what r.0, right_like d s cs like 
     one x _ r = r
 
 -- ---- a state with another run on a unit
-
--- some item of a list is so after another one was put in its place that is so alike
-pub any_changed : {A : Type 0} (p : A → Bool) (first : A) (xs : List A) (k : ℕ) (x : A) → p first ≡ false → p x ≡ p (slice_index_or xs k first) → list_any p (with_item first xs k x) ≡ list_any p xs
-any_changed p first [] zero x none e = ap (λ q. q || false) (e ∙ none)
-any_changed p first [] (suc k) x none e = ap (λ q. q || list_any p (with_item first [] k x)) none ∙ any_changed p first [] k x none e
-any_changed p first (y ∷ ys) zero x none e = ap (λ q. q || list_any p ys) e
-any_changed p first (y ∷ ys) (suc k) x none e = ap (λ q. p y || q) (any_changed p first ys k x none e)
 
 abbrev pub with_run_and : SpiState → (number : ℕ) → Run → List ChannelState → List (List (ℕ × ℕ)) → SpiState
 with_run_and s u r cs ws = record s { channels = cs; units = with_item None s.units u (Some r); wires = ws }
@@ -96,31 +86,15 @@ module _ (st : ToServe) (at : At st st.g.at (length st.g.received)) (p : Positio
     abbrev represents : GoingAgrees d (word_of chip) u g
     represents = agrees_at d fits below chip w s h on u g few is
 
-    -- a part of the job looks at what is held of it, where it is external, and at its source
-    part_as : (n : ℕ) (x : Part) (q : Bool) → (placed_of d x.channel).channel.internal ≡ q → slice_get g.parts n ≡ Some x → PartBy q (word_of chip) (placed_of d x.channel) g.at n x → PartBy q (word_of c) (placed_of d x.channel) p n x
-    part_as n x true e there a = a
-    part_as n x false e there a = by (part_there d fits u g n x (for_at d fits below chip w s h on u g few is) represents.channels there)
-      where
-        by : (x.channel < 16) × (k : Channel) × (channel_of d x.channel ≡ Some k) → PartBy false (word_of c) (placed_of d x.channel) p n x
-        by (lt, k, known) = record {
-          by = a.by;
-          held = words.held x.channel k known (ap (λ (z : Channel). z.internal) (sym (has_channel d fits x.channel k known)) ∙ e) ∙ a.held;
-          count = a.count;
-          few = a.few;
-          goes = a.goes;
-          ahead = λ i less ahead. a.ahead i less (ahead_still d fits u (word_of chip) g (for_at d fits below chip w s h on u g few is) represents at p next follows v n i ahead) ∙ from a.by.source i (small i less);
-        }
-          where
-            small : (i : ℕ) → i < a.by.length → i < 64
-            small i less =
-                let fewer = a.few in
-                let same : (placed_of d x.channel).channel.length ≡ k.length = ap (λ (z : Channel). z.length) (has_channel d fits x.channel k known) in
-                let most = (fits.channels x.channel k known).few in
-                omega (arith, less, fewer, same, most)
+    abbrev for : is_for d u g.pending ≡ true
+    for = for_at d fits below chip w s h on u g few is
 
-            from : (q : Bool) (i : ℕ) → i < 64 → (if q then word_of chip (source_word (placed_of d x.channel) i) else (placed_of d x.channel).channel.default_data) ≡ (if q then word_of c (source_word (placed_of d x.channel) i) else (placed_of d x.channel).channel.default_data)
-            from true i less = sym (words.sources x.channel i lt less)
-            from false i less = refl
+    -- a part of a job looks at what is held of it, where it is external, and at its source
+    held_stays : (k : Going) (i : ℕ) (x : Part) (z : Channel) → slice_get k.parts i ≡ Some x → channel_of d x.channel ≡ Some z → z.internal ≡ false → word_of c (held_word (placed_of d x.channel)) ≡ word_of chip (held_word (placed_of d x.channel))
+    held_stays k i x z there known outside = words.held x.channel z known outside
+
+    source_stays : (k : Going) (i : ℕ) (x : Part) (z : Channel) (j : ℕ) → slice_get k.parts i ≡ Some x → channel_of d x.channel ≡ Some z → j < length_by (channel_of d x.channel) → word_of c (source_word (placed_of d x.channel) j) ≡ word_of chip (source_word (placed_of d x.channel) j)
+    source_stays k i x z j there known less = let small = few_places d fits x.channel j less in words.sources x.channel j small.0 small.1
 
     run_going : RunAgrees d (word_of c) u (Some going_on)
     run_going = record {
@@ -130,46 +104,19 @@ module _ (st : ToServe) (at : At st st.g.at (length st.g.received)) (p : Positio
       place = get_within g.parts p.channel next.part next.there;
       inside = λ x e. subst (λ z. p.word < length z.values) (some_is next.part x (sym next.there ∙ e)) next.inside;
       count = length-append g.received (v ∷ []) ∙ next.count;
-      parts = λ n x e. ((represents.parts n x e).0, part_as n x (placed_of d x.channel).channel.internal refl e (represents.parts n x e).1);
+      parts = λ n x e. (
+        (represents.parts n x e).0,
+        part_words d fits u (word_of chip) (word_of c) g for (held_stays g) (source_stays g) p n x (ahead_still d fits u (word_of chip) g for represents at p next follows v n)
+            represents.channels e (placed_of d x.channel).channel.internal refl (represents.parts n x e).1,
+      );
     }
 
     -- another unit's job looks at words that are as they were
     run_other : (n : ℕ) → n < 2 → n ≢ u → (o : Option Going) → h.going n ≡ o → RunAgrees d (word_of chip) n o → RunAgrees d (word_of c) n o
     run_other n lt ne None e r = words.first (running_word n) (omega arith) (omega (arith, lt)) (λ f. omega (arith, f, lt, few)) ∙ r
-    run_other n lt ne (Some k) e r = record {
-      channels = r.channels;
-      running = words.first (running_word n) (omega arith) (omega (arith, lt)) (λ f. omega (arith, f, lt, few)) ∙ r.running;
-      position = words.first (position_word n) (omega arith) (omega (arith, lt)) (λ f. ne (omega (arith, f))) ∙ r.position;
-      place = r.place;
-      inside = r.inside;
-      count = r.count;
-      parts = λ i x there. ((r.parts i x there).0, part_of i x (placed_of d x.channel).channel.internal refl there (r.parts i x there).1);
-    }
-      where
-        part_of : (i : ℕ) (x : Part) (q : Bool) → (placed_of d x.channel).channel.internal ≡ q → slice_get k.parts i ≡ Some x → PartBy q (word_of chip) (placed_of d x.channel) k.at i x → PartBy q (word_of c) (placed_of d x.channel) k.at i x
-        part_of i x true f there a = a
-        part_of i x false f there a = by (part_there d fits n k i x (for_at d fits below chip w s h on n k lt e) r.channels there)
-          where
-            by : (x.channel < 16) × (z : Channel) × (channel_of d x.channel ≡ Some z) → PartBy false (word_of c) (placed_of d x.channel) k.at i x
-            by (less, z, known) = record {
-              by = a.by;
-              held = words.held x.channel z known (ap (λ (y : Channel). y.internal) (sym (has_channel d fits x.channel z known)) ∙ f) ∙ a.held;
-              count = a.count;
-              few = a.few;
-              goes = a.goes;
-              ahead = λ j below ahead. a.ahead j below ahead ∙ from a.by.source j (small j below);
-            }
-              where
-                small : (j : ℕ) → j < a.by.length → j < 64
-                small j below =
-                    let fewer = a.few in
-                    let same : (placed_of d x.channel).channel.length ≡ z.length = ap (λ (y : Channel). y.length) (has_channel d fits x.channel z known) in
-                    let most = (fits.channels x.channel z known).few in
-                    omega (arith, below, fewer, same, most)
-
-                from : (q : Bool) (j : ℕ) → j < 64 → (if q then word_of chip (source_word (placed_of d x.channel) j) else (placed_of d x.channel).channel.default_data) ≡ (if q then word_of c (source_word (placed_of d x.channel) j) else (placed_of d x.channel).channel.default_data)
-                from true j below = sym (words.sources x.channel j less below)
-                from false j below = refl
+    run_other n lt ne (Some k) e r =
+        going_words d fits n (word_of chip) (word_of c) k (for_at d fits below chip w s h on n k lt e) (held_stays k) (source_stays k)
+        (words.first (running_word n) (omega arith) (omega (arith, lt)) (λ f. omega (arith, f, lt, few))) (words.first (position_word n) (omega arith) (omega (arith, lt)) (λ f. ne (omega (arith, f)))) r
 
     pub runs_after : (n : ℕ) → n < 2 → RunAgrees d (word_of c) n (going_after n)
     runs_after n lt = cases (same_or_other n u)
@@ -178,26 +125,7 @@ module _ (st : ToServe) (at : At st st.g.at (length st.g.received)) (p : Positio
 
     -- the words of sequences and jobs are as they were
     sequences_after : SequencesAgree d (word_of c) (view s)
-    sequences_after = record {
-      sequences = λ q lt. words.first (sequence_word q) (omega arith) (omega (arith, lt)) (λ e. omega (arith, e, few)) ∙ was.sequences q lt;
-      pending = λ z there. let a = was.pending z there in record { next = ap (λ n. next_in n z.sequence) nexts ∙ a.next; started = ap (λ n. has_mark n (started_bit z.sequence)) marks ∙ a.started; cancelled = ap (λ n. has_mark n (cancelled_bit z.sequence)) marks ∙ a.cancelled };
-      begun = λ n z e. ap (λ v. next_in v z.sequence) nexts ∙ was.begun n z e;
-      had = λ z i there le lt. let small = job_small d fits z.sequence i lt in words.first (job_word (slice_index_or (jobs_of d z.sequence) i 0)) (omega arith) (omega (arith, small)) (λ e. omega (arith, e, few)) ∙ was.had z i there le lt;
-      jobs = λ j lt none. words.first (job_word j) (omega arith) (omega (arith, lt)) (λ e. omega (arith, e, few)) ∙ was.jobs j lt none;
-      orders = λ n lt. holds-agree (record { at = order_word n }) (word_of chip) (word_of c) (entries_of d (view s) n) (λ j own. sym (order_same n j lt own)) (was.orders n lt);
-    }
-      where
-        was : SequencesAgree d (word_of chip) (view s)
-        was = (h.words.on on).sequences
-
-        nexts : word_of c NEXTS ≡ word_of chip NEXTS
-        nexts = words.first NEXTS (omega arith) (omega arith) (λ e. omega (arith, e))
-
-        marks : word_of c MARKS ≡ word_of chip MARKS
-        marks = words.first MARKS (omega arith) (omega arith) (λ e. omega (arith, e))
-
-        order_same : (n j : ℕ) → n < 2 → ranked.own_of (record { at = order_word n }) j ≡ true → word_of c j ≡ word_of chip j
-        order_same n j lt own = let low = from_order n j own in let high = to_order n j own in words.first j (omega (arith, low)) (omega (arith, high, lt)) (λ e. omega (arith, e, low, high, lt, few))
+    sequences_after = sequences_stay d fits (word_of chip) (word_of c) (view s) (λ k low high aside. words.first k (omega (arith, low)) high (aside u few).1) (h.words.on on).sequences
 
     -- the state after it is as it was but for the unit's run, the wire, and the users' destinations
     module _ (s1 : SpiState) (seen : view s1 ≡ view s) (like : IsLike s1.channels s) where

@@ -12,13 +12,13 @@ use Terms.{job_of, JobWord, Keep, keep_ends, keep_move, keep_of, keeping, length
 use Terms.{Main, main_over, may, may_store, may_users, min, mod-mod, nat_le, nat_lt, nat_tests, next_job, None, not}
 use Terms.{Nowhere, on_wire, one_owed, Option, owed_left, owed_move, owes_move, own-control, own_first, own_held}
 use Terms.{own_low, packed_position, PartBy, PendingWrites, place_of, Placed, placed_of, Position, position_word}
-use Terms.{Received, received_with, refl, releasing, Reservations, Run, run_of, same_or_other, select_by, select_of}
-use Terms.{SendsRight, Sent, Serial, SerialData, serve_keeps, serve_lets, serve_move, ServePlace, ServeStep, SetUp}
-use Terms.{slice_index_or, Some, SOURCES, spi_owing, SpiRepresents, SpiState, SpiTable, stands-move, StandsIn, Store}
-use Terms.{stored, stored_other, stored_same, subst, sym, Take, take_gave, take_move, taker_of, ToChannel}
-use Terms.{ToDestination, trio_of, true, unit_at, unit_over, unit_owed, unit_run, UnitBody, UnitPlace, Units}
-use Terms.{unless_done, unpacked, untouched, value_of, wire_at, with_item, word_after, word_at, word_of, World, Write}
-use Terms.{zero, ℕ}
+use Terms.{positive, Received, received_with, refl, releasing, Reservations, Run, run_of, same_or_other, select_by}
+use Terms.{select_of, SendsRight, Sent, Serial, SerialData, serve_keeps, serve_lets, serve_move, ServePlace}
+use Terms.{ServeStep, SetUp, slice_index_or, Some, SOURCES, spi_owing, SpiRepresents, SpiState, SpiTable, stands-move}
+use Terms.{StandsIn, Store, stored, stored_other, stored_same, subst, sym, Take, take_gave, take_move, taker_of}
+use Terms.{ToChannel, ToDestination, trio_of, true, unit_at, unit_over, unit_owed, unit_run, UnitBody, UnitPlace}
+use Terms.{Units, unless_done, unpacked, untouched, value_of, wire_at, with_item, word_after, word_at, word_of, World}
+use Terms.{Write, zero, ℕ}
 use Rattle.spi_serving.specs.laws.{words.FacingWords.{at_is}}
 use Rattle.spi_serving.specs.laws.{words.FacingWords.{next_at, next_channel, next_word}}
 use Rattle.spi_serving.specs.laws.{words.FacingWords.{served_by as by_served, served_is, standing, way, word_is}}
@@ -370,9 +370,6 @@ module _ (d : SpiTable) (fits : FitsSpi d) (below : Reservations) (chip : Chip) 
           split : (q : Bool) → here.channel.internal ≡ q → (z : Bool) → (going.at.word == 0) ≡ z → (b : Bool) → (unpacked (word_of chip (held_word here))).destination ≡ b → Owes (serve.Keep (keep_of d a) p) c
           split true f true g1 b k1 = subst (λ k. Owes (serve.Keep k p) c) (sym (keep_is ∙ kept_as here going.at.word (word_of chip) came true f true g1)) (keep_first f (is_number going.at.word 0 g1))
           split true f false g1 b k1 = subst (λ k. Owes (serve.Keep k p) c) (sym (keep_is ∙ kept_as here going.at.word (word_of chip) came true f false g1)) (keep_more f (positive going.at.word g1))
-            where
-              positive : (n : ℕ) → (n == 0) ≡ false → 0 < n
-              positive n h1 = grind (arith, nat_tests)
           split false f z g1 true k1 = subst (λ k. Owes (serve.Keep k p) c) (sym (keep_is ∙ kept_as here going.at.word (word_of chip) came false f z g1 ∙ ap (λ b. if b then keeps.Store here going.at.word came else keeps.Drop here) k1)) (keep_outside f k1)
           split false f z g1 false k1 = subst (λ k. Owes (serve.Keep k p) c) (sym (keep_is ∙ kept_as here going.at.word (word_of chip) came false f z g1 ∙ ap (λ b. if b then keeps.Store here going.at.word came else keeps.Drop here) k1)) (keep_nowhere f k1)
 
@@ -391,14 +388,12 @@ module _ (d : SpiTable) (fits : FitsSpi d) (below : Reservations) (chip : Chip) 
 
     lets_by : (q : Bool) → there.channel.internal ≡ q → (b : Bool) → is_last_place there p.word ≡ b → Owes (lets_with d a p there) chip1
     lets_by true f true g1 =
+        let cw : ℕ = control_word there Sent in
         subst (λ z. Owes (if z then serve.Let a p (releasing there Sent) else serve.Keep (keep_of d a) p) chip1) (sym (ap (λ z. z && is_last_place there p.word) f ∙ g1))
         (step_to (serve.Let a p (takes.Release cw)) chip1 (Some (into (serve.Let a p (takes.Free cw (word_of chip1 cw % 4))))) (own f) (owes.lets a p (takes.Release cw) (value_of chip1 (take_move (takes.Release cw))))
         (step_to (serve.Let a p (takes.Free cw (word_of chip1 cw % 4))) chip1 (Some (into (serve.Keep (keep_of d a) p))) (own f) (owes.lets a p (takes.Free cw (word_of chip1 cw % 4)) (value_of chip1 (take_move (takes.Free cw (word_of chip1 cw % 4)))))
         (keep_owes (chip_after chip1 (Store cw (word_of chip1 cw % 4)) 0) (let_ends st at p next follows came chip1 outside1 (λ j. refl) f (is_last f true g1)) (record { serials = refl; wiring = refl; control = refl }))))
       where
-        cw : ℕ
-        cw = control_word there Sent
-
         own : there.channel.internal ≡ true → may d (Store (control_word there Sent) (word_of chip1 (control_word there Sent) % 4)) ≡ true
         own q = let k = there_known st at p next follows came in may_store d fits (control_word there Sent) (word_of chip1 (control_word there Sent) % 4) (banks_own d fits next.part.channel k.0 k.1 (is_inside d fits next.part.channel k.0 k.1 q) Sent (control_word there Sent) (own-control (trio_of there Sent)))
     lets_by true f false g1 =

@@ -85,15 +85,13 @@ module _ (d : SpiTable) (fits : FitsSpi d) (below : Reservations) (chip : Chip) 
 
     over : (c : Chip) → further.Keeps d fits below chip w s h u few a p v y i wide is_word c → further.IsAfter d fits below chip w s h u few a p v y i wide is_word c → further.Destinations d fits below chip w s h u few a p v y i wide is_word c → Done (further.placed_in d fits below chip w s h u few a p v y i wide is_word c)
     over c kept rest destinations =
+        let final : Chip = further.placed_in d fits below chip w s h u few a p v y i wide is_word c in
         clears d below final w state1 u owner acted fits
         (run_agrees (further.st d fits below chip w s h u few a p v y i wide is_word) (further.at d fits below chip w s h u few a p v y i wide is_word) p (further.next d fits below chip w s h u few a p v y i wide is_word) (further.follows d fits below chip w s h u few a p v y i wide is_word) (further.came d fits below chip w s h u few a p v y i wide is_word) final (words_after (further.st d fits below chip w s h u few a p v y i wide is_word) (further.at d fits below chip w s h u few a p v y i wide is_word) p (further.next d fits below chip w s h u few a p v y i wide is_word) (further.follows d fits below chip w s h u few a p v y i wide is_word) (further.came d fits below chip w s h u few a p v y i wide is_word) c kept) async later_run (further.channels d fits below chip w s h u few a p v y i wide is_word) (further.wires d fits below chip w s h u few a p v y i wide is_word) run runs refl (stored_like s word word.goes run.transfer.incoming)
         (stands-move c w (Store (position_word u) (packed_position p)) 0 kept.outside) rest.wiring rest.control (ap (λ x. length x.units) rest.serials ∙ length-set chip.serials.units u _ ∙ h.size)
         (subst (λ x. UnitAgrees d (unit_at x u) (Some later_run) (Some (moved_on under.job p (further.came d fits below chip w s h u few a p v y i wide is_word)))) (sym rest.serials) unit)
         (λ n ne. ap (λ x. unit_at x n) rest.serials ∙ unit_other chip u n (serials.begun y chip.serials.time (unit_at chip.serials u)) ne)
         (λ n j lt. stored_other c (position_word u) (packed_position p) 0 (place_of (Destination n) j) (λ f. omega (arith, f, few)) ∙ destinations n j lt)) (λ q none also for. let free = sym (item-same None s.units u (Some later_run)) ∙ none in cc)
-      where
-        final : Chip
-        final = further.placed_in d fits below chip w s h u few a p v y i wide is_word c
 
     pub further_owes : (n : ℕ) × CommitsTo (spi_owing d) n (Units (serving d e u (lets_of d a p))) chip1 Done
     further_owes = further.further_owes d fits below chip w s h u few a p v y i wide is_word (λ q. Units (serving d e u q)) (served_words d e u) Done over

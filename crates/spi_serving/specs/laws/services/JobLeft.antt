@@ -7,11 +7,11 @@ use Rattle.spi_serving.specs.Terms
 use Terms.{Answer, ap, arith, Arrived, asked_word, bank_of, begins_by, Bool, Call, channel_served, Chip, chip_after}
 use Terms.{commit_at, commit_by, commit_last, CommitsTo, control_word, ends_of, false, FitsSpi, free_bank, further_of}
 use Terms.{Going, held_word, is_number, IsLast, IsServed, Keep, keep_ends, keep_left, keep_of, keeping, Leaving}
-use Terms.{length, length-set, lt_itself, lt_next, may_store, nat_tests, None, not, Option, Origin, own_first, Part}
-use Terms.{PendingWrites, Placed, placed_of, Position, Received, refl, release_last, Reservations, Run, running_word}
-use Terms.{SequenceNext, SerialAck, serve_keeps_last, serve_owes, ServePlace, slice_get, Some, some_is, some_or_none}
-use Terms.{spi_owing, SpiRepresents, SpiState, SpiTable, stands-move, StandsIn, Store, stored_other, stored_same}
-use Terms.{subst, suc, sym, taker_of, true, unit_at, unpacked, word_of, words_of, World, Write, ℕ}
+use Terms.{length, length-set, lt_itself, lt_next, may_store, None, not, Option, Origin, own_first, Part}
+use Terms.{PendingWrites, Placed, placed_of, Position, positive, Received, refl, release_last, Reservations, Run}
+use Terms.{running_word, SequenceNext, SerialAck, serve_keeps_last, serve_owes, ServePlace, slice_get, Some, some_is}
+use Terms.{some_or_none, spi_owing, SpiRepresents, SpiState, SpiTable, stands-move, StandsIn, Store, stored_other}
+use Terms.{stored_same, subst, suc, sym, taker_of, true, unit_at, unpacked, word_of, words_of, World, Write, ℕ}
 use Rattle.spi_serving.specs.laws.{words.AllKept.{AllKept, commit_one, commit_owes, lt_else}, services.EndsOwed.{end_to, OwesEnds, OwesKeep}, words.CommitWords.{commits_owed, held_kept, upto}}
 use Rattle.spi_serving.specs.laws.{words.FacingWords.{at_is, onward_to}}
 use Rattle.spi_serving.specs.laws.{words.FacingWords.{served_is, standing}, services.FailedEnded.{failed_left}}
@@ -142,9 +142,6 @@ module _ (d : SpiTable) (fits : FitsSpi d) (below : Reservations) (chip : Chip) 
           as_kept : (k : Keep) → keep_of d a ≡ k → Keeps k → Keeps (keep_of d a)
           as_kept k f o = subst (λ z. Keeps z) (sym f) o
 
-          positive : (n : ℕ) → (n == 0) ≡ false → 0 < n
-          positive n f = grind (arith, nat_tests)
-
           split : (q : Bool) → here.channel.internal ≡ q → (z : Bool) → (g.at.word == 0) ≡ z → (b : Bool) → (unpacked (word_of chip (held_word here))).destination ≡ b → Keeps (keep_of d a)
           split true f true z b k = as_kept (keeps.Hold here (free_bank (word_of chip (control_word here Received))) came) (keep_is ∙ kept_as here g.at.word (word_of chip) came true f true z)
               (last_first st at (last good) came base outside alike owing next owes Done onward f (is_number g.at.word 0 z))
@@ -169,16 +166,11 @@ module _ (d : SpiTable) (fits : FitsSpi d) (below : Reservations) (chip : Chip) 
 
     fails : a.served.failed ≡ true → Owes (release_last d (leaving c) (4 - a.served.at.channel)) fc
     fails f =
+        let parts : length g.parts ≤ 4 = parts_few d fits u (word_of chip) g under.for under.represents in
         subst (λ p. Owes (release_last d (leaving c) (4 - p.channel)) fc) (sym place_is)
         (releases_owed st fc freed into owes (leaving c) Done (ends.job_is d fits below chip w s h u few a i y) place_is
         (λ c1 let_all. result_owes c1 (subst (λ z. (k : IsFilled z s) → Left st owner acted z k c1) (sym (leaves f)) (failed_left st fc freed c1 let_all owner acted) like))
-        (4 - g.at.channel) g.at.channel (omega (arith, within, parts)) fc (let_start st fc freed))
-      where
-        within : g.at.channel < length g.parts
-        within = under.represents.place
-
-        parts : length g.parts ≤ 4
-        parts = parts_few d fits u (word_of chip) g under.for under.represents
+        (4 - g.at.channel) g.at.channel (omega (arith, under.represents.place, parts)) fc (let_start st fc freed))
 
     -- ---- one that ended well
 

@@ -2,20 +2,20 @@
 -- machine's state.
 -- From services.ToldRight, spi_sequences: bookkeeping.SequenceEnded, services.FreedUnit and 16 more.
 -- Used by services.JobOverRight.
-use Rattle.std.proofs.Common.{◌≡◌, ◌≢◌, ◌+◌, ◌<◌, ◌≤◌, ◌==◌, ◌&&◌, [], ◌∷◌, ◌∙◌, ◌⊎◌}
+use Rattle.std.proofs.Common.{◌≡◌, ◌≢◌, ◌+◌, ◌<◌, ◌≤◌, ◌&&◌, [], ◌∷◌, ◌∙◌, ◌⊎◌}
 use Rattle.spi_serving.specs.Terms
-use Terms.{after_serve, all_of, all_pending, Answer, AnswerName, ap, AreOwed, arith, at_left, Bool, Call, cases}
-use Terms.{ChannelState, Chip, CommitsTo, Contains, DiffersIn, drop, drop-ends, drop_gave, Dropped, dropping}
-use Terms.{ended_sound, ended_view, ended_words, entries_of, failed_word, false, filter, filter_back, filter_keeps}
-use Terms.{FitsSpi, FrameRole, given_back, Going, going_asked, going_next, inl, inr, is_for, is_left, is_of, is_off}
+use Terms.{after_serve, all_of, all_pending, Answer, AnswerName, ap, AreOwed, arith, Bool, Call, cases, ChannelState}
+use Terms.{Chip, CommitsTo, Contains, DiffersIn, drop-ends, drop_gave, Dropped, dropping, ended_sound, ended_view}
+use Terms.{ended_words, entries_of, failed_word, false, filter, filter_back, filter_keeps, FitsSpi, FrameRole}
+use Terms.{given_back, Going, going_asked, going_next, inl, inr, is_behind, is_for, is_left, is_next, is_of, is_off}
 use Terms.{is_some, is_sync_unit, IsOfSequence, IsPart, IsSoundState, item-other, item-same, job_code, job_result}
-use Terms.{job_word, jobs_of, Leaves, leaves_pending, Leaving, left_at, left_order, LeftAt, length, List, list_any}
-use Terms.{MARKS, may_store, named_own, next_job, next_small, NEXTS, None, not, not_order, not_true, one_owed}
-use Terms.{one_place, Option, order_there, order_word, Origin, other_number, own_first, own_order, PartTo, Pending}
-use Terms.{refl, result_by, RunsBy, RunsNext, same_or_other, search_of, sequence_code, sequence_word, sequences_as}
-use Terms.{SequencesAgree, serve_drops, Served, ServePlace, settles_part, slice_index_or, Some, sound_as, spi_owing}
-use Terms.{SpiJobOk, SpiRepresents, SpiSeqOk, SpiSeqPending, SpiState, SpiTable, STATE, stay, subst, sym, Taker}
-use Terms.{there_by, true, unit_owed, Units, unless_done, view, with_item, without, word_of, ℕ}
+use Terms.{job_word, jobs_of, Leaves, leaves_pending, Leaving, left_order, length, List, MARKS, may_store, named_own}
+use Terms.{next_ahead, next_job, next_left, next_small, NEXTS, None, not, not_order, one_owed, Option, order_there}
+use Terms.{order_word, Origin, other_number, own_first, own_order, PartTo, Pending, refl, result_by, RunsBy, RunsNext}
+use Terms.{same_or_other, search_of, sequence_code, sequence_word, sequences_as, SequencesAgree, serve_drops, Served}
+use Terms.{ServePlace, settles_part, Some, sound_as, spi_owing, SpiJobOk, SpiRepresents, SpiSeqOk, SpiSeqPending}
+use Terms.{SpiState, SpiTable, STATE, stay, subst, sym, Taker, there_by, true, unit_owed, Units, unless_done, view}
+use Terms.{with_item, without, word_of, ℕ}
 use Rattle.spi_sequences.specs.Refinement.{IsLast}
 use Rattle.spi_serving.specs.laws.{services.FreedServed.{calm_run, few_run, freed_agrees, others_run}}
 use Rattle.spi_serving.specs.laws.{services.FreedUnit.{in_no_other, order_left, IsFilled, Left, going_left}}
@@ -51,7 +51,7 @@ last_result : (b : Bool) → IsLast (result_by b)
 last_result true = tt
 last_result false = tt
 
-told_result : (b : Bool) → failed_word b ≡ job_code (result_by b)
+pub told_result : (b : Bool) → failed_word b ≡ job_code (result_by b)
 told_result true = refl
 told_result false = refl
 
@@ -104,35 +104,13 @@ module _ (st : ToServe) (async : is_sync_unit st.d st.u ≡ false) (owner : Orig
 
   -- of the jobs that were left its own alone has run
   abbrev later : ℕ → Bool
-  later j = list_any (λ k. k == j) (drop (p.next + 1) (jobs_of d p.sequence))
-
-  own_left : is_left d (next_job d p) p ≡ true
-  own_left = left_at (jobs_of d p.sequence) p.next p.next (next_job d p) within (omega arith) refl
-
-  own_run : later (next_job d p) ≡ false
-  own_run = not_true (later (next_job d p)) (λ e. by (at_left (jobs_of d p.sequence) (p.next + 1) (next_job d p) e))
-    where
-      by : LeftAt (jobs_of d p.sequence) (p.next + 1) (next_job d p) → ⊥
-      by a = let same = one_place d fits p.sequence a.place p.next a.within within a.is in let from = a.from in omega (arith, same, from)
-
-  is_own : (j : ℕ) → is_left d j p ≡ true → later j ≡ false → j ≡ next_job d p
-  is_own j left none = by (at_left (jobs_of d p.sequence) p.next j left)
-    where
-      by : LeftAt (jobs_of d p.sequence) p.next j → j ≡ next_job d p
-      by a = split (same_or_other a.place p.next)
-        where
-          split : (a.place ≡ p.next) ⊎ (a.place ≢ p.next) → j ≡ next_job d p
-          split (inl e) = sym a.is ∙ ap (λ n. slice_index_or (jobs_of d p.sequence) n 0) e
-          split (inr ne) = absurd (let from = a.from in let past : p.next + 1 ≤ a.place = greater p.next a.place from ne in let f = sym none ∙ left_at (jobs_of d p.sequence) (p.next + 1) a.place j a.within past a.is in cc)
-            where
-              greater : (n k : ℕ) → n ≤ k → k ≢ n → n + 1 ≤ k
-              greater n k le other = grind arith
+  later = is_behind d fits p within
 
   ran : (j : ℕ) → is_left d j p ≡ true → later j ≡ false → IsLast (job_result results j)
-  ran j left none = subst (λ k. IsLast (job_result results k)) (sym (is_own j left none)) (subst (λ z. IsLast z) (sym (item-same SpiJobOk s.job_results (next_job d p) (result_by failed))) (last_result failed))
+  ran j left none = subst (λ k. IsLast (job_result results k)) (sym (is_next d fits p within j left none)) (subst (λ z. IsLast z) (sym (item-same SpiJobOk s.job_results (next_job d p) (result_by failed))) (last_result failed))
 
   unrun : (j : ℕ) → is_left d j p ≡ false → job_result results j ≡ job_result s.job_results j
-  unrun j none = item-other SpiJobOk s.job_results (next_job d p) j (result_by failed) (λ e. let f = sym none ∙ ap (λ k. is_left d k p) e ∙ own_left in cc)
+  unrun j none = item-other SpiJobOk s.job_results (next_job d p) j (result_by failed) (λ e. let f = sym none ∙ ap (λ k. is_left d k p) e ∙ next_left d fits p within in cc)
 
   off : is_off s.mode ≡ true → (n : ℕ) → idle n ≡ true
   off e = absurd (let f = sym on ∙ e in cc)
@@ -233,14 +211,14 @@ module _ (st : ToServe) (async : is_sync_unit st.d st.u ≡ false) (owner : Orig
       job_same j lt unless = high_same (job_word j) (omega arith) (omega (arith, lt)) (λ y. let same = job_is in own (omega (arith, y, same))) (λ y. omega (arith, y, lt))
         where
           own : j ≡ next_job d p → ⊥
-          own e = let y = sym unless ∙ ap (λ k. is_left d k p && not (later k)) e ∙ ap (λ q. q && not (later (next_job d p))) own_left ∙ ap not own_run in cc
+          own e = let y = sym unless ∙ ap (λ k. is_left d k p && not (later k)) e ∙ ap (λ q. q && not (later (next_job d p))) (next_left d fits p within) ∙ ap not (next_ahead d fits p within) in cc
 
       sequences : SequencesAgree d (word_of f) (view after)
       sequences = sequences_as d (ended_view d fits (view s) h.sound p all (p.next + 1) (omega arith) results ran unrun after.pending (view s).begun leaves runs idle x named done others rest calm off) s.mode (view after).written (view after).received (view after).sources (word_of f)
           (ended_words d fits (view s) h.sound p all (p.next + 1) (omega arith) results ran unrun after.pending (view s).begun leaves runs idle x named done others rest calm off (word_of chip) (word_of f) was
           (λ n lt ne. high_same (sequence_word n) (omega arith) (omega (arith, lt)) (λ y. let lt1 = job_few in omega (arith, y, lt1)) (λ y. let same = sequence_is in ne (omega (arith, y, same)))) told
           (low_same NEXTS (omega arith) (omega arith)) (low_same MARKS (omega arith) (omega arith)) job_same
-          (λ j lt left none. subst (λ k. word_of f (job_word k) ≡ job_code (job_result results k)) (sym (is_own j left none)) result_told) orders)
+          (λ j lt left none. subst (λ k. word_of f (job_word k) ≡ job_code (job_result results k)) (sym (is_next d fits p within j left none)) result_told) orders)
 
       represents : Done f
       represents = freed_agrees st async owner acted cs like c f l (is_told w u few c l.outside result aside (failed_word r.failed) ending beside v apart f differs) after.pending after.sequence_results after.job_results sound nexts sequences owed

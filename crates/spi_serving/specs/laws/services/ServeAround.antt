@@ -1,18 +1,17 @@
 -- Around the steps of the serving window: its frame may make them, the hardware leaves the places as they are, and what follows
 -- a step at a place that owes moves.
--- From spi_sequences: services.ServeSteps.
+-- From spi_sequences: services.ServeSteps, spi_sequences: hardware.StableUnderHardware.
 -- Used by spi_driver: services.ServePart, spi_sending: services.SendAround.
 use Rattle.std.proofs.Common.{◌≡◌, ◌≢◌, ◌+◌, ◌<◌, ◌≤◌, ◌==◌, ◌&&◌, ◌∙◌, ◌⊎◌, if◌then◌else◌}
 use Rattle.spi_serving.specs.Terms
 use Terms.{after_job, ap, arith, Arrived, asked_word, begins_word, Bool, cancelled_bit, carried_at, Carrying}
 use Terms.{channel_next, channel_served, Chip, false, faulted_carrying, faulted_run, Fill, Find, find_move, Footing}
-use Terms.{get_or-set_other, get_or-set_same, happened, Hardware, has_mark, idle, inl, inr, is_done, is_fill}
-use Terms.{is_sync_unit, IsArrived, IsDone, IsFinding, IsFurther, IsLast, IsServed, IsTaken, item-other, item-same}
-use Terms.{length, Level, level_leaves, Load, MARKS, memories, Memory, moved, nat_le, nat_tests, NEXTS, None, Option}
-use Terms.{Order, Position, refl, resets_chip, Run, run_at, run_carried, run_in, running_word, same_or_other, Serial}
-use Terms.{serve_move, serve_owes, Served, ServePlace, slice_index_or, Some, SpiFault, SpiState, SpiTable, subst, sym}
-use Terms.{Taker, taker_of, Tick, Transfer, true, unit_at, unit_run, Word, word-left, word_of, word_place, World}
-use Terms.{world_after, ℕ}
+use Terms.{get_or-set_other, get_or-set_same, happened, has_mark, idle, inl, inr, is_done, is_fill, is_sync_unit}
+use Terms.{IsArrived, IsDone, IsFinding, IsFurther, IsLast, IsServed, IsTaken, item-other, item-same, length, Level}
+use Terms.{level_leaves, Load, MARKS, Memory, moved, nat_le, nat_tests, NEXTS, None, Option, Order, Position, refl}
+use Terms.{resets_chip, Run, run_at, run_carried, run_in, running_word, same_or_other, Serial, serve_move, serve_owes}
+use Terms.{Served, ServePlace, slice_index_or, Some, SpiFault, SpiState, SpiTable, subst, sym, Taker, taker_of, Tick}
+use Terms.{Transfer, true, unit_at, unit_run, Word, word_of, word_place, words_kept, World, world_after, ℕ}
 use Rattle.chip_units.specs.Serials as serials
 use Rattle.spi_jobs.specs.declared.finding.Find.TheVariants as finds
 use Rattle.spi_sequences.specs.declared.service.serve.ServePlace.TheVariants as serve
@@ -64,31 +63,24 @@ module _ (d : SpiTable) (u : ℕ) (f f1 : Footing) (w w1 : World) (s s1 : SpiSta
   place_kept (serve.Acknowledge a c) i = (last_kept a i.0, i.1 ∙ ap (λ (m : Memory). after_job d a.served (has_mark (m MARKS) (cancelled_bit a.served.run.sequence)) (m NEXTS)) (sym words))
   place_kept _ i = absurd i
 
-words_kept : (chip : Chip) (order : Order) → is_fill order ≡ false → word_of (happened chip order) ≡ word_of chip
-words_kept chip order e = memories (word_of (happened chip order)) (word_of chip) (λ k. by order e k)
-  where
-    by : (order : Order) → is_fill order ≡ false → (k : ℕ) → word_of (happened chip order) k ≡ word_of chip k
-    by (Fill c ws) e k = absurd (cc)
-    by order e k = word-left k chip (Hardware order) tt
-
 module _ (d : SpiTable) (u : ℕ) (few : u < 2) (chip : Chip) (w : World) (s : SpiState) (size : length chip.serials.units ≡ 2) where
   same_width : (x : Serial) (o : Option Word) (q : Bool) → (if q then record x { word = o } else x).width ≡ x.width
   same_width x o true = refl
   same_width x o false = refl
 
   width_kept : (n : ℕ) → (unit_at (serials.after_fault chip.serials n) u).width ≡ (unit_at chip.serials u).width
-  width_kept n = by (same_or_other u n)
+  width_kept n = width_same (same_or_other u n)
     where
-      by : (u ≡ n) ⊎ (u ≢ n) → (unit_at (serials.after_fault chip.serials n) u).width ≡ (unit_at chip.serials u).width
-      by (inl e) =
+      width_same : (u ≡ n) ⊎ (u ≢ n) → (unit_at (serials.after_fault chip.serials n) u).width ≡ (unit_at chip.serials u).width
+      width_same (inl e) =
           subst (λ k. (unit_at (serials.after_fault chip.serials k) u).width ≡ (unit_at chip.serials u).width) e
           (ap (λ x. x.width) (get_or-set_same chip.serials.units u (serials.faulted chip.serials.time (unit_at chip.serials u)) idle (omega (arith, size, few)))
           ∙ same_width (unit_at chip.serials u) (serials.failing (unit_at chip.serials u).word) (serials.is_busy (unit_at chip.serials u) chip.serials.time))
-      by (inr ne) = ap (λ x. x.width) (get_or-set_other chip.serials.units n u (serials.faulted chip.serials.time (unit_at chip.serials n)) idle ne)
+      width_same (inr ne) = ap (λ x. x.width) (get_or-set_other chip.serials.units n u (serials.faulted chip.serials.time (unit_at chip.serials n)) idle ne)
 
   -- a word that is done stays as it is
   run_kept : (n : ℕ) (run : Run) → unit_run d s u ≡ Some run → is_done w.now run.transfer ≡ true → unit_run d (moved d w s (SpiFault n)) u ≡ Some run
-  run_kept n run e done = by (is_sync_unit d u) e (same_or_other u n)
+  run_kept n run e done = run_same (is_sync_unit d u) e (same_or_other u n)
     where
       still : faulted_run w.now (Some run) ≡ Some run
       still = ap (λ q. Some (record run { transfer = if q then run.transfer else record run.transfer { failed = true } })) done
@@ -97,11 +89,11 @@ module _ (d : SpiTable) (u : ℕ) (few : u < 2) (chip : Chip) (w : World) (s : S
       carried None f = absurd (cc)
       carried (Some x) f = ap (faulted_run w.now) f ∙ still
 
-      by : (q : Bool) → (if q then run_carried (carried_at s u) else run_at s u) ≡ Some run → (u ≡ n) ⊎ (u ≢ n) → (if q then run_carried (carried_at (moved d w s (SpiFault n)) u) else run_at (moved d w s (SpiFault n)) u) ≡ Some run
-      by true f (inl g) = subst (λ k. run_carried (carried_at (moved d w s (SpiFault k)) u) ≡ Some run) g (ap run_carried (item-same None s.carried u (faulted_carrying w.now (carried_at s u))) ∙ carried (carried_at s u) f)
-      by true f (inr ne) = ap run_carried (item-other None s.carried n u (faulted_carrying w.now (carried_at s n)) ne) ∙ f
-      by false f (inl g) = subst (λ k. run_at (moved d w s (SpiFault k)) u ≡ Some run) g (item-same None s.units u (faulted_run w.now (run_at s u)) ∙ ap (faulted_run w.now) f ∙ still)
-      by false f (inr ne) = item-other None s.units n u (faulted_run w.now (run_at s n)) ne ∙ f
+      run_same : (q : Bool) → (if q then run_carried (carried_at s u) else run_at s u) ≡ Some run → (u ≡ n) ⊎ (u ≢ n) → (if q then run_carried (carried_at (moved d w s (SpiFault n)) u) else run_at (moved d w s (SpiFault n)) u) ≡ Some run
+      run_same true f (inl g) = subst (λ k. run_carried (carried_at (moved d w s (SpiFault k)) u) ≡ Some run) g (ap run_carried (item-same None s.carried u (faulted_carrying w.now (carried_at s u))) ∙ carried (carried_at s u) f)
+      run_same true f (inr ne) = ap run_carried (item-other None s.carried n u (faulted_carrying w.now (carried_at s n)) ne) ∙ f
+      run_same false f (inl g) = subst (λ k. run_at (moved d w s (SpiFault k)) u ≡ Some run) g (item-same None s.units u (faulted_run w.now (run_at s u)) ∙ ap (faulted_run w.now) f ∙ still)
+      run_same false f (inr ne) = item-other None s.units n u (faulted_run w.now (run_at s n)) ne ∙ f
 
   abbrev Footprint : Chip → Footing
   Footprint c = (word_of c, (λ n. (unit_at c.serials n).select), (λ n. (unit_at c.serials n).width))

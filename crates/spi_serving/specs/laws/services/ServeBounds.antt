@@ -1,6 +1,6 @@
 -- A serving window is at most 32 moves: a job has at most four channels, and the bank of the last word's is known.
 -- From spi_sequences: services.ServeSteps, spi_sequences: bookkeeping.PendingWritesBounds and 2 more.
--- Used by spi_sending: services.SendRight, spi_driver: services.ServePart, spi_sending: services.SendFuel and 1 more.
+-- Used by spi_sending: services.SendRight, spi_sending: services.SendFuel, spi_driver: services.ServePart and 4 more.
 use Rattle.std.proofs.Common.{◌≡◌, ◌≢◌, ◌+◌, ◌/◌, ◌%◌, ◌<◌, ◌≤◌, ◌==◌, ◌&&◌, ◌∙◌, ◌⊎◌, if◌then◌else◌}
 use Rattle.spi_serving.specs.Terms
 use Terms.{ap, arith, Arrived, bank_of, begins_by, Bool, channel_at_place, channel_next, channel_number}
@@ -11,7 +11,6 @@ use Terms.{same_number, same_or_other, Sent, serve_fuel, serve_more, serve_owes,
 use Terms.{ServePlace, ServeStep, SetUp, Some, SpiTable, subst, sym, Taker, taker_of, true, unpacked, whether_as, ℕ}
 use Rattle.spi_sequences.specs.declared.service.serve.ServeStep.TheVariants.{Goes}
 use Rattle.spi_jobs.specs.declared.finding.Find.TheVariants as finds
-use Rattle.spi_jobs.specs.declared.keeping.Keep.TheVariants as keeps
 use Rattle.spi_jobs.specs.declared.keeping.Taker.TheVariants as takers
 use Rattle.spi_sequences.specs.declared.service.serve.ServePlace.TheVariants as serve
 
@@ -57,7 +56,7 @@ module _ (d : SpiTable) (l : Leaving) where
     of_own = subst (λ b. (if meets_at d (λ x. x.channel.internal) (channel_number (list_of d l.served.run.job) l.served.at.channel) then 1 + commit_more (commit_with (channel_at_place d l.served.run.job l.served.at.channel) b l.taker) else 0) ≤ 2) (sym (same_number l.served.at.channel)) (own_few (channel_number (list_of d l.served.run.job) l.served.at.channel) l.served.at.word taken)
 
     pub commits_few : l.served.at.channel < 4 → commits_left d l 4 ≤ 11
-    commits_few lt = by (same_or_other l.served.at.channel 0) (same_or_other l.served.at.channel 1) (same_or_other l.served.at.channel 2)
+    commits_few lt = commits_by_place (same_or_other l.served.at.channel 0) (same_or_other l.served.at.channel 1) (same_or_other l.served.at.channel 2)
       where
         at0 : commits_at 0 ≤ 3
         at0 = at_most 0
@@ -71,11 +70,11 @@ module _ (d : SpiTable) (l : Leaving) where
         at3 : commits_at 3 ≤ 3
         at3 = at_most 3
 
-        by : (l.served.at.channel ≡ 0) ⊎ (l.served.at.channel ≢ 0) → (l.served.at.channel ≡ 1) ⊎ (l.served.at.channel ≢ 1) → (l.served.at.channel ≡ 2) ⊎ (l.served.at.channel ≢ 2) → commits_left d l 4 ≤ 11
-        by (inl e) b c = let own = subst (λ n. commits_at n ≤ 2) e of_own in omega (arith, own, at1, at2, at3)
-        by (inr a) (inl e) c = let own = subst (λ n. commits_at n ≤ 2) e of_own in omega (arith, own, at0, at2, at3)
-        by (inr a) (inr b) (inl e) = let own = subst (λ n. commits_at n ≤ 2) e of_own in omega (arith, own, at0, at1, at3)
-        by (inr a) (inr b) (inr c) = let e : l.served.at.channel ≡ 3 = three lt a b c in let own = subst (λ n. commits_at n ≤ 2) e of_own in omega (arith, own, at0, at1, at2)
+        commits_by_place : (l.served.at.channel ≡ 0) ⊎ (l.served.at.channel ≢ 0) → (l.served.at.channel ≡ 1) ⊎ (l.served.at.channel ≢ 1) → (l.served.at.channel ≡ 2) ⊎ (l.served.at.channel ≢ 2) → commits_left d l 4 ≤ 11
+        commits_by_place (inl e) b c = let own = subst (λ n. commits_at n ≤ 2) e of_own in omega (arith, own, at1, at2, at3)
+        commits_by_place (inr a) (inl e) c = let own = subst (λ n. commits_at n ≤ 2) e of_own in omega (arith, own, at0, at2, at3)
+        commits_by_place (inr a) (inr b) (inl e) = let own = subst (λ n. commits_at n ≤ 2) e of_own in omega (arith, own, at0, at1, at3)
+        commits_by_place (inr a) (inr b) (inr c) = let e : l.served.at.channel ≡ 3 = three lt a b c in let own = subst (λ n. commits_at n ≤ 2) e of_own in omega (arith, own, at0, at1, at2)
           where
             three : l.served.at.channel < 4 → l.served.at.channel ≢ 0 → l.served.at.channel ≢ 1 → l.served.at.channel ≢ 2 → l.served.at.channel ≡ 3
             three lt a b c = grind arith

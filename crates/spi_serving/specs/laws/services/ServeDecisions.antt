@@ -41,13 +41,13 @@ module _ (d : SpiTable) (fits : FitsSpi d) (below : Reservations) (chip : Chip) 
   Decided c (p, _) = ⊥
 
   pub state_decides : is_sync_unit d u ≡ false → Decided chip (serve_takes d u serve.State (serials.state (unit_at chip.serials u) chip.serials.time))
-  state_decides async = by (serials.is_done (unit_at chip.serials u) chip.serials.time) refl (serials.is_failed (unit_at chip.serials u) chip.serials.time) refl
+  state_decides async = decides_by_state (serials.is_done (unit_at chip.serials u) chip.serials.time) refl (serials.is_failed (unit_at chip.serials u) chip.serials.time) refl
     where
       v : ℕ
       v = serials.state (unit_at chip.serials u) chip.serials.time
 
-      by : (a : Bool) → serials.is_done (unit_at chip.serials u) chip.serials.time ≡ a → (b : Bool) → serials.is_failed (unit_at chip.serials u) chip.serials.time ≡ b → Decided chip (if v / 2 % 2 == 0 then (serve.State, Over) else (serve.Running (v / 4 % 2 == 1), Goes None))
-      by a e b f =
+      decides_by_state : (a : Bool) → serials.is_done (unit_at chip.serials u) chip.serials.time ≡ a → (b : Bool) → serials.is_failed (unit_at chip.serials u) chip.serials.time ≡ b → Decided chip (if v / 2 % 2 == 0 then (serve.State, Over) else (serve.Running (v / 4 % 2 == 1), Goes None))
+      decides_by_state a e b f =
           let says = state_says (unit_at chip.serials u) chip.serials.time in
           subst (λ q. Decided chip (if q then (serve.State, Over) else (serve.Running (v / 4 % 2 == 1), Goes None))) (sym (says.0 ∙ ap not e))
           (subst (λ q. Decided chip (if not a then (serve.State, Over) else (serve.Running q, Goes None))) (sym (says.1 ∙ f)) (split a e b f))
@@ -73,7 +73,7 @@ module _ (d : SpiTable) (fits : FitsSpi d) (below : Reservations) (chip : Chip) 
   taker_decides r i = (h, record { served = i; taker = refl })
 
   pub receive_decides : (r : Served) (t : Taker) → IsTaken d (word_of chip) s w.now u r t → Decided chip (serve_takes d u (serve.Receive r t) (serials.received (unit_at chip.serials u) chip.serials.time))
-  receive_decides r t i = by r.failed refl (further_of d a) refl
+  receive_decides r t i = decides_further r.failed refl (further_of d a) refl
     where
       a : Arrived
       a = record { served = r; taker = t; word = serials.received (unit_at chip.serials u) chip.serials.time }
@@ -86,16 +86,16 @@ module _ (d : SpiTable) (fits : FitsSpi d) (below : Reservations) (chip : Chip) 
               let same : i.served.done.run ≡ run = some_is i.served.done.run run (sym i.served.done.is ∙ is) in
               received_says d fits below chip w s h u few run is (subst (λ (z : Run). is_done w.now z.transfer ≡ true) same i.served.done.done) good
 
-      by : (b : Bool) → r.failed ≡ b → (o : Option Position) → further_of d a ≡ o → Decided chip (begins_of d a, Goes None)
-      by true e o f = subst (λ z. Decided chip (z, Goes None)) (sym ends) (h, record { arrived = arrived; ends = ends })
+      decides_further : (b : Bool) → r.failed ≡ b → (o : Option Position) → further_of d a ≡ o → Decided chip (begins_of d a, Goes None)
+      decides_further true e o f = subst (λ z. Decided chip (z, Goes None)) (sym ends) (h, record { arrived = arrived; ends = ends })
         where
           ends : begins_of d a ≡ serve.Marks a
           ends = ap (λ b. if b then serve.Marks a else begins_by a (further_of d a)) e
-      by false e None f = subst (λ z. Decided chip (z, Goes None)) (sym ends) (h, record { arrived = arrived; ends = ends })
+      decides_further false e None f = subst (λ z. Decided chip (z, Goes None)) (sym ends) (h, record { arrived = arrived; ends = ends })
         where
           ends : begins_of d a ≡ serve.Marks a
           ends = ap (λ b. if b then serve.Marks a else begins_by a (further_of d a)) e ∙ ap (begins_by a) f
-      by false e (Some p) f = subst (λ z. Decided chip (z, Goes None)) (sym (ap (λ b. if b then serve.Marks a else begins_by a (further_of d a)) e ∙ ap (begins_by a) f)) (h, record { arrived = arrived; good = e; next = f })
+      decides_further false e (Some p) f = subst (λ z. Decided chip (z, Goes None)) (sym (ap (λ b. if b then serve.Marks a else begins_by a (further_of d a)) e ∙ ap (begins_by a) f)) (h, record { arrived = arrived; good = e; next = f })
 
   pub width_decides : (a : Arrived) (p : Position) (y : ℕ) → IsFurther d (word_of chip) s w.now u a p → Decided (chip_after chip (Write (SerialWidth u) (channel_next d a p).channel.width) y) (serve_takes d u (serve.Width a p) 0)
   width_decides a p y i = (width_agrees d below chip w s h u few (channel_next d a p).channel.width y, at (channel_next d a p) (channel_next d a p).channel.internal refl)
@@ -131,26 +131,20 @@ module _ (d : SpiTable) (fits : FitsSpi d) (below : Reservations) (chip : Chip) 
       find_decides (finds.Held y j) (same, place, external) =
           (h, (i, wide, subst (λ z. IsFinding (word_of chip) z p.word (found_in y j (unpacked (word_of chip (held_word y))))) (sym at) (subst (λ z. IsFinding (word_of chip) x p.word (found_in z j (unpacked (word_of chip (held_word z))))) (sym same) (subst (λ n. IsFinding (word_of chip) x p.word (found_in x n (unpacked (word_of chip (held_word x))))) (sym place) (found_at x at 0 (unpacked (word_of chip (held_word x))) refl external)))))
       find_decides (finds.Bank y j b) (same, place, internal, bank) =
+          let placed_here : Placed = placed d fits below chip w s h u few a p i in
           subst (λ z. Decided chip (serve_finds a p (finds.Bank z j b) (word_of chip (bank_word z Sent b j)) (Some (masked_by z.channel (word_of chip (bank_word z Sent b j)))))) (sym (same ∙ here))
           (subst (λ n. Decided chip (serve_finds a p (finds.Bank placed_here n b) (word_of chip (bank_word placed_here Sent b n)) (Some (masked_by placed_here.channel (word_of chip (bank_word placed_here Sent b n)))))) (sym place)
           (subst (λ n. Decided chip (serve_finds a p (finds.Bank placed_here p.word n) (word_of chip (bank_word placed_here Sent n p.word)) (Some (masked_by placed_here.channel (word_of chip (bank_word placed_here Sent n p.word)))))) (sym (bank ∙ ap (λ z. pinned_bank (word_of chip (control_word z Sent))) here))
           (begins_with (masked_by placed_here.channel (word_of chip (bank_word placed_here Sent (pinned_bank (word_of chip (control_word placed_here Sent))) p.word))) (found_bank d fits below chip w s h u few a p i (ap (λ z. z.channel.internal) (sym here) ∙ internal)))))
-        where
-          placed_here : Placed
-          placed_here = placed d fits below chip w s h u few a p i
       find_decides (finds.Source y j) (same, place, external, source) =
+          let placed_here : Placed = placed d fits below chip w s h u few a p i in
           subst (λ z. Decided chip (serve_finds a p (finds.Source z j) (word_of chip (source_word z j)) (Some (masked_by z.channel (word_of chip (source_word z j)))))) (sym (same ∙ here))
           (subst (λ n. Decided chip (serve_finds a p (finds.Source placed_here n) (word_of chip (source_word placed_here n)) (Some (masked_by placed_here.channel (word_of chip (source_word placed_here n)))))) (sym place)
           (begins_with (masked_by placed_here.channel (word_of chip (source_word placed_here p.word))) (found_source d fits below chip w s h u few a p i (ap (λ z. z.channel.internal) (sym here) ∙ external) (ap (λ z. (unpacked (word_of chip (held_word z))).source) (sym here) ∙ source))))
-        where
-          placed_here : Placed
-          placed_here = placed d fits below chip w s h u few a p i
       find_decides (finds.Default y) (same, external, source) =
+          let placed_here : Placed = placed d fits below chip w s h u few a p i in
           subst (λ z. Decided chip (serve_finds a p (finds.Default z) (word_of chip (held_word z)) (Some (masked_by z.channel z.channel.default_data)))) (sym (same ∙ here))
           (begins_with (masked_by placed_here.channel placed_here.channel.default_data) (found_default d fits below chip w s h u few a p i (ap (λ z. z.channel.internal) (sym here) ∙ external) (ap (λ z. (unpacked (word_of chip (held_word z))).source) (sym here) ∙ source)))
-        where
-          placed_here : Placed
-          placed_here = placed d fits below chip w s h u few a p i
       find_decides (finds.Newest y) i1 = absurd i1
       find_decides (finds.SetUp y) i1 = absurd i1
 

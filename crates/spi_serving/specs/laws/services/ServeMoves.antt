@@ -5,7 +5,7 @@ use Rattle.std.proofs.Common.{◌≡◌, ◌<◌, ◌==◌, ◌&&◌, ◌||◌, 
 use Rattle.spi_serving.specs.Terms
 use Terms.{and_parts, arith, Arrived, asked_word, asking, bank_word, Channel, channel_of, channel_served, Chip}
 use Terms.{control_word, false, Find, find_move, FitsSpi, has_channel, held_word, is_shared, IsFinding, IsFurther}
-use Terms.{length_by, Load, MARKS, may, may_first, may_store, may_users, Move, nat_lt, nat_tests, NEXTS, of_sixteen}
+use Terms.{length_by, Load, lt_from, MARKS, may, may_first, may_store, may_users, Move, NEXTS, of_sixteen}
 use Terms.{own-control, own-word, own_held, Placed, placed_of, Position, position_word, Received, refl, Reservations}
 use Terms.{running_word, Sent, serve_move, serve_owes, ServePlace, Some, source_own, source_word, SpiRepresents}
 use Terms.{SpiState, SpiTable, subst, sym, trio_of, true, whether_as, word_of, word_place, World, ℕ}
@@ -15,9 +15,6 @@ use Rattle.spi_serving.specs.laws.{words.FoundWord.{bank_small, known, pinned_ba
 use Rattle.spi_serving.specs.laws.{words.Positions.{part_few, part_known}, words.SidesApart.{banks_own, is_inside}}
 use Rattle.spi_jobs.specs.declared.finding.Find.TheVariants as finds
 use Rattle.spi_sequences.specs.declared.service.serve.ServePlace.TheVariants as serve
-
-below_two : (u : ℕ) → u < 2 → nat_lt u 2 ≡ true
-below_two u lt = grind (arith, nat_tests)
 
 or_may : (d : SpiTable) (made : Move) → may d made ≡ true → is_shared made || may d made ≡ true
 or_may d made e = elim (is_shared made) as (λ q. q || may d made ≡ true) [ true ↦ refl | false ↦ e ]
@@ -68,7 +65,7 @@ module _ (d : SpiTable) (fits : FitsSpi d) (below : Reservations) (chip : Chip) 
 
   pub serve_may : (p : ServePlace) → serve_owes p ≡ false → word_place d u p (footing chip) w s → is_shared (serve_move d u p) || may d (serve_move d u p) ≡ true
   serve_may serve.Shut e i = refl
-  serve_may serve.State e i = below_two u few
+  serve_may serve.State e i = lt_from u 2 few
   serve_may (serve.Running b) e i = may_first d fits (running_word u) (omega arith) (omega (arith, few))
   serve_may (serve.Position r b) e i = may_first d fits (position_word u) (omega arith) (omega (arith, few))
   serve_may (serve.Taker r) e i =
@@ -76,11 +73,11 @@ module _ (d : SpiTable) (fits : FitsSpi d) (below : Reservations) (chip : Chip) 
       let first = standing d fits below chip w s h u few r i in
       let k = part_known d fits u (word_of chip) under.job under.for under.represents under.job.at.channel first.part first.there in
       or_may d (asking (channel_served d r) r.at.word) (subst (λ made. may d made ≡ true) (sym (asks_load (channel_served d r) r.at.word)) (subst (λ x. may d (Load (asked_word x r.at.word)) ≡ true) (sym (served_is d fits below chip w s h u few r i)) (may_ask first.part.channel k.0 k.1 r.at.word)))
-  serve_may (serve.Receive r t) e i = below_two u few
-  serve_may (serve.Width a p) e i = below_two u few
+  serve_may (serve.Receive r t) e i = lt_from u 2 few
+  serve_may (serve.Width a p) e i = lt_from u 2 few
   serve_may (serve.Find a p x) e (i, wide, j) = or_may d (find_move x) (may_found a p i x (subst (λ z. IsFinding (word_of chip) z p.word x) (next_channel d fits below chip w s h u few a p i) j))
-  serve_may (serve.Begin a p v) e i = below_two u few
+  serve_may (serve.Begin a p v) e i = lt_from u 2 few
   serve_may (serve.Marks a) e i = may_first d fits MARKS (omega arith) (omega arith)
   serve_may (serve.Nexts a c) e i = may_first d fits NEXTS (omega arith) (omega arith)
-  serve_may (serve.Acknowledge a c) e i = below_two u few
+  serve_may (serve.Acknowledge a c) e i = lt_from u 2 few
   serve_may _ e i = absurd i

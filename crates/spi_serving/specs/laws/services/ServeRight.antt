@@ -1,15 +1,15 @@
 -- Each step of the serving window is right.
 -- From services.ServeDecisions, spi_sequences: services.ServeSteps, services.FurtherServed and 6 more.
--- Used by spi_driver: services.ServePart.
+-- Used by spi_driver: services.ServePart, spi_driver: services.UnitSteps, spi_driver: services.UnitParts.
 use Rattle.std.proofs.Common.{◌≡◌, ◌+◌, ◌<◌, [], ◌∷◌, ◌&&◌, ◌∙◌, if◌then◌else◌}
 use Rattle.spi_serving.specs.Terms
 use Terms.{Answer, ap, Arrived, asked_word, Begun, Call, channel_next, channel_served, Chip, chip_after, cleared_of}
 use Terms.{CommitsTo, Event, false, Find, find_move, FitsSpi, FrameRole, is_last_place, is_shared, is_sync_unit}
-use Terms.{IsFinding, JobOver, keep_of, lets_of, lets_with, List, Load, Move, None, notes, Notice, notices_by, Option}
-use Terms.{Origin, outcome_with, Over, Placed, Position, position_word, ready, refl, releasing, Reservations}
-use Terms.{SendsRight, Sent, serve_ahead, serve_move, serve_owes, serve_place, serve_takes, ServePlace, Serves}
-use Terms.{ServeStep, Some, spi_machine, spi_owing, SpiRepresents, SpiState, SpiTable, subst, sym, true, Units}
-use Terms.{value_of, whether_as, word_of, word_place, World, ℕ}
+use Terms.{IsFinding, JobOver, keep_of, lets_of, List, Load, Move, None, notes, Notice, notices_by, Option, Origin}
+use Terms.{outcome_with, Over, Placed, Position, position_word, ready, refl, releasing, Reservations, SendsRight}
+use Terms.{Sent, serve_ahead, serve_move, serve_owes, serve_place, serve_takes, ServePlace, Serves, ServeStep, Some}
+use Terms.{spi_machine, spi_owing, SpiRepresents, SpiState, SpiTable, subst, sym, true, Units, value_of, whether_as}
+use Terms.{word_of, word_place, World, ℕ}
 use Rattle.spi_sequences.specs.declared.service.serve.ServeStep.TheVariants.{Goes}
 use Rattle.spi_serving.specs.laws.{services.ServeDecisions.{Decided, asks_load, find_decides, footing, marks_decides}}
 use Rattle.spi_serving.specs.laws.{services.ServeDecisions.{nexts_decides, position_decides, receive_decides}}
@@ -77,21 +77,19 @@ module _ (d : SpiTable) (fits : FitsSpi d) (e : FrameRole) (below : Reservations
 
   -- after its beginning the window owes moves
   lets_owing : (a : Arrived) (p : Position) → serve_owes (lets_of d a p) ≡ true
-  lets_owing a p = by (channel_next d a p)
-    where
-      by : (x : Placed) → serve_owes (lets_with d a p x) ≡ true
-      by x = whether_as (x.channel.internal && is_last_place x p.word) (λ q. serve_owes (if q then serve.Let a p (releasing x Sent) else serve.Keep (keep_of d a) p) ≡ true)
-          (λ _. refl)
-          (λ _. refl)
+  lets_owing a p =
+      let x : Placed = channel_next d a p in
+      whether_as (x.channel.internal && is_last_place x p.word) (λ q. serve_owes (if q then serve.Let a p (releasing x Sent) else serve.Keep (keep_of d a) p) ≡ true)
+      (λ _. refl)
+      (λ _. refl)
 
   -- and nothing is told after them
   lets_ahead : (a : Arrived) (p : Position) → serve_ahead d (lets_of d a p) ≡ None
-  lets_ahead a p = by (channel_next d a p)
-    where
-      by : (x : Placed) → serve_ahead d (lets_with d a p x) ≡ None
-      by x = whether_as (x.channel.internal && is_last_place x p.word) (λ q. serve_ahead d (if q then serve.Let a p (releasing x Sent) else serve.Keep (keep_of d a) p) ≡ None)
-          (λ _. refl)
-          (λ _. refl)
+  lets_ahead a p =
+      let x : Placed = channel_next d a p in
+      whether_as (x.channel.internal && is_last_place x p.word) (λ q. serve_ahead d (if q then serve.Let a p (releasing x Sent) else serve.Keep (keep_of d a) p) ≡ None)
+      (λ _. refl)
+      (λ _. refl)
 
   pub steps_right : (p : ServePlace) → serve_owes p ≡ false → is_shared (serve_move d u p) ≡ false → word_place d u p (footing chip) w s → Step (serve_move d u p) p
   steps_right serve.Shut f k i = absurd (cc)

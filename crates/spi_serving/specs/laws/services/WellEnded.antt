@@ -6,13 +6,14 @@ use Rattle.spi_serving.specs.Terms
 use Terms.{Answer, ap, arith, Banks, banks_held, BanksAgree, Bool, Call, cases, Channel, channel_at, channel_of, Chip}
 use Terms.{committing, Contains, Destination, destination_word, false, few_places, first_items, Goes, goes_by}
 use Terms.{goes_to_array, Going, has_channel, held_word, holds_debt, inl, inr, InternalAgrees, IsWordOf, JobWord}
-use Terms.{KeepsNone, length, length_by, List, nat_lt, nat_tests, no_word, None, none_in, none_readied, of_banks}
-use Terms.{of_held, of_one, of_set_up, Option, Origin, other_number, own_low, own_of, Part, PartBy, past_the_first}
-use Terms.{place_of, Placed, placed_of, pointwise, prepares, put_held, PutRight, Received, refl, Run, running_word}
-use Terms.{same_number, same_or_other, Sent, set_up_by, set_up_word, SetUp, sides_apart, slice_get, slice_index_or}
-use Terms.{Some, some_is, Source, SOURCES, SpiState, stands-agree, STATE, subst, suc, sym, take_held, ToChannel}
-use Terms.{trio_of, true, unit_at, UnitAgrees, unpacked, View, view, word_at, word_in, word_of, words_of, zero, ℕ}
-use Rattle.spi_serving.specs.laws.{words.AllKept.{AllKept, IsApart, ReceivedAt, whole_length}}
+use Terms.{KeepsNone, length, length_by, List, lt_from, no_word, None, none_in, none_readied, of_banks, of_held}
+use Terms.{of_one, of_set_up, Option, Origin, other_number, own_low, own_of, Part, PartBy, past_the_first, place_of}
+use Terms.{Placed, placed_of, pointwise, prepares, put_held, PutRight, Received, refl, Run, running_word, same_number}
+use Terms.{same_or_other, Sent, set_up_by, set_up_word, SetUp, sides_apart, slice_get, slice_index_or, Some, some_is}
+use Terms.{Source, SOURCES, SpiState, stands-agree, STATE, subst, suc, sym, take_held, ToChannel, trio_of, true}
+use Terms.{unit_at, UnitAgrees, unpacked, View, view, word_at, word_in, word_of, words_of, zero, ℕ}
+use Rattle.spi_serving.specs.laws.{words.AllKept.{AllKept, IsApart, part_channel, part_inside, ReceivedAt}}
+use Rattle.spi_serving.specs.laws.words.AllKept.{whole_length}
 use Rattle.spi_serving.specs.laws.{bookkeeping.JobsApart.{agrees_at, for_at, one_job}, words.CommitWords.{upto}}
 use Rattle.spi_serving.specs.laws.{services.FreedUnit.{IsFilled, IsFree, Left, going_left, start_owed, with_channels}}
 use Rattle.spi_serving.specs.laws.{words.LastKept.{IsBase, here, here_known}, words.JoinedLists.{get_within}}
@@ -30,13 +31,13 @@ use Rattle.mcal_base.specs.facts.Truths.{and_false}
 -- a channel has a part of the job, or none
 pub part_or_none : (xs : List Part) (c : ℕ) → ((n : ℕ) × (x : Part) × (slice_get xs n ≡ Some x) × (x.channel ≡ c)) ⊎ ((n : ℕ) (x : Part) → slice_get xs n ≡ Some x → x.channel ≢ c)
 part_or_none [] c = inr (λ n x e f. absurd (cc))
-part_or_none (y ∷ ys) c = by (same_or_other y.channel c) (part_or_none ys c)
+part_or_none (y ∷ ys) c = part_with_first (same_or_other y.channel c) (part_or_none ys c)
   where
-    by : (y.channel ≡ c) ⊎ (y.channel ≢ c) → ((n : ℕ) × (x : Part) × (slice_get ys n ≡ Some x) × (x.channel ≡ c)) ⊎ ((n : ℕ) (x : Part) → slice_get ys n ≡ Some x → x.channel ≢ c)
+    part_with_first : (y.channel ≡ c) ⊎ (y.channel ≢ c) → ((n : ℕ) × (x : Part) × (slice_get ys n ≡ Some x) × (x.channel ≡ c)) ⊎ ((n : ℕ) (x : Part) → slice_get ys n ≡ Some x → x.channel ≢ c)
         → ((n : ℕ) × (x : Part) × (slice_get (y ∷ ys) n ≡ Some x) × (x.channel ≡ c)) ⊎ ((n : ℕ) (x : Part) → slice_get (y ∷ ys) n ≡ Some x → x.channel ≢ c)
-    by (inl e) rest = inl (0, y, refl, e)
-    by (inr ne) (inl (n, x, there, e)) = inl (suc n, x, there, e)
-    by (inr ne) (inr none) = inr each
+    part_with_first (inl e) rest = inl (0, y, refl, e)
+    part_with_first (inr ne) (inl (n, x, there, e)) = inl (suc n, x, there, e)
+    part_with_first (inr ne) (inr none) = inr each
       where
         each : (n : ℕ) (x : Part) → slice_get (y ∷ ys) n ≡ Some x → x.channel ≢ c
         each zero x e f = ne (ap (λ z. z.channel) (some_is y x e) ∙ f)
@@ -68,12 +69,6 @@ module _ (st : ToServe) where
     hk : (k : Channel) × (channel_of d at.part.channel ≡ Some k)
     hk = here_known st at last v
 
-    known : (n : ℕ) (x : Part) → slice_get g.parts n ≡ Some x → (k : Channel) × (channel_of d x.channel ≡ Some k)
-    known n x there = part_known d fits u (word_of chip) g (for_at d fits below chip w s h on u g few is) (agrees_at d fits below chip w s h on u g few is) n x there
-
-    inner : (n : ℕ) (x : Part) (there : slice_get g.parts n ≡ Some x) → (placed_of d x.channel).channel.internal ≡ true → (known n x there).0.internal ≡ true
-    inner n x there i = is_inside d fits x.channel (known n x there).0 (known n x there).1 i
-
     abbrev Apart : ℕ → Type 0
     Apart j = IsApart st v j
 
@@ -83,14 +78,14 @@ module _ (st : ToServe) where
 
     -- the first words
     first_apart : (j : ℕ) → j < STATE + 64 → Apart j
-    first_apart j lt n x there i = banks_past d fits x.channel (known n x there).0 (known n x there).1 (inner n x there i) Received j lt
+    first_apart j lt n x there i = banks_past d fits x.channel (part_channel st n x there).0 (part_channel st n x there).1 (part_inside st n x there i) Received j lt
 
     first_held : (j : ℕ) → j < STATE + 64 → j ≢ held_word its
     first_held j lt e = let past = past_the_first d at.part.channel hk.0 (held_word its) (fits.channels at.part.channel hk.0 hk.1) (of_held d fits at.part.channel hk.0 hk.1) in omega (arith, past, e, lt)
 
     -- the users' words
     users_apart : (j : ℕ) → SOURCES ≤ j → Apart j
-    users_apart j le n x there i = banks_low d fits x.channel (known n x there).0 (known n x there).1 (inner n x there i) Received j le
+    users_apart j le n x there i = banks_low d fits x.channel (part_channel st n x there).0 (part_channel st n x there).1 (part_inside st n x there i) Received j le
 
     held_low : held_word its < SOURCES
     held_low = own_low d fits (held_word its) (own_of d fits at.part.channel hk.0 hk.1 (held_word its) (of_held d fits at.part.channel hk.0 hk.1))
@@ -100,7 +95,7 @@ module _ (st : ToServe) where
       word_apart : (j : ℕ) → IsWordOf d n k j → ((placed_of d n).channel.internal ≡ true → trio.own_of (trio_of (placed_of d n) Received) j ≡ false) → Apart j
       word_apart j word own m x there i = cases (same_or_other n x.channel)
           (λ e. subst (λ z. trio.own_of (trio_of (placed_of d z) Received) j ≡ false) e (own (ap (λ z. (placed_of d z).channel.internal) e ∙ i)))
-          (λ ne. banks_of_one d fits x.channel (known m x there).0 (known m x there).1 (inner m x there i) Received n k j ne is_channel word)
+          (λ ne. banks_of_one d fits x.channel (part_channel st m x there).0 (part_channel st m x there).1 (part_inside st m x there i) Received n k j ne is_channel word)
 
       word_low : (j : ℕ) → IsWordOf d n k j → j < SOURCES
       word_low j word = own_low d fits j (own_of d fits n k is_channel j word)
@@ -219,7 +214,7 @@ module _ (st : ToServe) where
       own_received : (i : ℕ) (x : Part) → slice_get g.parts i ≡ Some x → (k : Channel) → channel_of d x.channel ≡ Some k → k.internal ≡ true → ReceivedLeft x.channel k
       own_received i x there k is_channel internal = (
         committing r.put r.banks,
-        subst (λ q. trio.Stands (trio_of (placed_of d x.channel) Received) (word_of c) (if q then committing r.put r.banks else r.banks)) (four i (omega (arith, within, parts))) r.stands,
+        subst (λ q. trio.Stands (trio_of (placed_of d x.channel) Received) (word_of c) (if q then committing r.put r.banks else r.banks)) (lt_from i 4 (omega (arith, within, parts))) r.stands,
         λ none. r.filled ∙ sym (all_readable st run words_are received_are out brings i x there a.goes k.length (a.count ∙ length_is)
             (whole_length st v b i x there inside last ∙ length_is)),
         r.takes,
@@ -244,9 +239,6 @@ module _ (st : ToServe) where
           parts : length g.parts ≤ 4
           parts = parts_few d fits u (word_of chip) g (for_at d fits below chip w s h on u g few is) (agrees_at d fits below chip w s h on u g few is)
 
-          four : (i : ℕ) → i < 4 → nat_lt i 4 ≡ true
-          four i lt = grind (arith, nat_tests)
-
       -- and another one
       module _ (n : ℕ) (k : Channel) (is_channel : channel_of d n ≡ Some k) (internal : k.internal ≡ true) where
         abbrev was : BanksAgree d below h.going (word_of chip) (view s) n k
@@ -263,7 +255,7 @@ module _ (st : ToServe) where
         )
           where
             still : (j : ℕ) → IsWordOf d n k j → word_of c j ≡ word_of chip j
-            still j word = same j (λ m x there i. banks_of_one d fits x.channel (known m x there).0 (known m x there).1 (inner m x there i) Received n k j (λ e. none m x there (sym e)) is_channel word)
+            still j word = same j (λ m x there i. banks_of_one d fits x.channel (part_channel st m x there).0 (part_channel st m x there).1 (part_inside st m x there i) Received n k j (λ e. none m x there (sym e)) is_channel word)
                 (λ i. of_one d fits n at.part.channel k hk.0 j (held_word its) (λ e. none g.at.channel at.part at.there (sym e)) is_channel hk.1 word (of_held d fits at.part.channel hk.0 hk.1))
                 (λ external e. let low = word_low n k is_channel j word in omega (arith, e, low)) (word_past n k is_channel j word)
 

@@ -33,6 +33,13 @@ lt_else i n ne = grind (arith, nat_tests)
 
 -- ---- the words on the way
 
+-- the channel of a part of the job is configured
+pub part_channel : (st : ToServe) (n : ℕ) (x : Part) → slice_get st.g.parts n ≡ Some x → (k : Channel) × (channel_of st.d x.channel ≡ Some k)
+part_channel st = part_known st.d st.fits st.u (word_of st.chip) st.g (for_at st.d st.fits st.below st.chip st.w st.s st.h st.on st.u st.g st.few st.is) (agrees_at st.d st.fits st.below st.chip st.w st.s st.h st.on st.u st.g st.few st.is)
+
+pub part_inside : (st : ToServe) (n : ℕ) (x : Part) (at : slice_get st.g.parts n ≡ Some x) → (placed_of st.d x.channel).channel.internal ≡ true → (part_channel st n x at).0.internal ≡ true
+part_inside st n x at inside = is_inside st.d st.fits x.channel (part_channel st n x at).0 (part_channel st n x at).1 inside
+
 module _ (st : ToServe) (v : ℕ) where
   open st use {d, fits, below, chip, w, s, h, on, u, few, g, is}
 
@@ -64,18 +71,15 @@ module _ (st : ToServe) (v : ℕ) where
     pub apart : (j : ℕ) → IsApart j → word_of c j ≡ word_of b j
     pub received : (n : ℕ) (x : Part) → slice_get g.parts n ≡ Some x → (placed_of d x.channel).channel.internal ≡ true → ReceivedAt n x (word_of c) (committed n)
 
-  known : (n : ℕ) (x : Part) → slice_get g.parts n ≡ Some x → (k : Channel) × (channel_of d x.channel ≡ Some k)
-  known n x at = part_known d fits u (word_of chip) g (for_at d fits below chip w s h on u g few is) (agrees_at d fits below chip w s h on u g few is) n x at
-
   -- banks of two places are apart
   pub places_apart : (n m : ℕ) (x z : Part) → slice_get g.parts n ≡ Some x → slice_get g.parts m ≡ Some z → (placed_of d x.channel).channel.internal ≡ true → (placed_of d z.channel).channel.internal ≡ true → m ≢ n → (j : ℕ) → trio.own_of (trio_at z) j ≡ true → trio.own_of (trio_at x) j ≡ false
   places_apart n m x z at bt inside within ne j own =
-      let k = known n x at in
-      let q = known m z bt in
+      let k = part_channel st n x at in
+      let q = part_channel st m z bt in
       banks_of_one d fits x.channel k.0 k.1 (is_inside d fits x.channel k.0 k.1 inside) Received z.channel q.0 j (λ e. ne (one_part d fits below chip w s h on u g few is n m x z at bt e)) q.1 (banks_words d fits z.channel q.0 q.1 (is_inside d fits z.channel q.0 q.1 within) Received j own)
 
   pub unheld : (n m : ℕ) (x z : Part) → slice_get g.parts n ≡ Some x → slice_get g.parts m ≡ Some z → (placed_of d x.channel).channel.internal ≡ true → trio.own_of (trio_at x) (held_word (placed_of d z.channel)) ≡ false
-  unheld n m x z at bt inside = let k = known n x at in let q = known m z bt in banks_unheld d fits x.channel k.0 k.1 (is_inside d fits x.channel k.0 k.1 inside) Received z.channel q.0 q.1
+  unheld n m x z at bt inside = let k = part_channel st n x at in let q = part_channel st m z bt in banks_unheld d fits x.channel k.0 k.1 (is_inside d fits x.channel k.0 k.1 inside) Received z.channel q.0 q.1
 
   module _ (b : Chip) (n : ℕ) (x : Part) (at : slice_get g.parts n ≡ Some x) (inside : (placed_of d x.channel).channel.internal ≡ true) where
     -- the banks of one place change
@@ -84,12 +88,12 @@ module _ (st : ToServe) (v : ℕ) where
       outside = outside;
       rest = differs.rest ∙ ap (λ (z : Chip). record z { words = c1.words }) a.rest;
       apart = λ j out. differs.others j (out n x at inside) ∙ a.apart j out;
-      received = λ m z bt within. by m z bt within (same_or_other m n);
+      received = λ m z bt within. receives_at m z bt within (same_or_other m n);
     }
       where
-        by : (m : ℕ) (z : Part) → slice_get g.parts m ≡ Some z → (placed_of d z.channel).channel.internal ≡ true → (m ≡ n) ⊎ (m ≢ n) → ReceivedAt m z (word_of c1) (f1 m)
-        by m z bt within (inl e) = subst (λ k. ReceivedAt k z (word_of c1) (f1 k)) (sym e) (subst (λ y. ReceivedAt n y (word_of c1) (f1 n)) (some_is x z (sym at ∙ ap (slice_get g.parts) (sym e) ∙ bt)) now)
-        by m z bt within (inr ne) =
+        receives_at : (m : ℕ) (z : Part) → slice_get g.parts m ≡ Some z → (placed_of d z.channel).channel.internal ≡ true → (m ≡ n) ⊎ (m ≢ n) → ReceivedAt m z (word_of c1) (f1 m)
+        receives_at m z bt within (inl e) = subst (λ k. ReceivedAt k z (word_of c1) (f1 k)) (sym e) (subst (λ y. ReceivedAt n y (word_of c1) (f1 n)) (some_is x z (sym at ∙ ap (slice_get g.parts) (sym e) ∙ bt)) now)
+        receives_at m z bt within (inr ne) =
             let r = a.received m z bt within in
             record {
               banks = r.banks;
@@ -104,11 +108,11 @@ module _ (st : ToServe) (v : ℕ) where
 
     -- ---- a channel's words become readable
 
-    inner : (known n x at).0.internal ≡ true
-    inner = is_inside d fits x.channel (known n x at).0 (known n x at).1 inside
+    inner : (part_channel st n x at).0.internal ≡ true
+    inner = is_inside d fits x.channel (part_channel st n x at).0 (part_channel st n x at).1 inside
 
     own_there : AreThere (trio.own_of (trio_at x))
-    own_there j own = let low = own_low d fits j (banks_own d fits x.channel (known n x at).0 (known n x at).1 inner Received j own) in omega (arith, low)
+    own_there j own = let low = own_low d fits j (banks_own d fits x.channel (part_channel st n x at).0 (part_channel st n x at).1 inner Received j own) in omega (arith, low)
 
     module _ (last : length g.received + 1 ≡ length (words_of d g.parts)) where
       pub whole_inside : words_before g.parts n + length x.values ≤ length g.received + 1
@@ -135,7 +139,7 @@ module _ (st : ToServe) (v : ℕ) where
         put_part = record {
           moves = owes.moves;
           steps = λ z y. put_steps z y (put_gave z y).ended refl;
-          named = named_own d fits (trio.own_of (trio_at x)) (λ j own. banks_own d fits x.channel (known n x at).0 (known n x at).1 inner Received j own);
+          named = named_own d fits (trio.own_of (trio_at x)) (λ j own. banks_own d fits x.channel (part_channel st n x at).0 (part_channel st n x at).1 inner Received j own);
           fits = λ z c. tt;
         }
 
@@ -150,7 +154,7 @@ module _ (st : ToServe) (v : ℕ) where
           put_owed bank same =
               settles_part putting (trio.own_of (trio_at x)) (spi_owing d) owing (λ xs. Some next) put_part own_there
               (λ m words. (words ≡ []) × trio.Stands (trio_at x) m (committing was.put was.banks)) Done 2 (committing_of (placed_of d x.channel) Received bank) c a.outside.all.words
-              (commit-ends (trio_at x) (word_of c) was.banks was.put bank (banks_fit d fits x.channel (known n x at).0 (known n x at).1 inner Received) was.puts same (ap length was.filled ∙ whole_length) stands_yet)
+              (commit-ends (trio_at x) (word_of c) was.banks was.put bank (banks_fit d fits x.channel (part_channel st n x at).0 (part_channel st n x at).1 inner Received) was.puts same (ap length was.filled ∙ whole_length) stands_yet)
               (λ c1 words differs now. onward c1 (kept_on f f1 c c1 (stands_owed (trio.own_of (trio_at x)) c c1 w differs a.outside) differs a (record {
                 banks = was.banks;
                 put = was.put;
@@ -193,7 +197,7 @@ module _ (st : ToServe) (v : ℕ) where
           commit_held : Owes (serve.Commit l n (commits.Held (placed_of d x.channel))) c
           commit_held =
               end_to d u into owes Done (serve.Commit l n (commits.Held (placed_of d x.channel))) (serve.Commit l n (commits.Put (committing_of (placed_of d x.channel) Received (bank_of (word_of c (held_word (placed_of d x.channel))))))) c tt refl refl
-              (may_store d fits (held_word (placed_of d x.channel)) 0 (own_held d fits x.channel (known n x at).0 (known n x at).1))
+              (may_store d fits (held_word (placed_of d x.channel)) 0 (own_held d fits x.channel (part_channel st n x at).0 (part_channel st n x at).1))
               (commit_put (bank_of (word_of c (held_word (placed_of d x.channel)))) (let held = r.held in let small = bank_small in omega (arith, held, small)))
 
           -- it is known of the channel of the last word which bank it is

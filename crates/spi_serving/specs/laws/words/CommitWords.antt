@@ -1,10 +1,10 @@
 -- A job's last word is kept: the internal channels at its places follow one another, each with its moves.
 -- From words.AllKept, spi_sequences: services.ServeSteps, bookkeeping.JobsApart, words.Positions and 2 more.
 -- Used by spi_sending: services.SendKeeps, services.JobLeft, words.ReleasedPins and 5 more.
-use Rattle.std.proofs.Common.{◌≡◌, ◌+◌, ◌-◌, ◌≤◌, [], ◌∷◌, ◌∙◌, if◌then◌else◌}
+use Rattle.std.proofs.Common.{◌≡◌, ◌+◌, ◌-◌, [], ◌∷◌, ◌∙◌, if◌then◌else◌}
 use Rattle.spi_serving.specs.Terms
-use Terms.{ap, arith, Bool, channel_number, Chip, CommitsTo, false, first_internal, held_word, List, list_of, map}
-use Terms.{meets_at, nat_lt, nat_tests, next_job, None, Option, Part, PendingWrites, placed_of, refl, Served}
+use Terms.{ap, arith, Bool, channel_number, Chip, CommitsTo, false, first_internal, held_word, List, list_of}
+use Terms.{lt_since, map, meets_at, nat_lt, next_job, None, Option, Part, PendingWrites, placed_of, refl, Served}
 use Terms.{slice_get, Some, some_is, some_or_none, spi_owing, subst, suc, sym, true, word_of, zero, ℕ}
 use Rattle.spi_serving.specs.laws.{words.AllKept.{AllKept, ReceivedAt, lt_else, unheld}}
 use Rattle.spi_serving.specs.laws.bookkeeping.JobsApart.{agrees_at, for_at}
@@ -60,10 +60,7 @@ module _ (st : ToServe) (v : ℕ) (b : Chip) (served : Served) (job_is : served.
     module _ (one : (n : ℕ) (x : Part) → slice_get g.parts n ≡ Some x → is_inside x ≡ true → (c : Chip) → On (upto n) c → ((c1 : Chip) → On (upto (suc n)) c1 → Owes (first_internal d served (3 - n)) c1) → Owes (Some n) c)
         (onward : (c : Chip) → On (upto 4) c → Owes None c) where
       small : (m n : ℕ) → n + suc m ≡ 4 → nat_lt 3 m ≡ false
-      small m n four = past m (omega (arith, four))
-        where
-          past : (m : ℕ) → m ≤ 3 → nat_lt 3 m ≡ false
-          past m le = grind (arith, nat_tests)
+      small m n four = lt_since 3 m (omega (arith, four))
 
       abbrev by_first : (n m : ℕ) → Bool → Option ℕ
       by_first n m q = if q then Some n else first_internal d served m

@@ -3,12 +3,12 @@
 -- Used by services.FurtherRight, services.ServeMoves, words.FoundWord, services.JobLeft and 9 more.
 use Rattle.std.proofs.Common.{◌≡◌, ◌+◌, ◌<◌, ◌≤◌, ◌&&◌, ◌∷◌, [], ◌∙◌, if◌then◌else◌}
 use Rattle.spi_serving.specs.Terms
-use Terms.{after_word, ap, arith, Arrived, asked_word, begins_by, Bool, channel_at_place, channel_next, channel_served}
-use Terms.{Chip, false, FitsSpi, further_of, goes_on, Going, IsArrived, IsFurther, IsLast, IsServed, IsTaken, length}
-use Terms.{length-append, length_taken, list_of, nat_lt, nat_tests, next_job, no_word, None, not, Option, Placed}
-use Terms.{placed_of, Position, position_in, received_with, refl, Reservations, Run, Running, Served, slice_index_or}
-use Terms.{Some, SpiRepresents, SpiState, SpiTable, subst, sym, Taker, taker_of, true, word_after, word_of, words_of}
-use Terms.{World, ℕ}
+use Terms.{after_word, ap, arith, Arrived, asked_word, begins_by, Bool, channel_at_place, channel_next}
+use Terms.{channel_served, Chip, false, FitsSpi, further_of, goes_on, Going, IsArrived, IsFurther, IsLast, IsServed}
+use Terms.{IsTaken, le_since, length, length-append, length_taken, list_of, lt_from, lt_since, nat_lt, next_job}
+use Terms.{no_word, None, not, Option, Placed, placed_of, Position, position_in, received_with, refl, Reservations}
+use Terms.{Run, Running, Served, slice_index_or, Some, SpiRepresents, SpiState, SpiTable, subst, sym, Taker, taker_of}
+use Terms.{true, word_after, word_of, words_of, World, ℕ}
 use Rattle.spi_serving.specs.laws.words.Positions.{Follows, Stands, channel_there, here, in_words, onward, parts_few}
 use Rattle.spi_serving.specs.laws.words.Positions.{part_most, taken_length, word_at, words_at}
 use Rattle.spi_serving.specs.laws.bookkeeping.UnderWay.{UnderWay, place_back, says_run, under_way}
@@ -129,11 +129,8 @@ module _ (d : SpiTable) (fits : FitsSpi d) (below : Reservations) (chip : Chip) 
         ∙ words_at d fits u (word_of chip) going (way a.served served_by).for (way a.served served_by).represents p.channel p.word next_at.0.part next_at.0.there next_at.0.inside
 
     pub goes_further : goes_on served_by.done.run ≡ true
-    goes_further = goes_on_by a i.arrived false true i.good (more (length served_by.done.run.received) (length served_by.done.run.words) (omega (arith, within, received, words)))
+    goes_further = goes_on_by a i.arrived false true i.good (lt_from (length served_by.done.run.received + 1) (length served_by.done.run.words) (omega (arith, within, received, words)))
       where
-        more : (n k : ℕ) → n + 1 < k → nat_lt (n + 1) k ≡ true
-        more n k lt = grind (arith, nat_tests)
-
         within : length going.received + 1 < length (words_of d going.parts)
         within = in_words d fits u (word_of chip) going (way a.served served_by).for (way a.served served_by).represents p (length going.received + 1) next_at.0
 
@@ -154,9 +151,6 @@ module _ (d : SpiTable) (fits : FitsSpi d) (below : Reservations) (chip : Chip) 
         run_of : Run
         run_of = i.arrived.taken.served.done.run
 
-        less : (n k : ℕ) → n + 1 ≡ k → nat_lt (n + 1) k ≡ false
-        less n k e = grind (arith, nat_tests)
-
         received : length run_of.received ≡ length (job r i.arrived.taken.served).received
         received = ap length (received_are r i.arrived.taken.served)
 
@@ -165,5 +159,5 @@ module _ (d : SpiTable) (fits : FitsSpi d) (below : Reservations) (chip : Chip) 
 
         by : (b : Bool) → a.served.failed ≡ b → (o : Option Position) → further_of d a ≡ o → goes_on run_of ≡ false
         by true e o f = goes_on_by a i.arrived true (nat_lt (length run_of.received + 1) (length run_of.words)) e refl
-        by false e None f = goes_on_by a i.arrived false false e (less (length run_of.received) (length run_of.words) (let last = onward_to r i.arrived.taken.served a refl i.arrived.taken None f in omega (arith, last, received, words)))
+        by false e None f = goes_on_by a i.arrived false false e (lt_since (length run_of.received + 1) (length run_of.words) (le_since (length run_of.words) (length run_of.received + 1) (let last = onward_to r i.arrived.taken.served a refl i.arrived.taken None f in omega (arith, last, received, words))))
         by false e (Some p) f = absurd (let ends : serve.Width a p ≡ serve.Marks a = sym (ap (λ b. if b then serve.Marks a else begins_by a (further_of d a)) e ∙ ap (begins_by a) f) ∙ i.ends in cc)

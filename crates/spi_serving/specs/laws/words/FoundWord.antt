@@ -4,10 +4,10 @@
 use Rattle.std.proofs.Common.{◌≡◌, ◌+◌, ◌*◌, ◌%◌, ◌^◌, ◌<◌, ◌≤◌, ◌∙◌, if◌then◌else◌}
 use Rattle.spi_serving.specs.Terms
 use Terms.{ap, arith, Arrived, bank_word, BanksAgree, Channel, channel_of, Chip, control_word, ExternalAgrees, false}
-use Terms.{FitsSpi, Going, has_channel, held_word, IsFurther, IsServed, kept-word, length, masked, masked_by, nat_lt}
-use Terms.{nat_tests, Part, PartBy, pin_of, pinned_bank, Placed, placed_of, Position, Reservations, Run, Sent}
-use Terms.{slice_index, slice_index_or, Some, source_word, SpiRepresents, SpiState, SpiTable, subst, sym, Taking}
-use Terms.{trio_of, true, unpacked, view, width_by, word_after, word_of, World, ℕ}
+use Terms.{FitsSpi, Going, has_channel, held_word, IsFurther, IsServed, kept-word, length, lt_from, masked, masked_by}
+use Terms.{Part, PartBy, pin_of, pinned_bank, Placed, placed_of, Position, Reservations, Run, Sent, slice_index}
+use Terms.{slice_index_or, Some, source_word, SpiRepresents, SpiState, SpiTable, subst, sym, Taking, trio_of, true}
+use Terms.{unpacked, view, width_by, word_after, word_of, World, ℕ}
 use Rattle.spi_serving.specs.laws.{bookkeeping.JobsApart.{is_pinned}, words.FacingWords.{next_at, next_word, served_by}}
 use Rattle.spi_serving.specs.laws.{words.FacingWords.{standing, way}, words.Positions.{Follows, Stands, ahead_next}}
 use Rattle.spi_serving.specs.laws.{words.Positions.{begins_next, held_back, part_few, part_known}}
@@ -17,10 +17,7 @@ use Rattle.word_shapes.specs.TripleBuffer as trio
 -- ---- widths
 
 pub masked_alike : (k : Channel) (v : ℕ) → k.width ≤ 16 → masked_by k v ≡ masked k.width v
-masked_alike k v narrow = ap (λ q. if q then v % 2 ^ k.width else v) (less k.width narrow)
-  where
-    less : (n : ℕ) → n ≤ 16 → nat_lt n 32 ≡ true
-    less n le = grind (arith, nat_tests)
+masked_alike k v narrow = ap (λ q. if q then v % 2 ^ k.width else v) (lt_from k.width 32 (omega (arith, narrow)))
 
 -- the bank that is pinned, by the control word
 pub pinned_in : (v bank pin : ℕ) → bank < 3 → pin < 3 → v ≡ bank + 4 * (pin + 1) → pinned_bank v ≡ pin
@@ -94,13 +91,10 @@ module _ (d : SpiTable) (fits : FitsSpi d) (below : Reservations) (chip : Chip) 
     pub found_bank : masked_by placed.channel (word_of chip (bank_word placed Sent (pinned_bank (word_of chip (control_word placed Sent))) p.word)) ≡ (word_after run).sent
     found_bank = found (word_of chip (bank_word placed Sent (pinned_bank (word_of chip (control_word placed Sent))) p.word)) (
         ap (λ b. word_of chip (bank_word placed Sent b p.word)) pinned_bank_is
-        ∙ kept-word (trio_of placed Sent) (word_of chip) banks.sent pinned.0 p.word banks.sends pinned.1 (omega (arith, inside, fewer))
+        ∙ kept-word (trio_of placed Sent) (word_of chip) banks.sent pinned.0 p.word banks.sends pinned.1 (omega (arith, next.inside, fewer))
         ∙ ap (λ xs. slice_index xs p.word) pinned.2
         )
       where
-        inside : p.word < length part.values
-        inside = next.inside
-
         fewer : length part.values ≤ placed.channel.length
         fewer = part_few d fits u (word_of chip) going under.for under.represents p.channel part next.there
 

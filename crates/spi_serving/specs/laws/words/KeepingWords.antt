@@ -420,21 +420,21 @@ module _ (st : ToServe) (at : At st st.g.at (length st.g.received)) (p : Positio
         unheld x f = omega (arith, f)
 
   sent_at : (n : ℕ) (k : Channel) (known : channel_of d n ≡ Some k) (internal : k.internal ≡ true) → SentAt n k known internal
-  sent_at n k known internal = by (same_or_other n next.part.channel)
+  sent_at n k known internal = sends_at (same_or_other n next.part.channel)
     where
       base : (f : channel_of d next.part.channel ≡ Some k) → SentAt next.part.channel k f internal
       base f =
           let x = kept.sent k f internal in
           (x.0, stands-agree (trio_of there1 Sent) (word_of c) (word_of last_chip) x.0 (λ j own. sym (stored_other c (position_word u) (packed_position p) 0 j (past next.part.channel k f j (banks_words d fits next.part.channel k f internal Sent j own)))) x.1, x.2, x.3, x.4)
 
-      by : (n ≡ next.part.channel) ⊎ (n ≢ next.part.channel) → SentAt n k known internal
-      by (inl e) = subst (λ m. (f : channel_of d m ≡ Some k) → SentAt m k f internal) (sym e) base known
-      by (inr ne) =
+      sends_at : (n ≡ next.part.channel) ⊎ (n ≢ next.part.channel) → SentAt n k known internal
+      sends_at (inl e) = subst (λ m. (f : channel_of d m ≡ Some k) → SentAt m k f internal) (sym e) base known
+      sends_at (inr ne) =
           let b = h.words.banks n k known internal in
           (b.sent, stands-agree (trio_of (placed_of d n) Sent) (word_of chip) (word_of last_chip) b.sent (λ j own. sym (sent_other n k known internal ne j own)) b.sends, refl, refl, take_stays st at p next follows v n b.sent.take (λ e. absurd (ne (sym e))) b.pinned)
 
   received_at : (n : ℕ) (k : Channel) (known : channel_of d n ≡ Some k) (internal : k.internal ≡ true) → ReceivedAt n k known internal
-  received_at n k known internal = by (same_or_other n at.part.channel)
+  received_at n k known internal = receives_at (same_or_other n at.part.channel)
     where
       base : (f : channel_of d at.part.channel ≡ Some k) → ReceivedAt at.part.channel k f internal
       base f =
@@ -442,9 +442,9 @@ module _ (st : ToServe) (at : At st st.g.at (length st.g.received)) (p : Positio
           let other = λ (j : ℕ) (word : IsWordOf d at.part.channel k j). stored_other c (position_word u) (packed_position p) 0 j (past at.part.channel k f j word) in
           (x.0, stands-agree (trio_of here1 Received) (word_of c) (word_of last_chip) x.0 (λ j own. sym (other j (banks_words d fits at.part.channel k f internal Received j own))) x.1, x.2, x.3, put_held_as here1 (word_of c) (word_of last_chip) x.0.put (other (held_word here1) (of_held d fits at.part.channel k f)) x.4)
 
-      by : (n ≡ at.part.channel) ⊎ (n ≢ at.part.channel) → ReceivedAt n k known internal
-      by (inl e) = subst (λ m. (f : channel_of d m ≡ Some k) → ReceivedAt m k f internal) (sym e) base known
-      by (inr ne) =
+      receives_at : (n ≡ at.part.channel) ⊎ (n ≢ at.part.channel) → ReceivedAt n k known internal
+      receives_at (inl e) = subst (λ m. (f : channel_of d m ≡ Some k) → ReceivedAt m k f internal) (sym e) base known
+      receives_at (inr ne) =
           let b = h.words.banks n k known internal in (
             b.received,
             stands-agree (trio_of (placed_of d n) Received) (word_of chip) (word_of last_chip) b.received (λ j own. sym (received_other n k known internal ne j own)) b.receives,
@@ -480,7 +480,7 @@ module _ (st : ToServe) (at : At st st.g.at (length st.g.received)) (p : Positio
     first = λ j low high ne. let apart = low_apart j high in last_other j apart.0 apart.1 ne;
     held = λ n k known external. external_held n k known external;
     held_away = λ n k known ne. held_other n k known ne;
-    set_ups = λ n k known. set_up_all n k known;
+    set_ups = λ n k known. set_up_other n k known;
     sources = λ n i lt less. source_same n i lt less;
     banks = banks_after;
   }
@@ -491,9 +491,6 @@ module _ (st : ToServe) (at : At st st.g.at (length st.g.received)) (p : Positio
           let apart = apart_of n k (held_word (placed_of d n)) known word (own_lower n k known (held_word (placed_of d n)) word) (λ i e. banks_unheld d fits next.part.channel tk.0 tk.1 (ti i) Sent n k known)
           (λ e i. absurd (let same = sym (ap (channel_of d) e ∙ hk.1) ∙ known in let one : hk.0 ≡ k = some_is hk.0 k same in let f = sym i ∙ ap (λ (z : Channel). z.internal) (has_channel d fits at.part.channel hk.0 hk.1 ∙ one) ∙ external in cc)) in
           last_other (held_word (placed_of d n)) apart.0 apart.1 (λ e. let le = past_the_first d n k (held_word (placed_of d n)) (fits.channels n k known) word in absurd (omega (arith, le, e, few)))
-
-      set_up_all : (n : ℕ) (k : Channel) → channel_of d n ≡ Some k → word_of last_chip (set_up_word (placed_of d n)) ≡ word_of chip (set_up_word (placed_of d n))
-      set_up_all n k known = set_up_other n k known
 
       source_same : (n i : ℕ) → n < 16 → i < 64 → word_of last_chip (place_of (Source n) i) ≡ word_of chip (place_of (Source n) i)
       source_same n i lt less = last_other (place_of (Source n) i) (λ q. banks_low d fits next.part.channel tk.0 tk.1 (ti q) Sent (place_of (Source n) i) (omega arith)) (λ q. (banks_low d fits at.part.channel hk.0 hk.1 (hi q) Received (place_of (Source n) i) (omega arith), λ e. let low = own_lower at.part.channel hk.0 hk.1 (held_word here1) (of_held d fits at.part.channel hk.0 hk.1) in absurd (omega (arith, low, e))), λ q e. absurd (omega (arith, e, lt, less))) (λ e. omega (arith, e, few))

@@ -1,17 +1,17 @@
 -- The last word of a job is kept, by its channel.
--- From spi_sequences: words.WordsOfModule, words.JoinedLists, words.AllKept, bookkeeping.JobsApart and 13 more.
--- Used by services.JobLeft, services.WellEnded, spi_sending: bookkeeping.AsFreed, spi_sending: services.SendKeeps.
+-- From spi_sequences: words.WordsOfModule, words.JoinedLists, words.AllKept, bookkeeping.JobsApart and 14 more.
+-- Used by services.JobLeft, spi_sending: services.SendKeeps, services.WellEnded, spi_sending: bookkeeping.AsFreed.
 use Rattle.std.proofs.Common.{◌≡◌, ◌≢◌, ◌+◌, ◌<◌, ◌≤◌, ◌==◌, [], ◌∷◌, ◌++◌, ◌∙◌, ◌⊎◌, if◌then◌else◌}
 use Rattle.spi_serving.specs.Terms
-use Terms.{ap, arith, bank_of, bank_word, Banks, BanksAgree, Bool, Channel, channel_of, Chip, chip_after, chooses}
-use Terms.{choosing, CommitsTo, control_word, destination_own, destination_word, drop, false, filling}
-use Terms.{fills, free, free_bank, has_channel, HasWords, held_word, inl, inr, Keep, length, length-append, length_after, length_by, List}
+use Terms.{ap, arith, bank_of, bank_word, Banks, BanksAgree, Channel, channel_of, Chip, chip_after, chooses, choosing}
+use Terms.{CommitsTo, control_word, destination_own, destination_word, drop, false, filling, fills, free, free_bank}
+use Terms.{has_channel, HasWords, held_word, inl, inr, Keep, length, length-append, length_after, length_by, List}
 use Terms.{lt_zero, may_store, may_users, nat_lt, nat_tests, None, of_banks, of_held, of_one, of_sixteen, Option}
 use Terms.{other_number, own-control, own-word, own_held, own_low, Part, past_the_first, PendingWrites, Placed}
 use Terms.{placed_of, put_held, PutIn, PutRight, Putting, Received, received_of, refl, running_word, same_or_other}
-use Terms.{slice_get, Some, some_is, SOURCES, spi_owing, stands-agree, stands-move}
-use Terms.{stands_by_store, StandsIn, STATE, Store, stored_other, stored_same, subst, suc, sym, take, take_held}
-use Terms.{taken_of, trio_of, TripleBuffer, true, unpacked, view, word_of, words_before, words_of, ℕ}
+use Terms.{slice_get, Some, some_is, SOURCES, spi_owing, stands-agree, stands-move, stands_by_store, StandsIn, STATE}
+use Terms.{Store, stored_other, stored_same, subst, suc, sym, take, take_held, taken_of, trio_of, TripleBuffer, true}
+use Terms.{unpacked, view, whether, word_of, words_before, words_of, ℕ}
 use Rattle.word_shapes.specs.Playing.{stored}
 use Rattle.spi_serving.specs.laws.{words.AllKept.{AllKept, ReceivedAt, places_apart, unheld}}
 use Rattle.spi_serving.specs.laws.{words.AllKept.{whole}, bookkeeping.JobsApart.{agrees_at, for_at, is_kept, one_part}}
@@ -23,9 +23,15 @@ use Rattle.spi_serving.specs.laws.{words.SidesApart.{banks_fit, banks_own, is_in
 use Rattle.spi_serving.specs.laws.{bookkeeping.PinsTurned.{none_received}, ToServe.{ToServe}}
 use Rattle.word_shapes.specs.TripleBuffer as trio
 use Rattle.spi_jobs.specs.declared.keeping.Keep.TheVariants as keeps
-use Rattle.mcal_base.specs.facts.Numbers.{lt_is}
+use Rattle.mcal_base.specs.facts.Numbers.{lt_is, lt_isnt}
 
-taken_all : (a i n k : ℕ) → n < a → (if nat_lt n a then k else if n == a then i else 0) ≡ k
+-- of two places that aren't the same, where the second isn't before the first
+pub less_so : (a c : ℕ) → a ≢ c → (c < a → ⊥) → a < c
+less_so a c ne never = whether (nat_lt a c) (lt_is a c) (λ e. whether (nat_lt c a)
+    (λ f. absurd (never (lt_is c a f)))
+    (λ f. absurd (ne (let le = lt_isnt a c e in let more = lt_isnt c a f in omega (arith, le, more)))))
+
+pub taken_all : (a i n k : ℕ) → n < a → (if nat_lt n a then k else if n == a then i else 0) ≡ k
 taken_all a i n k lt = grind (arith, nat_tests)
 
 taken_some : (a i k : ℕ) → (if nat_lt a a then k else if a == a then i else 0) ≡ i
@@ -140,32 +146,21 @@ module _ (st : ToServe) (at : At st st.g.at (length st.g.received))
       outside = stands;
       rest = rest;
       apart = λ j out. others j (λ i. out g.at.channel at.part at.there i);
-      received = λ n x there inside. subst (λ q. ReceivedAt st v n x (word_of c) q) (sym (lt_zero n)) (by n x there inside (same_or_other n g.at.channel));
+      received = λ n x there inside. subst (λ q. ReceivedAt st v n x (word_of c) q) (sym (lt_zero n)) (receives_at n x there inside (same_or_other n g.at.channel));
     }
       where
         Received_at : ℕ → Part → Type 0
         Received_at n x = ReceivedAt st v n x (word_of c) false
 
-        less : (n a : ℕ) → n ≢ a → (a < n → ⊥) → n < a
-        less n a ne never = split (nat_lt n a) refl (nat_lt a n) refl
-          where
-            alike_then : (n a : ℕ) → nat_lt n a ≡ false → nat_lt a n ≡ false → n ≡ a
-            alike_then n a e f = grind (arith, nat_tests)
-
-            split : (q : Bool) → nat_lt n a ≡ q → (r : Bool) → nat_lt a n ≡ r → n < a
-            split true e r f = lt_is n a e
-            split false e true f = absurd (never (lt_is a n f))
-            split false e false f = absurd (ne (alike_then n a e f))
-
         words_same : (n : ℕ) (x : Part) → slice_get g.parts n ≡ Some x → n ≢ g.at.channel → (j : ℕ) → j < SOURCES → STATE + 64 ≤ j → (here.channel.internal ≡ true → trio.own_of t j ≡ false) → (here.channel.internal ≡ true → j ≢ held_word here) → word_of c j ≡ word_of chip j
         words_same n x there ne j low past out apart = others j out ∙ base.same j apart (λ external e. omega (arith, e, low)) ∙ alike j (λ e. omega (arith, e, past, few))
 
-        by : (n : ℕ) (x : Part) → slice_get g.parts n ≡ Some x → (placed_of d x.channel).channel.internal ≡ true → (n ≡ g.at.channel) ⊎ (n ≢ g.at.channel) → Received_at n x
-        by n x there inside (inl e) =
+        receives_at : (n : ℕ) (x : Part) → slice_get g.parts n ≡ Some x → (placed_of d x.channel).channel.internal ≡ true → (n ≡ g.at.channel) ⊎ (n ≢ g.at.channel) → Received_at n x
+        receives_at n x there inside (inl e) =
             let one : at.part ≡ x = some_is at.part x (sym at.there ∙ ap (slice_get g.parts) (sym e) ∙ there) in
             subst (λ k. Received_at k x) (sym e) (subst (λ z. Received_at g.at.channel z) one (own (ap (λ (z : Part). (placed_of d z.channel).channel.internal) one ∙ inside)))
-        by n x there inside (inr ne) =
-            received_before n x there inside (less n g.at.channel ne (λ lt. last_part d fits u (word_of chip) g (for_at d fits below chip w s h on u g few is) (agrees_at d fits below chip w s h on u g few is) at last n x there lt)) c
+        receives_at n x there inside (inr ne) =
+            received_before n x there inside (less_so n g.at.channel ne (λ lt. last_part d fits u (word_of chip) g (for_at d fits below chip w s h on u g few is) (agrees_at d fits below chip w s h on u g few is) at last n x there lt)) c
             (λ j own_j. let r = bank_past n x there inside j own_j in words_same n x there ne j r.1 r.0
             (λ i. places_apart st v g.at.channel n at.part x at.there there i inside ne j own_j)
             (λ i e. let no = unheld st v n g.at.channel x at.part there at.there inside in let f = sym own_j ∙ ap (trio.own_of (trio_of (placed_of d x.channel) Received)) e ∙ no in cc))

@@ -69,13 +69,10 @@ module _ (d : SpiTable) (fits : FitsSpi d) (u : ℕ) (m : Memory) (g : Going) (f
   channel_there n x e = ap (placed_by d) (number_there n x e)
 
   pub parts_count : length g.parts ≡ (list_of d job).count
-  parts_count = sym (length-map g.parts (λ y. y.channel)) ∙ ap length h.channels ∙ ap (λ o. length (channels_by o)) known.1 ∙ length-take-le known.0.channels.count known.0.channels.numbers (omega (arith, row, few)) ∙ sym (ap (λ o. (list_by o).count) known.1)
-    where
-      row : length known.0.channels.numbers ≡ 4
-      row = (fits.jobs job known.0 known.1).row
-
-      few : known.0.channels.count ≤ 4
-      few = (fits.jobs job known.0 known.1).few
+  parts_count =
+      let row : length known.0.channels.numbers ≡ 4 = (fits.jobs job known.0 known.1).row in
+      let few : known.0.channels.count ≤ 4 = (fits.jobs job known.0 known.1).few in
+      sym (length-map g.parts (λ y. y.channel)) ∙ ap length h.channels ∙ ap (λ o. length (channels_by o)) known.1 ∙ length-take-le known.0.channels.count known.0.channels.numbers (omega (arith, row, few)) ∙ sym (ap (λ o. (list_by o).count) known.1)
 
   pub parts_few : length g.parts ≤ 4
   parts_few = let few = (fits.jobs job known.0 known.1).few in let count = parts_count in let same : (list_of d job).count ≡ known.0.channels.count = ap (λ o. (list_by o).count) known.1 in omega (arith, few, count, same)
@@ -130,10 +127,9 @@ module _ (d : SpiTable) (fits : FitsSpi d) (u : ℕ) (m : Memory) (g : Going) (f
     pub count : k ≡ words_before g.parts p.channel + p.word
 
   pub here : Stands g.at (length g.received)
-  here = by (get_there g.parts g.at.channel h.place)
-    where
-      by : (x : Part) × (slice_get g.parts g.at.channel ≡ Some x) → Stands g.at (length g.received)
-      by (x, e) = record { part = x; there = e; inside = h.inside x e; count = h.count }
+  here =
+      let (x, e) = get_there g.parts g.at.channel h.place in
+      record { part = x; there = e; inside = h.inside x e; count = h.count }
 
   -- the next one stands after it in its part, or first in the next one
   pub data Follows (p q : Position) (size : ℕ) : Type 0 where
@@ -180,13 +176,10 @@ module _ (d : SpiTable) (fits : FitsSpi d) (u : ℕ) (m : Memory) (g : Going) (f
         let count = at.count in
         let inside = at.inside in
         let next = further in
-        let less = before-less size g.parts (p.channel + 1) (length g.parts) (omega (arith, lt)) in
+        let less = before-less size g.parts (p.channel + 1) (length g.parts) (omega (arith, within)) in
         let all = before-all size g.parts (length g.parts) (omega arith) in
         let whole = words_count in
         omega (arith, count, inside, next, less, all, whole)
-      where
-        lt : p.channel < length g.parts
-        lt = within
 
     abbrev Onward : Option Position → Type 0
     Onward None = k + 1 ≡ length (words_of d g.parts)
@@ -196,7 +189,7 @@ module _ (d : SpiTable) (fits : FitsSpi d) (u : ℕ) (m : Memory) (g : Going) (f
     By a b c e = Onward (if a && b then Some (record { channel = p.channel; word = p.word + 1 }) else if c && e then Some (record { channel = p.channel + 1; word = 0 }) else None)
 
     pub onward : Onward (after_word p (length at.part.values) (list_of d job).count)
-    onward = subst (λ n. Onward (after_word p (length at.part.values) n)) parts_count (by (nat_lt p.word 255) refl (nat_lt (p.word + 1) (length at.part.values)) refl (nat_lt p.channel 3) refl (nat_lt (p.channel + 1) (length g.parts)) refl)
+    onward = subst (λ n. Onward (after_word p (length at.part.values) n)) parts_count (onward_by_place (nat_lt p.word 255) refl (nat_lt (p.word + 1) (length at.part.values)) refl (nat_lt p.channel 3) refl (nat_lt (p.channel + 1) (length g.parts)) refl)
       where
         last : nat_lt (p.word + 1) (length at.part.values) ≡ false → p.word + 1 ≡ length at.part.values
         last f = let past = is_past (p.word + 1) (length at.part.values) f in let lt = at.inside in omega (arith, past, lt)
@@ -210,14 +203,13 @@ module _ (d : SpiTable) (fits : FitsSpi d) (u : ℕ) (m : Memory) (g : Going) (f
             omega (arith, same, all, count, more, whole)
 
         begins : p.word + 1 ≡ length at.part.values → p.channel + 1 < length g.parts → Onward (Some (record { channel = p.channel + 1; word = 0 }))
-        begins same lt = next (get_there g.parts (p.channel + 1) lt)
-          where
-            next : (x : Part) × (slice_get g.parts (p.channel + 1) ≡ Some x) → Onward (Some (record { channel = p.channel + 1; word = 0 }))
-            next (x, e) = let count = at.count in let more = further in (record { part = x; there = e; inside = first x e; count = omega (arith, same, count, more) }, Next refl refl same)
+        begins same lt =
+            let (x, e) = get_there g.parts (p.channel + 1) lt in
+            let count = at.count in let more = further in (record { part = x; there = e; inside = first x e; count = omega (arith, same, count, more) }, Next refl refl same)
 
-        by : (a : Bool) → nat_lt p.word 255 ≡ a → (b : Bool) → nat_lt (p.word + 1) (length at.part.values) ≡ b → (c : Bool) → nat_lt p.channel 3 ≡ c → (e : Bool) → nat_lt (p.channel + 1) (length g.parts) ≡ e
+        onward_by_place : (a : Bool) → nat_lt p.word 255 ≡ a → (b : Bool) → nat_lt (p.word + 1) (length at.part.values) ≡ b → (c : Bool) → nat_lt p.channel 3 ≡ c → (e : Bool) → nat_lt (p.channel + 1) (length g.parts) ≡ e
             → Onward (after_word p (length at.part.values) (length g.parts))
-        by a ea b eb c ec e ee = subst (λ z. By z (nat_lt (p.word + 1) (length at.part.values)) (nat_lt p.channel 3) (nat_lt (p.channel + 1) (length g.parts))) (sym ea) (subst (λ z. By a z (nat_lt p.channel 3) (nat_lt (p.channel + 1) (length g.parts))) (sym eb) (subst (λ z. By a b z (nat_lt (p.channel + 1) (length g.parts))) (sym ec) (subst (λ z. By a b c z) (sym ee) (split a ea b eb c ec e ee))))
+        onward_by_place a ea b eb c ec e ee = subst (λ z. By z (nat_lt (p.word + 1) (length at.part.values)) (nat_lt p.channel 3) (nat_lt (p.channel + 1) (length g.parts))) (sym ea) (subst (λ z. By a z (nat_lt p.channel 3) (nat_lt (p.channel + 1) (length g.parts))) (sym eb) (subst (λ z. By a b z (nat_lt (p.channel + 1) (length g.parts))) (sym ec) (subst (λ z. By a b c z) (sym ee) (split a ea b eb c ec e ee))))
           where
             split : (a : Bool) → nat_lt p.word 255 ≡ a → (b : Bool) → nat_lt (p.word + 1) (length at.part.values) ≡ b → (c : Bool) → nat_lt p.channel 3 ≡ c → (e : Bool) → nat_lt (p.channel + 1) (length g.parts) ≡ e → By a b c e
             split true ea true eb c ec e ee = let count = at.count in let lt = is_below (p.word + 1) (length at.part.values) eb in (record { part = at.part; there = at.there; inside = lt; count = omega (arith, count) }, Same refl refl)
@@ -246,7 +238,7 @@ module _ (d : SpiTable) (fits : FitsSpi d) (u : ℕ) (m : Memory) (g : Going) (f
   held_back n x e a = ap unpacked a.held ∙ unpacked_back a.by (let most = part_most n x e in let count = a.count in omega (arith, most, count))
 
   pub taken_length : (n : ℕ) (x : Part) → slice_get g.parts n ≡ Some x → (i : ℕ) → let y = placed_of d x.channel in length_taken y (taker_of y i (m (asked_word y i))) ≡ length x.values
-  taken_length n x e i = by y.channel.internal refl (h.parts n x e).1
+  taken_length n x e i = length_by_kind y.channel.internal refl (h.parts n x e).1
     where
       y : Placed
       y = placed_of d x.channel
@@ -254,8 +246,8 @@ module _ (d : SpiTable) (fits : FitsSpi d) (u : ℕ) (m : Memory) (g : Going) (f
       least : (a b : ℕ) → a ≤ b → min a b ≡ a
       least a b le = omega (arith, le)
 
-      by : (q : Bool) → y.channel.internal ≡ q → PartBy q m y g.at n x → length_taken y (taker_of y i (m (asked_word y i))) ≡ length x.values
-      by true f a = of_internal y i (m (asked_word y i)) f ∙ sym a.count
-      by false f a =
+      length_by_kind : (q : Bool) → y.channel.internal ≡ q → PartBy q m y g.at n x → length_taken y (taker_of y i (m (asked_word y i))) ≡ length x.values
+      length_by_kind true f a = of_internal y i (m (asked_word y i)) f ∙ sym a.count
+      length_by_kind false f a =
           of_external y i (m (asked_word y i)) f ∙ ap (λ j. min (unpacked (m j)).length y.channel.length) (asked_external y i f) ∙ ap (λ z. min z.length y.channel.length) (held_back n x e a)
           ∙ least a.by.length y.channel.length a.few ∙ sym a.count

@@ -37,14 +37,14 @@ some_channels d fits j job known = subst (λ n. 0 < n) (sym (count_is d fits j j
 
 -- the first one
 pub first_there : (d : SpiTable) → FitsSpi d → (u : ℕ) (p : Pending) → is_for d u p ≡ true → (b : ℕ) × (k : Channel) × IsFirst d p b k
-first_there d fits u p for = by (channels_of d (next_job d p)) refl (some_channels d fits (next_job d p) job.0 job.1)
+first_there d fits u p for = first_in_list (channels_of d (next_job d p)) refl (some_channels d fits (next_job d p) job.0 job.1)
   where
     job : (k : Job) × (job_of d (next_job d p) ≡ Some k)
     job = job_there d u p for
 
-    by : (xs : List ℕ) → channels_of d (next_job d p) ≡ xs → 0 < length xs → (b : ℕ) × (k : Channel) × IsFirst d p b k
-    by [] e lt = absurd (omega (arith, lt))
-    by (x ∷ xs) e lt =
+    first_in_list : (xs : List ℕ) → channels_of d (next_job d p) ≡ xs → 0 < length xs → (b : ℕ) × (k : Channel) × IsFirst d p b k
+    first_in_list [] e lt = absurd (omega (arith, lt))
+    first_in_list (x ∷ xs) e lt =
         let at : slice_get (channels_of d (next_job d p)) 0 ≡ Some x = ap (λ ys. slice_get ys 0) e in
         let known = (fits.jobs (next_job d p) job.0 job.1).there x (get_contained (channels_of d (next_job d p)) 0 x at) in
         (x, known.1, record { at = at; known = known.2 })

@@ -1,6 +1,6 @@
 -- A free unit has begun the first word of its next job: the words on the way to the machine's state, and there.
 -- From spi_sequences: words.FirstParts, words.QuietWords.
--- Used by services.StartWords, bookkeeping.UnitBegun, services.StartBegun, words.UnitWords and 11 more.
+-- Used by services.StartWords, bookkeeping.UnitBegun, services.StartBegun, words.UnitWords and 14 more.
 use Rattle.std.proofs.Common.{◌≡◌, [], ◌∷◌}
 use Rattle.spi_starting.specs.Terms
 use Terms.{Answer, as_read, Banks, begun, bit_or, Bool, Call, Channel, channel_at, channel_of, channels_of, Chip}

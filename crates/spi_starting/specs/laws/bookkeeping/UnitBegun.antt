@@ -59,7 +59,7 @@ module _ (st : ToStart) (word received : ℕ) (t : IsTurned st.d st.chip st.s st
 
   -- what the units do, on the chip as the word begins
   pub units_now : (n : ℕ) → n < 2 → is_sync_unit d n ≡ false → UnitAgrees d (unit_at later.serials n) (run_at after n) (now n)
-  units_now n lt async = by (same_or_other n u)
+  units_now n lt async = agrees_now (same_or_other n u)
     where
       own : UnitAgrees d (unit_at later.serials u) (run_at after u) (now u)
       own =
@@ -67,9 +67,9 @@ module _ (st : ToStart) (word received : ℕ) (t : IsTurned st.d st.chip st.s st
           (subst (λ x. UnitAgrees d x (run_at after u) (Some (first_going d below owner acted chip w s u h p word received))) (sym unit_here)
           (run.transfer, item-same None s.units u (Some run) ∙ run_is, word_here, t.select))
 
-      by : (n ≡ u) ⊎ (n ≢ u) → UnitAgrees d (unit_at later.serials n) (run_at after n) (now n)
-      by (inl e) = subst (λ k. UnitAgrees d (unit_at later.serials k) (run_at after k) (now k)) (sym e) own
-      by (inr ne) =
+      agrees_now : (n ≡ u) ⊎ (n ≢ u) → UnitAgrees d (unit_at later.serials n) (run_at after n) (now n)
+      agrees_now (inl e) = subst (λ k. UnitAgrees d (unit_at later.serials k) (run_at after k) (now k)) (sym e) own
+      agrees_now (inr ne) =
           subst (λ g. UnitAgrees d (unit_at later.serials n) (run_at after n) g) (sym (going_else st word received n ne))
           (subst (λ x. UnitAgrees d x (run_at after n) (h.going n)) (sym (unit_else n ne)) (subst (λ r. UnitAgrees d (unit_at chip.serials n) r (h.going n)) (sym (item-other None s.units u n (Some run) ne)) (h.units n lt async)))
 

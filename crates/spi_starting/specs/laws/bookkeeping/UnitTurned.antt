@@ -1,44 +1,34 @@
 -- A free unit selects a device and takes a width, and a frame that owes it a start owes it no more: the agreement
 -- stays.
--- From spi_sequences: words.PendingWords, spi_sequences: bookkeeping.ClearedUnit and 5 more.
+-- From spi_sequences: words.PendingWords, spi_sequences: bookkeeping.ClearedUnit and 6 more.
 -- Used by services.StartRight, spi_sending: services.SendSteps.
-use Rattle.std.proofs.Common.{◌≡◌, ◌≢◌, ◌+◌, ◌<◌, ◌||◌, ◌∷◌, ◌∙◌, ◌⊎◌}
+use Rattle.std.proofs.Common.{◌≡◌, ◌+◌, ◌<◌, ◌||◌, ◌∷◌, ◌∙◌}
 use Rattle.spi_starting.specs.Terms
-use Terms.{Answer, ap, AreOwed, arith, Call, carried_at, CarriesAgrees, cases, Chip, chip_after, cleared_of, clears}
-use Terms.{Contains, Destination, false, FitsSpi, get_or-set_other, get_or-set_same, Going, going_run, has_bit}
-use Terms.{held_word, holds_back, holds_changed, holds_debt, idle, inl, inr, is_for, is_owed, is_sync_unit, length}
-use Terms.{length-set, None, Option, Origin, other_number, Pending, place_of, placed_of, refl, Reservations, run_at}
-use Terms.{run_carried, same_or_other, sends_as, Serial, SerialSelect, SerialWidth, set_up_word, slice_index}
-use Terms.{slice_index_or, slice_set, Some, Source, SpiRepresents, SpiState, SpiTable, stands-move, StandsIn, subst}
-use Terms.{sym, true, unit_at, UnitAgrees, view, WordsAgree, World, Write, ℕ}
+use Terms.{Answer, ap, AreOwed, Call, carried_at, CarriesAgrees, cases, Chip, chip_after, cleared_of, clears}
+use Terms.{Contains, Destination, false, FitsSpi, get_or-set_other, Going, going_run, has_bit, held_word, holds_back}
+use Terms.{holds_changed, holds_debt, idle, is_for, is_owed, is_sync_unit, length, length-set, None, Option, Origin}
+use Terms.{other_number, Pending, place_of, placed_of, refl, Reservations, run_at, run_carried, same_or_other}
+use Terms.{sends_as, Serial, SerialSelect, SerialWidth, set_unit, set_up_word, slice_index, slice_index_or, slice_set}
+use Terms.{Some, Source, SpiRepresents, SpiState, SpiTable, stands-move, StandsIn, subst, sym, true, unit_at}
+use Terms.{UnitAgrees, view, WordsAgree, World, Write, ℕ}
 use Rattle.spi_starting.specs.laws.bookkeeping.RanState.{debt_of}
 
 module _ (d : SpiTable) (held : Reservations) (chip : Chip) (w : World) (s : SpiState) (h : SpiRepresents d held chip w s) (u : ℕ) (free : h.going u ≡ None) (x : Serial) (word : x.word ≡ (unit_at chip.serials u).word) where
   turned_unit : (lt : u < 2) (n : ℕ) → n < 2 → is_sync_unit d n ≡ false → UnitAgrees d (slice_index_or (slice_set chip.serials.units u x) n idle) (run_at s n) (h.going n)
-  turned_unit lt n few async = by (same_or_other n u)
+  turned_unit lt = set_unit (λ n y. is_sync_unit d n ≡ false → UnitAgrees d y (run_at s n) (h.going n)) chip.serials.units u x h.size
+      (λ few async. subst (λ g. UnitAgrees d x (run_at s u) g) (sym free) (own (subst (λ g. UnitAgrees d (unit_at chip.serials u) (run_at s u) g) free (h.units u lt async))))
+      (λ n few ne. h.units n few)
     where
       own : UnitAgrees d (unit_at chip.serials u) (run_at s u) None → UnitAgrees d x (run_at s u) None
       own a = (word ∙ a.0, a.1)
 
-      by : (n ≡ u) ⊎ (n ≢ u) → UnitAgrees d (slice_index_or (slice_set chip.serials.units u x) n idle) (run_at s n) (h.going n)
-      by (inl e) =
-          subst (λ k. UnitAgrees d (slice_index_or (slice_set chip.serials.units u x) k idle) (run_at s k) (h.going k)) (sym e)
-          (subst (λ y. UnitAgrees d y (run_at s u) (h.going u)) (sym (get_or-set_same chip.serials.units u x idle (let size = h.size in omega (arith, lt, size))))
-          (subst (λ g. UnitAgrees d x (run_at s u) g) (sym free) (own (subst (λ g. UnitAgrees d (unit_at chip.serials u) (run_at s u) g) free (h.units u lt (subst (λ k. is_sync_unit d k ≡ false) e async))))))
-      by (inr ne) = subst (λ y. UnitAgrees d y (run_at s n) (h.going n)) (sym (get_or-set_other chip.serials.units u n x idle ne)) (h.units n few async)
-
   turned_carried : (lt : u < 2) (n : ℕ) → n < 2 → is_sync_unit d n ≡ true → CarriesAgrees d (slice_index_or (slice_set chip.serials.units u x) n idle) (run_carried (carried_at s n)) (h.going n)
-  turned_carried lt n few sync = by (same_or_other n u)
+  turned_carried lt = set_unit (λ n y. is_sync_unit d n ≡ true → CarriesAgrees d y (run_carried (carried_at s n)) (h.going n)) chip.serials.units u x h.size
+      (λ few sync. subst (λ g. CarriesAgrees d x (run_carried (carried_at s u)) g) (sym free) (own (subst (λ g. CarriesAgrees d (unit_at chip.serials u) (run_carried (carried_at s u)) g) free (h.sends u lt sync))))
+      (λ n few ne. h.sends n few)
     where
       own : CarriesAgrees d (unit_at chip.serials u) (run_carried (carried_at s u)) None → CarriesAgrees d x (run_carried (carried_at s u)) None
       own a = (word ∙ a.0, a.1)
-
-      by : (n ≡ u) ⊎ (n ≢ u) → CarriesAgrees d (slice_index_or (slice_set chip.serials.units u x) n idle) (run_carried (carried_at s n)) (h.going n)
-      by (inl e) =
-          subst (λ k. CarriesAgrees d (slice_index_or (slice_set chip.serials.units u x) k idle) (run_carried (carried_at s k)) (h.going k)) (sym e)
-          (subst (λ y. CarriesAgrees d y (run_carried (carried_at s u)) (h.going u)) (sym (get_or-set_same chip.serials.units u x idle (let size = h.size in omega (arith, lt, size))))
-          (subst (λ g. CarriesAgrees d x (run_carried (carried_at s u)) g) (sym free) (own (subst (λ g. CarriesAgrees d (unit_at chip.serials u) (run_carried (carried_at s u)) g) free (h.sends u lt (subst (λ k. is_sync_unit d k ≡ true) e sync))))))
-      by (inr ne) = subst (λ y. CarriesAgrees d y (run_carried (carried_at s n)) (h.going n)) (sym (get_or-set_other chip.serials.units u n x idle ne)) (h.sends n few sync)
 
   -- a unit that isn't free is another one
   turned_select : (n : ℕ) (g : Going) → h.going n ≡ Some g → (slice_index_or (slice_set chip.serials.units u x) n idle).select ≡ (unit_at chip.serials n).select

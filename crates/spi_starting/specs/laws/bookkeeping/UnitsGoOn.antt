@@ -1,15 +1,14 @@
 -- What the units do once a free one has begun its next job: the state, and how each stands in it.
--- From spi_sequences: words.WordsToState, spi_sequences: words.ListTests, bookkeeping.RanState and 8 more.
+-- From spi_sequences: words.WordsToState, spi_sequences: words.ListTests, bookkeeping.RanState and 9 more.
 -- Used by words.UnitWords, bookkeeping.UnitBegun, services.StartWords.
 use Rattle.std.proofs.Common.{◌≡◌, ◌≢◌, ◌<◌, ◌≤◌, ◌==◌, ◌∷◌, ◌∙◌, if◌then◌else◌}
 use Rattle.spi_starting.specs.Terms
 use Terms.{all_carried, all_of, all_pending, any_changed, any_in, ap, arith, aside_pending, at_contained, Bool, cases}
-use Terms.{changed, Contains, Contains-get_or, contains_map, false, Going, going_free, going_next, going_runs}
-use Terms.{has_job, is_for, is_of, is_running, is_some, is_sync_unit, IsSoundState, item, item-other, item-same}
-use Terms.{jobs_of, Keeps, length, next_job, next_there, None, not, not_true, one_by_job, one_pending, one_unit}
-use Terms.{Option, other_number, Pending, refl, Reservations, Run, run_at, runs_on, runs_sequence, RunsBy, RunsNext}
-use Terms.{RunsOn, same_number, same_or_other, shares_job, slice_index_or, Some, some_at, sound_changed, SpiState}
-use Terms.{starts, subst, sym, true, View, view, ℕ}
+use Terms.{changed, Contains, Contains-get_or, contains_map, false, free_rests, Going, going_free, going_runs}
+use Terms.{has_job, is_of, is_running, is_some, is_sync_unit, IsSoundState, item, item-other, item-same, jobs_of}
+use Terms.{Keeps, length, next_job, next_there, None, not, one_by_job, one_pending, Option, other_number, Pending}
+use Terms.{refl, Reservations, Run, run_at, runs_sequence, RunsBy, RunsNext, same_number, same_or_other, shares_job}
+use Terms.{slice_index_or, Some, some_at, sound_changed, SpiState, starts, subst, sym, true, View, view, ℕ}
 use Rattle.spi_starting.specs.laws.{bookkeeping.RanState.{debt_of, first_going, first_run, ran_state}}
 use Rattle.spi_starting.specs.laws.{bookkeeping.StartSound.{run_sound, run_view}, ToStart.{ToStart}}
 
@@ -33,15 +32,7 @@ module _ (st : ToStart) where
 
   -- the sequence runs no job
   pub rests : is_running s p.sequence ≡ false
-  rests = not_true (is_running s p.sequence) (λ e. by (runs_on d fits held chip w s h p.sequence e))
-    where
-      by : RunsOn d fits held chip w s h p.sequence → ⊥
-      by r =
-          let next = going_next d fits held chip w s h r.unit r.job r.few r.is in
-          let same : r.job.pending ≡ p = one_pending d fits held chip w s h r.job.pending p next.0 (all_pending (view s) p there) r.of in
-          let unit : r.unit ≡ u = one_unit d r.unit u (next_job d p) (subst (λ x. is_for d r.unit x ≡ true) same next.2) for in
-          let none : None ≡ Some r.job = sym free ∙ ap h.going (sym unit) ∙ r.is in
-          cc
+  rests = free_rests d fits held chip w s h h.right.0.1 u few free p there for
 
   -- ---- the state
 
@@ -115,20 +106,19 @@ module _ (st : ToStart) where
     still_there x (n, lt, e) ne = subst (λ z. Contains (changed p.sequence starts s.pending) z) (ap (λ b. if b then starts x else x) (other_number x.sequence p.sequence ne)) (contains_map (item p.sequence starts) s.pending n x (at_contained s.pending n x lt e))
 
     started_there : Contains (changed p.sequence starts s.pending) (starts p)
-    started_there = by there
-      where
-        by : Contains s.pending p → Contains (changed p.sequence starts s.pending) (starts p)
-        by (n, lt, e) = subst (λ z. Contains (changed p.sequence starts s.pending) z) (ap (λ b. if b then starts p else p) (same_number p.sequence)) (contains_map (item p.sequence starts) s.pending n p (at_contained s.pending n p lt e))
+    started_there =
+        let (n, lt, e) = there in
+        subst (λ z. Contains (changed p.sequence starts s.pending) z) (ap (λ b. if b then starts p else p) (same_number p.sequence)) (contains_map (item p.sequence starts) s.pending n p (at_contained s.pending n p lt e))
 
     next_else : (n : ℕ) → n < 2 → (g : Option Going) → h.going n ≡ g → RunsNext d (view s) n g → RunsNext d (view after) n g
     next_else n lt None e r = tt
-    next_else n lt (Some g) e r = by (is_sync_unit d n) refl
+    next_else n lt (Some g) e r = next_runs (is_sync_unit d n) refl
       where
-        by : (b : Bool) → is_sync_unit d n ≡ b → RunsNext d (view after) n (Some g)
-        by true i =
+        next_runs : (b : Bool) → is_sync_unit d n ≡ b → RunsNext d (view after) n (Some g)
+        next_runs true i =
             let begun = subst (λ q. RunsBy q (view s) n g.pending) i r.1 in
             (all_carried (view after) n g.pending lt begun, subst (λ q. RunsBy q (view after) n g.pending) (sym i) begun, r.2)
-        by false i =
+        next_runs false i =
             let asked = subst (λ q. RunsBy q (view s) n g.pending) i r.1 in
             let is = still_there g.pending asked.0 (λ f. let run = sym rests ∙ ap (is_running s) (sym f) ∙ going_runs d fits held chip w s h n g lt i e in cc) in
             (all_pending (view after) g.pending is, subst (λ q. RunsBy q (view after) n g.pending) (sym i) (is, asked.1), r.2)

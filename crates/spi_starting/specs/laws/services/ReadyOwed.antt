@@ -90,21 +90,13 @@ module _ (d : SpiTable) (fits : FitsSpi d) (u : ℕ) (few : u < 2) (number : ℕ
 
       pinned_owed : Settling (at n (prepares.Pin (pinning_of (placed_of d b) Sent))) c
       pinned_owed =
+          let x : SentAt d held s b k (word_of c) (nat_le least n && nat_lt n n) = a.sends n b k here known internal in
+          let not_yet : (nat_le least n && nat_lt n n) ≡ false = ap (λ q. q && nat_lt n n) past ∙ lt_itself n in
+          let pinned_now : (nat_le least n && nat_lt n (suc n)) ≡ true = ap (λ q. q && nat_lt n (suc n)) past ∙ lt_next n in
+          let stands : trio.Stands side (word_of c) x.0 = subst (λ q. trio.Stands side (word_of c) (sent_by q x.0)) not_yet x.2 in
           settles_part taking (trio.own_of side) (spi_owing d) (λ z. at n (prepares.Pin z)) (λ xs. Some (next n)) pin_part side_there
           (λ m words. (words ≡ x.0.bank ∷ []) × trio.Stands side m (pinning x.0)) Done 2 (takes.Pin (control_word (placed_of d b) Sent)) c a.whole (pin-ends side (word_of c) x.0 (trio_fits d fits b k known internal Sent) x.1.free stands)
           (λ c1 words differs now. onward c1 (ready_sent d fits u few number job is_job held s base n b k here known c c1 (upto least n) (upto least (suc n)) (before n) (before (suc n)) internal differs a (subst (λ q. SentAt d held s b k (word_of c1) q) (sym pinned_now) (x.0, x.1, now.1)) (λ i len a is ne. others i len ne) earlier))
-        where
-          x : SentAt d held s b k (word_of c) (nat_le least n && nat_lt n n)
-          x = a.sends n b k here known internal
-
-          not_yet : (nat_le least n && nat_lt n n) ≡ false
-          not_yet = ap (λ q. q && nat_lt n n) past ∙ lt_itself n
-
-          pinned_now : (nat_le least n && nat_lt n (suc n)) ≡ true
-          pinned_now = ap (λ q. q && nat_lt n (suc n)) past ∙ lt_next n
-
-          stands : trio.Stands side (word_of c) x.0
-          stands = subst (λ q. trio.Stands side (word_of c) (sent_by q x.0)) not_yet x.2
 
     held_owed : k.internal ≡ false → Settling (at n (prepares.Load (placed_of d b))) c
     held_owed external =
@@ -157,7 +149,7 @@ module _ (d : SpiTable) (fits : FitsSpi d) (u : ℕ) (few : u < 2) (number : ℕ
   module _ (over : (n : ℕ) (c : Chip) → On n c → All n → Settling last c) where
     -- at this place there is a channel, or none any more
     from_with : (n : ℕ) (c : Chip) → nat_le least n ≡ true → On n c → ((b : ℕ) → slice_get cs n ≡ Some b → (c1 : Chip) → On (suc n) c1 → Settling (next n) c1) → Settling (from n) c
-    from_with n c past a onward = by (slice_get cs n) refl
+    from_with n c past a onward = settles_from (slice_get cs n) refl
       where
         none_there : (xs : List ℕ) (i n b : ℕ) → n ≤ i → slice_get xs n ≡ None → slice_get xs i ≡ Some b → ⊥
         none_there [] i n b le e f = cc
@@ -170,9 +162,9 @@ module _ (d : SpiTable) (fits : FitsSpi d) (u : ℕ) (few : u < 2) (number : ℕ
             (λ e. e)
             (λ e. absurd (none_there cs i n b (is_past i n e) none is))
 
-        by : (o : Option ℕ) → slice_get cs n ≡ o → Settling (from n) c
-        by None e = subst (λ o. Settling (ready_by d number at last n o) c) (sym (number_at d number job is_job n ∙ e)) (over n c a (all_before e))
-        by (Some b) e =
+        settles_from : (o : Option ℕ) → slice_get cs n ≡ o → Settling (from n) c
+        settles_from None e = subst (λ o. Settling (ready_by d number at last n o) c) (sym (number_at d number job is_job n ∙ e)) (over n c a (all_before e))
+        settles_from (Some b) e =
             subst (λ o. Settling (ready_by d number at last n o) c) (sym (number_at d number job is_job n ∙ e))
             (let known = channel_there d fits u few number job is_job b (get_contained cs n b e) in prepared_owed n b known.1 e known.2 past c a (onward b e))
 

@@ -1,24 +1,24 @@
 -- Around the steps of the start window: its frame may make them, they leave fewer, the hardware leaves the places as
 -- they are, and what follows a step at a place that owes moves.
--- From spi_sequences: words.WordsOfModule, spi_sequences: services.StartSteps and 5 more.
+-- From spi_sequences: words.WordsOfModule, spi_sequences: services.StartSteps and 6 more.
 -- Used by spi_driver: services.StartPart, spi_sending: services.SendAround.
-use Rattle.std.proofs.Common.{◌≡◌, ◌≢◌, ◌+◌, ◌*◌, ◌<◌, ◌≤◌, ◌==◌, ◌||◌, [], ◌∷◌, ◌∙◌, ◌⊎◌, if◌then◌else◌}
+use Rattle.std.proofs.Common.{◌≡◌, ◌≢◌, ◌+◌, ◌<◌, ◌≤◌, ◌==◌, ◌||◌, [], ◌∷◌, ◌∙◌, ◌⊎◌, if◌then◌else◌}
 use Rattle.spi_starting.specs.Terms
 use Terms.{and_parts, Answer, ap, arith, bank_word, banked, begins_word, block_of, Bool, Channel, channel_at_place}
-use Terms.{channel_of, channel_words, channels_of, Chip, choosing_front, Chosen, control_word, Ends, false, faulted_run}
-use Terms.{Fill, Find, find_gave, find_more, find_move, first_word, FitsSpi, flat_map, Front, front-lowers, front_gave}
-use Terms.{front_left, front_move, front_room, gave, get_or-set_other, get_or-set_same, happened, Hardware, has_channel}
-use Terms.{has_ended, held_word, idle, inl, inr, internal_words, is_fill, is_shared, is_simple, is_some, IsChosen}
-use Terms.{IsFree, item-other, item-same, job_at_place, length, length_by, Level, level_leaves, List, Load, LooksAt}
-use Terms.{LowersTo, MARKS, may, may_first, may_store, may_users, memories, Memory, Move, moved, named_own, nat_lt}
-use Terms.{nat_tests, next_gave, next_in, next_job, next_on, NEXTS, no_word, None, number_of, of_sixteen, Option}
-use Terms.{or_none, Order, order_word, own-control, own_banks, own_held, own_of_channel, own_order, own_set_up, Pending}
-use Terms.{Placed, placed_of, prepare_ends, refl, resets_chip, run_at, running_word, same_or_other, Search, search_move}
-use Terms.{Seen, Sent, Serial, set_up_word, slice_index_or, Some, source_own, source_word, spi_bare, SpiFault, SpiState}
-use Terms.{SpiTable, start_chooses, start_finds, start_found, start_left, start_looks, start_more, start_move}
-use Terms.{start_owes, start_place, start_prepares, start_releases, start_takes, Started, StartPlace, starts_at, STATE}
-use Terms.{subst, suc, sym, take_gave, trio_of, true, unit_at, unpacked, untouched, will_give, Word, word-left, word_of}
-use Terms.{World, zero, ℕ}
+use Terms.{channel_of, channel_words, channels_of, Chip, choosing_front, Chosen, control_word, Ends, false}
+use Terms.{faulted_run, Fill, Find, find_gave, find_more, find_move, first_word, FitsSpi, flat_map, Front}
+use Terms.{front-lowers, front_gave, front_left, front_move, front_room, gave, get_or-set_other, get_or-set_same}
+use Terms.{happened, has_channel, has_ended, held_word, idle, inl, inr, internal_words, is_fill, is_shared, is_simple}
+use Terms.{is_some, IsChosen, IsFree, item-other, item-same, job_at_place, length, length_by, Level, level_leaves}
+use Terms.{List, Load, LooksAt, LowersTo, lt_from, MARKS, may, may_first, may_store, may_users, Memory, Move, moved}
+use Terms.{named_own, nat_lt, next_gave, next_in, next_job, next_on, NEXTS, no_word, None, number_of, of_sixteen}
+use Terms.{Option, or_none, Order, order_word, own-control, own_banks, own_held, own_of_channel, own_order}
+use Terms.{own_set_up, Pending, Placed, placed_of, prepare_ends, refl, resets_chip, run_at, running_word}
+use Terms.{same_or_other, Search, search_move, Seen, Sent, Serial, set_up_word, slice_index_or, Some, source_own}
+use Terms.{source_word, spi_bare, SpiFault, SpiState, SpiTable, start_chooses, start_finds, start_found, start_left}
+use Terms.{start_looks, start_more, start_move, start_owes, start_place, start_prepares, start_releases, start_takes}
+use Terms.{Started, StartPlace, starts_at, STATE, subst, suc, sym, take_gave, trio_of, true, unit_at, unpacked}
+use Terms.{untouched, will_give, Word, words_kept, World, zero, ℕ}
 use Rattle.spi_starting.specs.laws.services.StartWords.{next_owes, prepare_owes}
 use Rattle.chip_units.specs.Serials as serials
 use Rattle.word_shapes.specs.PriorityQueue as ranked
@@ -29,9 +29,6 @@ use Rattle.spi_sequences.specs.declared.service.start.StartPlace.TheVariants as 
 use Rattle.spi_sequences.specs.declared.service.start.Started.TheVariants as started
 
 -- ---- what its frame may do
-
-pub below_two : (u : ℕ) → u < 2 → nat_lt u 2 ≡ true
-below_two u lt = grind (arith, nat_tests)
 
 module _ (d : SpiTable) (fits : FitsSpi d) (u : ℕ) (few : u < 2) where
   -- a word of a bank of what a channel sends, by its first place
@@ -44,18 +41,12 @@ module _ (d : SpiTable) (fits : FitsSpi d) (u : ℕ) (few : u < 2) where
       len : (placed_of d b).channel.length ≡ k.length
       len = ap (λ x. x.length) (has_channel d fits b k known)
 
-      some : 0 < k.length
-      some = (fits.channels b k known).some
-
-      size : banked k ≡ 6 * k.length
-      size = internal_words d fits b k known internal
-
       from : (e : ℕ) → STATE + block_of d b ≤ bank_word (placed_of d b) Sent e 0
       from e = omega (arith, at)
 
       below : (e : ℕ) → e < 4 → bank_word (placed_of d b) Sent e 0 < STATE + block_of d b + 4 + banked k
       below (suc (suc (suc (suc e)))) lt = absurd (omega (arith, lt))
-      below _ lt = omega (arith, at, len, some, size)
+      below _ lt = omega (arith, at, len, (fits.channels b k known).some, internal_words d fits b k known internal)
 
   pub may_find : (b : ℕ) (k : Channel) → channel_of d b ≡ Some k → (p : Find) → LooksAt d b k p → may d (find_move p) ≡ true
   may_find b k known (finds.Newest x) (is, internal) = subst (λ z. may d (Load (control_word z Sent)) ≡ true) (sym is) (may_store d fits (control_word (placed_of d b) Sent) 0 (own_banks d fits b k known internal Sent (control_word (placed_of d b) Sent) (own-control (trio_of (placed_of d b) Sent))))
@@ -82,9 +73,9 @@ module _ (d : SpiTable) (fits : FitsSpi d) (u : ℕ) (few : u < 2) where
   start_may (start.Marks v) f s at = may_first d fits MARKS (omega arith) (omega arith)
   start_may (start.Front v x p) f s (free, is, also, n, ends) = or_may (front_move p) (may_front p n f.0 _ ends)
   start_may (start.Find c p) f s (q, is, b, k, first, looks, will) = or_may (find_move p) (may_find b k first.known p looks)
-  start_may (start.Select c x) f s at = below_two u few
-  start_may (start.Width c x) f s at = below_two u few
-  start_may (start.Begin c x) f s at = below_two u few
+  start_may (start.Select c x) f s at = lt_from u 2 few
+  start_may (start.Width c x) f s at = lt_from u 2 few
+  start_may (start.Begin c x) f s at = lt_from u 2 few
   start_may (start.Choose c p) f s at = absurd at
   start_may (start.Mark c) f s at = absurd at
   start_may (start.Prepare r i p) f s at = absurd at
@@ -233,13 +224,6 @@ module _ (d : SpiTable) (u : ℕ) (f f1 : Seen) (s s1 : SpiState) (words : f1.0 
   place_kept start.Stand at = absurd at
 
 module _ (d : SpiTable) (u : ℕ) where
-  pub words_kept : (chip : Chip) (order : Order) → is_fill order ≡ false → word_of (happened chip order) ≡ word_of chip
-  words_kept chip order e = memories (word_of (happened chip order)) (word_of chip) (λ k. by order e k)
-    where
-      by : (order : Order) → is_fill order ≡ false → (k : ℕ) → word_of (happened chip order) k ≡ word_of chip k
-      by (Fill c ws) e k = absurd (cc)
-      by order e k = word-left k chip (Hardware order) tt
-
   same_turn : (x : Serial) (o : Option Word) (q : Bool) → ((if q then record x { word = o } else x).select ≡ x.select) × ((if q then record x { word = o } else x).width ≡ x.width)
   same_turn x o true = (refl, refl)
   same_turn x o false = (refl, refl)
@@ -249,14 +233,14 @@ module _ (d : SpiTable) (u : ℕ) where
   SameTurn x z = (z.select ≡ x.select) × (z.width ≡ x.width)
 
   pub turns_kept : (chip : Chip) (n : ℕ) → length chip.serials.units ≡ 2 → u < 2 → SameTurn (unit_at chip.serials u) (unit_at (serials.after_fault chip.serials n) u)
-  turns_kept chip n size few = by n (same_or_other u n)
+  turns_kept chip n size few = turn_kept n (same_or_other u n)
     where
-      by : (n : ℕ) → (u ≡ n) ⊎ (u ≢ n) → SameTurn (unit_at chip.serials u) (unit_at (serials.after_fault chip.serials n) u)
-      by n (inl e) =
+      turn_kept : (n : ℕ) → (u ≡ n) ⊎ (u ≢ n) → SameTurn (unit_at chip.serials u) (unit_at (serials.after_fault chip.serials n) u)
+      turn_kept n (inl e) =
           subst (λ k. SameTurn (unit_at chip.serials u) (unit_at (serials.after_fault chip.serials k) u)) e
           (subst (λ z. SameTurn (unit_at chip.serials u) z) (sym (get_or-set_same chip.serials.units u (serials.faulted chip.serials.time (unit_at chip.serials u)) idle (omega (arith, size, few))))
           (same_turn (unit_at chip.serials u) (serials.failing (unit_at chip.serials u).word) (serials.is_busy (unit_at chip.serials u) chip.serials.time)))
-      by n (inr ne) = subst (λ z. SameTurn (unit_at chip.serials u) z) (sym (get_or-set_other chip.serials.units n u (serials.faulted chip.serials.time (unit_at chip.serials n)) idle ne)) (refl, refl)
+      turn_kept n (inr ne) = subst (λ z. SameTurn (unit_at chip.serials u) z) (sym (get_or-set_other chip.serials.units n u (serials.faulted chip.serials.time (unit_at chip.serials n)) idle ne)) (refl, refl)
 
   pub start_later : (chip : Chip) (w : World) (s : SpiState) (order : Order) (p : StartPlace) → length chip.serials.units ≡ 2 → u < 2 → is_fill order ≡ false → start_place d u p ((spi_bare d).foot chip) s → start_place d u p ((spi_bare d).foot (happened chip order)) (moved d w s order)
   start_later chip w s (Fill c ws) p size few e at = absurd (cc)

@@ -1,6 +1,6 @@
 -- The start window is right at each of its places up to the start, and as it starts.
 -- From spi_sequences: services.StartSteps, bookkeeping.ChosenNext, bookkeeping.UnitTurned, words.FirstWord and 15 more.
--- Used by spi_driver: services.StartPart.
+-- Used by spi_driver: services.StartPart, spi_driver: services.UnitParts, spi_driver: services.UnitSteps.
 use Rattle.std.proofs.Common.{◌≡◌, ◌%◌, ◌^◌, ◌<◌, ◌≤◌, ◌==◌, [], ◌∷◌, ◌∙◌, if◌then◌else◌}
 use Rattle.spi_starting.specs.Terms
 use Terms.{all_pending, Answer, ap, apart_agrees, arith, as_begun, Begun, Bool, by_two, Call, Channel}
@@ -9,15 +9,15 @@ use Terms.{cleared_of, CommitsAfter, Contains, control_word, Ends, ends-then, en
 use Terms.{find_gave, find_move, finding_first, first_word, FitsSpi, FrameRole, Front, front-ends, front_gave}
 use Terms.{front_left, front_move, gave, get_or-set_same, Going, going_free, happens, has_channel, has_ended, idle}
 use Terms.{is_for, is_off, is_some, is_sync_unit, IsChosen, IsFirst, IsFree, job_at_place, job_of, job_place, length}
-use Terms.{List, Load, LooksAt, MARKS, Mask, masked, masked_by, Memory, min, Move, nat_lt, nat_tests, next_at}
-use Terms.{next_by, next_job, next_on, NEXTS, None, number_in, number_of, Option, or_none, order_word, Origin}
-use Terms.{other_number, outcome_with, outgoing, part_at, Pending, placed_of, ranks_in, refl, Reservations, run_at}
-use Terms.{RunAgrees, running_word, Search, search_move, search_of, Seen, select_by, select_of, selects, SendsRight}
-use Terms.{Sent, sent_by, sent_word, SerialData, SerialSelect, SerialWidth, set_up_word, slice_index_or, Some}
-use Terms.{source_word, spi_bare, spi_owing, SpiRepresents, SpiState, SpiTable, StandsAt, Start, start_by}
-use Terms.{start_finds, start_found, start_looks, start_move, start_of, start_owes, start_place, start_takes, Started}
-use Terms.{StartPlace, Starts, subst, suc, sym, Taken, tells_nothing, true, unit_at, unit_named, unit_number, Units}
-use Terms.{value_of, view, whether_as, will_give, word_of, World, Write, zero, ℕ}
+use Terms.{List, Load, LooksAt, lt_from, MARKS, Mask, masked, masked_by, Memory, min, Move, nat_lt, next_at, next_by}
+use Terms.{next_job, next_on, NEXTS, None, number_in, number_of, Option, or_none, order_word, Origin, other_number}
+use Terms.{outcome_with, outgoing, part_at, Pending, placed_of, ranks_in, refl, Reservations, run_at, RunAgrees}
+use Terms.{running_word, Search, search_move, search_of, Seen, select_by, select_of, selects, SendsRight, Sent}
+use Terms.{sent_by, sent_word, SerialData, SerialSelect, SerialWidth, set_up_word, slice_index_or, Some, source_word}
+use Terms.{spi_bare, spi_owing, SpiRepresents, SpiState, SpiTable, StandsAt, Start, start_by, start_finds}
+use Terms.{start_found, start_looks, start_move, start_of, start_owes, start_place, start_takes, Started, StartPlace}
+use Terms.{Starts, subst, suc, sym, Taken, tells_nothing, true, unit_at, unit_named, unit_number, Units, value_of}
+use Terms.{view, whether_as, will_give, word_of, World, Write, zero, ℕ}
 use Rattle.spi_starting.specs.laws.{services.StartBegun.{begun_owes, choosing}, services.StartWords.{starting}}
 use Rattle.spi_starting.specs.laws.{bookkeeping.ChosenNext.{first_placed, first_there, next_there, none_for}}
 use Rattle.spi_starting.specs.laws.{words.FirstWord.{first_is, found, mod_again}, bookkeeping.RanState.{debt_of}}
@@ -74,28 +74,24 @@ module _ (d : SpiTable) (fits : FitsSpi d) (errand : FrameRole) (below : Reserva
   -- ---- what the unit runs, and what waits
 
   running_right : Leaves (Load (running_word u)) (if word_of chip (running_word u) == 0 then (start.Nexts, started.Goes None) else (start.Running, started.Over))
-  running_right = by (h.going u) refl ((h.words.on on).runs u few)
+  running_right = running_leaves (h.going u) refl ((h.words.on on).runs u few)
     where
-      by : (g : Option Going) → h.going u ≡ g → RunAgrees d (word_of chip) u g → Leaves (Load (running_word u)) (if word_of chip (running_word u) == 0 then (start.Nexts, started.Goes None) else (start.Running, started.Over))
-      by None e r = subst (λ n. Leaves (Load (running_word u)) (if n == 0 then (start.Nexts, started.Goes None) else (start.Running, started.Over))) (sym r) (h, going_free d fits held chip w s h u few e)
-      by (Some g) e r =
+      running_leaves : (g : Option Going) → h.going u ≡ g → RunAgrees d (word_of chip) u g → Leaves (Load (running_word u)) (if word_of chip (running_word u) == 0 then (start.Nexts, started.Goes None) else (start.Running, started.Over))
+      running_leaves None e r = subst (λ n. Leaves (Load (running_word u)) (if n == 0 then (start.Nexts, started.Goes None) else (start.Running, started.Over))) (sym r) (h, going_free d fits held chip w s h u few e)
+      running_leaves (Some g) e r =
           subst (λ q. Leaves (Load (running_word u)) (if q then (start.Nexts, started.Goes None) else (start.Running, started.Over))) (sym (other_number (word_of chip (running_word u)) 0 (λ f. let z = sym f ∙ r.running in omega (arith, z))))
           (paid d fits below owner acted chip w s u h (λ q none there for. let no = sym none ∙ e in cc))
 
   -- a look at the order gives the machine's next sequence
   looks_right : (free : IsFree s u) → (n : ℕ) × Ends choosing_front (ranked.own_of (record { at = order_word u })) n (record { search = search_of u; ranks = ranks_in d (word_of chip NEXTS) (word_of chip MARKS) }) (word_of chip) (λ m words. words ≡ number_of (next_on d u s.pending) ∷ [])
-  looks_right free = (
-    _,
-    ends-then choosing_front (ranked.own_of (record { at = order_word u })) _ (record { search = search_of u; ranks = ranks }) (word_of chip) (λ m words. ranked.Holds (record { at = order_word u }) m entries × (words ≡ choice ranks entries ∷ [])) (λ m words. words ≡ number_of (next_on d u s.pending) ∷ [])
-        (λ m words z. z.1 ∙ ap (λ i. i ∷ []) (choice_next d fits held chip w s h on u few (goes_none d fits below owner acted chip w s u h free)))
-        (front-ends (record { at = order_word u }) ranks (word_of chip) entries ((h.words.on on).sequences.orders u few)),
-  )
-    where
-      ranks : List ℕ
-      ranks = ranks_in d (word_of chip NEXTS) (word_of chip MARKS)
-
-      entries : List Entry
-      entries = entries_of d (view s) u
+  looks_right free =
+      let ranks : List ℕ = ranks_in d (word_of chip NEXTS) (word_of chip MARKS) in
+      let entries : List Entry = entries_of d (view s) u in (
+        _,
+        ends-then choosing_front (ranked.own_of (record { at = order_word u })) _ (record { search = search_of u; ranks = ranks }) (word_of chip) (λ m words. ranked.Holds (record { at = order_word u }) m entries × (words ≡ choice ranks entries ∷ [])) (λ m words. words ≡ number_of (next_on d u s.pending) ∷ [])
+            (λ m words z. z.1 ∙ ap (λ i. i ∷ []) (choice_next d fits held chip w s h on u few (goes_none d fits below owner acted chip w s u h free)))
+            (front-ends (record { at = order_word u }) ranks (word_of chip) entries ((h.words.on on).sequences.orders u few)),
+      )
 
   -- ---- the choice
 
@@ -105,7 +101,7 @@ module _ (d : SpiTable) (fits : FitsSpi d) (errand : FrameRole) (below : Reserva
   found_right made same p x free None e =
       subst (λ c. SpiRepresents d (cleared_of u owner acted ∷ below) c w s) (sym same) (paid d fits below owner acted chip w s u h (λ q none there for. none_for d u s.pending q e there for))
   found_right made same p x free (Some q) e =
-      subst (λ b. Leaves made (start_found d (word_of chip NEXTS) (word_of chip MARKS) p x q.sequence b)) (sym (small q.sequence number))
+      subst (λ b. Leaves made (start_found d (word_of chip NEXTS) (word_of chip MARKS) p x q.sequence b)) (sym (lt_from q.sequence 8 number))
       (subst (λ c. SpiRepresents d held c w s × start_place d u (start.Find found_so (finding_first (channel_at_place d found_so.run.job 0))) (foot c) s) (sym same)
       (h, (q, record { free = free; next = e; is = ap (λ j. record { run = record { job = j; sequence = q.sequence }; nexts = word_of chip NEXTS; marks = word_of chip MARKS }) job }, first.0, first.1, first.2, subst (λ z. LooksAt d first.0 first.1 (finding_first z)) (sym place) (looks_first first.0 first.1 first.2.known), will)))
     where
@@ -114,9 +110,6 @@ module _ (d : SpiTable) (fits : FitsSpi d) (errand : FrameRole) (below : Reserva
 
       number : q.sequence < 8
       number = (h.sound.entries q (all_pending (view s) q there.0)).number
-
-      small : (n : ℕ) → n < 8 → nat_lt n 8 ≡ true
-      small n lt = grind (arith, nat_tests)
 
       found_so : Chosen
       found_so = chosen_by d (word_of chip NEXTS) (word_of chip MARKS) q.sequence
@@ -143,7 +136,7 @@ module _ (d : SpiTable) (fits : FitsSpi d) (errand : FrameRole) (below : Reserva
       → (made : Move) → front_move p ≡ made → chip_after chip made y ≡ chip → value_of chip made ≡ playing.given (word_of chip) made → playing.after (word_of chip) made ≡ word_of chip
       → Leaves made (start_looks d (word_of chip NEXTS) (word_of chip MARKS) p (value_of chip made) (front_gave p (value_of chip made)) (has_ended (front_gave p (value_of chip made))))
   front_right p zero free ends made is same value after = absurd ends
-  front_right p (suc n) free ends made is same value after = by (front_gave p (value_of chip made)) refl rest
+  front_right p (suc n) free ends made is same value after = front_leaves (front_gave p (value_of chip made)) refl rest
     where
       D : Memory → List ℕ → Type 0
       D m words = words ≡ number_of (next_on d u s.pending) ∷ []
@@ -162,9 +155,9 @@ module _ (d : SpiTable) (fits : FitsSpi d) (errand : FrameRole) (below : Reserva
           subst (λ z. Leaves made (start_found d (word_of chip NEXTS) (word_of chip MARKS) p (value_of chip made) z (nat_lt z 8))) (sym (ap number_in e ∙ ap (λ xs. slice_index_or xs 0 0) words))
           (found_right made same p (value_of chip made) free (next_on d u s.pending) refl)
 
-      by : (t : Taken) → front_gave p (value_of chip made) ≡ t → playing.Either t.ended (Ends choosing_front own n (front_left p (value_of chip made)) (word_of chip) D) (D (word_of chip))
+      front_leaves : (t : Taken) → front_gave p (value_of chip made) ≡ t → playing.Either t.ended (Ends choosing_front own n (front_left p (value_of chip made)) (word_of chip) D) (D (word_of chip))
           → Leaves made (start_looks d (word_of chip NEXTS) (word_of chip MARKS) p (value_of chip made) t (has_ended t))
-      by t e rest = split t.ended refl rest
+      front_leaves t e rest = split t.ended refl rest
         where
           split : (o : Option Answer) → t.ended ≡ o → playing.Either o (Ends choosing_front own n (front_left p (value_of chip made)) (word_of chip) D) (D (word_of chip))
               → Leaves made (start_looks d (word_of chip NEXTS) (word_of chip MARKS) p (value_of chip made) t (is_some t.ended))

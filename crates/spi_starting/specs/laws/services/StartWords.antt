@@ -25,7 +25,6 @@ use Rattle.spi_starting.specs.laws.{bookkeeping.UnitBegun.{IsTurned}, ToBegin.{o
 use Rattle.word_shapes.specs.Playing as playing
 use Rattle.word_shapes.specs.TripleBuffer as trio
 use Rattle.word_shapes.specs.declared.take.Take.TheVariants as takes
-use Rattle.spi_jobs.specs.declared.preparing.Prepare.TheVariants as prepares
 use Rattle.spi_sequences.specs.declared.service.start.StartPlace.TheVariants as start
 use Rattle.spi_sequences.specs.declared.service.unit.UnitPlace.TheVariants as units
 
@@ -60,7 +59,7 @@ next_owes d r i =
     elim (nat_lt i 3) as (λ q. start_owes (if q then prepare_at d r (i + 1) else prepared d r) ≡ true)
     [ true ↦ prepare_owes d r (i + 1) | false ↦ prepared_owes r (channel_at_place d r.job 0) ]
 
-begins_later : (i k : ℕ) → is_to_begin first_place (suc i) k ≡ true
+pub begins_later : (i k : ℕ) → is_to_begin first_place (suc i) k ≡ true
 begins_later i k = grind (arith, nat_tests)
 
 begins_some : (k : ℕ) → nat_le k 1 ≡ false → is_to_begin first_place 0 k ≡ true

@@ -1,12 +1,12 @@
 -- The words of what the units run once a job has begun, whichever frame begins it.
 -- From words.PinnedBanks, words.QuietWords, spi_sequences: words.FirstParts and 10 more.
 -- Used by words.UnitWords, spi_sending: services.SendBegun.
-use Rattle.std.proofs.Common.{◌≡◌, ◌≢◌, ◌+◌, ◌*◌, ◌<◌, ◌≤◌, ◌∙◌, if◌then◌else◌}
+use Rattle.std.proofs.Common.{◌≡◌, ◌≢◌, ◌+◌, ◌*◌, ◌<◌, ◌≤◌, ◌∙◌}
 use Rattle.spi_starting.specs.Terms
 use Terms.{ap, arith, as_read, Bool, cases, Channel, channel_at, channel_of, channels_are, channels_of, false}
-use Terms.{get_back, get_contained, Going, GoingAgrees, has_channel, held_word, Job, job_of, length, length-map}
-use Terms.{Memory, next_job, NEXTS, None, not_order, not_true, of_held, Option, packed, packed_run, Part, part_at}
-use Terms.{part_there, PartAgrees, PartBy, past_the_first, Placed, placed_of, position_word, refl, RunAgrees}
+use Terms.{get_back, get_contained, Going, going_words, GoingAgrees, has_channel, held_word, Job, job_of, length}
+use Terms.{length-map, Memory, next_job, NEXTS, None, not_order, not_true, of_held, Option, packed, packed_run, Part}
+use Terms.{part_at, PartAgrees, PartBy, past_the_first, Placed, placed_of, position_word, refl, RunAgrees}
 use Terms.{running_word, same_or_other, set_up_or, slice_get, Some, source_word, STATE, subst, sym, true}
 use Terms.{uses_channel, ℕ}
 use Rattle.spi_starting.specs.laws.{words.PinnedBanks.{channel_is, else_now, here_now, none_runs, the_job}}
@@ -41,39 +41,11 @@ module _ (t : ToBegin) (m1 : Memory) (quiet : (i : ℕ) → IsQuiet t.d t.u (nex
       away = not_true (uses_channel d x.channel (next_job d p)) (λ uses. none_runs t x.channel uses n g m x lt e (at, refl))
 
   -- a job that another unit runs has no channel of this one
-  part_else : (n : ℕ) (g : Going) → n < 2 → going n ≡ Some g → GoingAgrees d words n g → (m : ℕ) (x : Part) → slice_get g.parts m ≡ Some x → (b : Bool) → PartBy b words (placed_of d x.channel) g.at m x → PartBy b m1 (placed_of d x.channel) g.at m x
-  part_else n g lt e a m x at true i = i
-  part_else n g lt e a m x at false i =
-      record {
-        by = i.by;
-        held = held_same ∙ i.held;
-        count = i.count;
-        few = i.few;
-        goes = i.goes;
-        ahead = λ k less later. i.ahead k less later ∙ from i.by.source k;
-      }
-    where
-      known : (x.channel < 16) × (k : Channel) × (channel_of d x.channel ≡ Some k)
-      known = part_there d fits n g m x (theirs n g lt e) a.channels at
-
-      held_same : m1 (held_word (placed_of d x.channel)) ≡ words (held_word (placed_of d x.channel))
-      held_same = held_else n g m x known.1 lt e at known.2
-
-      from : (b : Bool) (k : ℕ) → (if b then words (source_word (placed_of d x.channel) k) else (placed_of d x.channel).channel.default_data) ≡ (if b then m1 (source_word (placed_of d x.channel) k) else (placed_of d x.channel).channel.default_data)
-      from true k = sym (source_same (placed_of d x.channel) k)
-      from false k = refl
-
   run_else : (n : ℕ) → n < 2 → n ≢ u → (g : Option Going) → going n ≡ g → RunAgrees d words n g → RunAgrees d m1 n g
   run_else n lt ne None e a = unit_words n lt ne (running_word n) (omega arith) (omega arith) ∙ a
-  run_else n lt ne (Some g) e a = record {
-    channels = a.channels;
-    running = unit_words n lt ne (running_word n) (omega arith) (omega arith) ∙ a.running;
-    position = unit_words n lt ne (position_word n) (omega arith) (omega arith) ∙ a.position;
-    place = a.place;
-    inside = a.inside;
-    count = a.count;
-    parts = λ m x at. ((a.parts m x at).0, part_else n g lt e a m x at (placed_of d x.channel).channel.internal (a.parts m x at).1);
-  }
+  run_else n lt ne (Some g) e a =
+      going_words d fits n words m1 g (theirs n g lt e) (λ m x k at known outside. held_else n g m x k lt e at known) (λ m x k i at known less. source_same (placed_of d x.channel) i)
+      (unit_words n lt ne (running_word n) (omega arith) (omega arith)) (unit_words n lt ne (position_word n) (omega arith) (omega arith)) a
 
   -- ---- the job that begins
 
@@ -94,10 +66,9 @@ module _ (t : ToBegin) (m1 : Memory) (quiet : (i : ℕ) → IsQuiet t.d t.u (nex
             by false e = subst (λ i. PartBy i m1 (placed_of d b) first_place n (part_at d s b)) (sym (same ∙ e)) (outer b k known e m1 n (λ i. source_same (placed_of d b) i) (holds n b k at known e))
 
     parts_now : (n : ℕ) (x : Part) → slice_get (begun_going t).parts n ≡ Some x → (0 < length x.values) × PartAgrees m1 (placed_of d x.channel) first_place n x
-    parts_now n x at = by (get_back (part_at d s) (channels_of d (next_job d p)) n x at)
-      where
-        by : (b : ℕ) × (slice_get (channels_of d (next_job d p)) n ≡ Some b) × (x ≡ part_at d s b) → (0 < length x.values) × PartAgrees m1 (placed_of d x.channel) first_place n x
-        by (b, e, f) = subst (λ z. (0 < length z.values) × PartAgrees m1 (placed_of d z.channel) first_place n z) (sym f) (part_now n b e)
+    parts_now n x at =
+        let (b, e, f) = get_back (part_at d s) (channels_of d (next_job d p)) n x at in
+        subst (λ z. (0 < length z.values) × PartAgrees m1 (placed_of d z.channel) first_place n z) (sym f) (part_now n b e)
 
     run_now : GoingAgrees d m1 u (begun_going t)
     run_now = record {

@@ -1,16 +1,16 @@
 -- The first word of a job, and that a look at the words gives it.
 -- From spi_sequences: words.FirstParts, words.PinnedBanks, spi_sequences: services.WriteRight and 2 more.
 -- Used by services.StartRight, spi_sending: services.SendFree.
-use Rattle.std.proofs.Common.{◌≡◌, ◌%◌, ◌^◌, ◌<◌, ◌≤◌, [], ◌∷◌, ◌++◌, ◌∙◌, if◌then◌else◌}
+use Rattle.std.proofs.Common.{◌≡◌, ◌%◌, ◌^◌, ◌<◌, [], ◌∷◌, ◌++◌, ◌∙◌, if◌then◌else◌}
 use Rattle.spi_starting.specs.Terms
 use Terms.{ap, arith, as_read, as_words, bank_of, bank_word, BanksAgree, Bool, Channel, channel_at, channel_of}
 use Terms.{channels_of, Chip, control_word, false, finding_first, first-at, first_parts, first_word, FitsSpi}
 use Terms.{flat_map-cons, get_or-replicate, Goes, has_channel, is_off, is_users, JobWord, length, length_by, List}
-use Terms.{masked, masked_by, nat_lt, nat_tests, newest-in, newest-word, next_job, no_word, none_readied, Null, or_none}
+use Terms.{lt_from, masked, masked_by, newest-in, newest-word, next_job, no_word, none_readied, Null, or_none}
 use Terms.{part_at, part_by, part_for, Pending, Placed, placed_of, Pointer, prepares, read_set_up, refl, Reservations}
 use Terms.{Sent, set_up_code, set_up_fits, set_up_or, set_up_word, slice_get, slice_index, slice_index_or, Some}
-use Terms.{some_is, some_words, source_word, SpiRepresents, SpiState, SpiTable, subst, sym, trio_of, true, Users, view}
-use Terms.{width_by, will_give, will_read, word_of, words_are, words_from, words_of, World, ℕ}
+use Terms.{some_is, some_words, source_word, SpiRepresents, SpiState, SpiTable, subst, sym, trio_of, true, Users}
+use Terms.{view, width_by, will_give, will_read, word_of, words_are, words_from, words_of, World, ℕ}
 use Rattle.spi_starting.specs.laws.words.PinnedBanks.{channel_is, internal_values}
 use Rattle.spi_jobs.specs.declared.finding.Find.TheVariants as finds
 
@@ -34,11 +34,11 @@ module _ (d : SpiTable) (fits : FitsSpi d) (held : Reservations) (chip : Chip) (
   value = slice_index_or (part_at d s b).values 0 0
 
   pub first_is : (p : Pending) → slice_get (channels_of d (next_job d p)) 0 ≡ Some b → first_word d s p ≡ record { channel = b; place = 0; width = k.width; sent = masked k.width value; goes = (part_at d s b).goes }
-  first_is p at = by (channels_of d (next_job d p)) refl at
+  first_is p at = first_in_list (channels_of d (next_job d p)) refl at
     where
-      by : (cs : List ℕ) → channels_of d (next_job d p) ≡ cs → slice_get cs 0 ≡ Some b → first_word d s p ≡ record { channel = b; place = 0; width = k.width; sent = masked k.width value; goes = (part_at d s b).goes }
-      by [] e f = absurd (cc)
-      by (c ∷ cs) e f =
+      first_in_list : (cs : List ℕ) → channels_of d (next_job d p) ≡ cs → slice_get cs 0 ≡ Some b → first_word d s p ≡ record { channel = b; place = 0; width = k.width; sent = masked k.width value; goes = (part_at d s b).goes }
+      first_in_list [] e f = absurd (cc)
+      first_in_list (c ∷ cs) e f =
           let same : c ≡ b = some_is c b f in
           ap (λ ws. slice_index_or ws 0 no_word) (sym (words_are d s (channels_of d (next_job d p))))
           ∙ ap (λ xs. slice_index_or (words_of d (first_parts d s xs)) 0 no_word) e
@@ -51,10 +51,7 @@ module _ (d : SpiTable) (fits : FitsSpi d) (held : Reservations) (chip : Chip) (
   -- ---- what a look gives
 
   masks : (v : ℕ) → masked_by x.channel v ≡ masked k.width v
-  masks v = ap (λ z. masked_by z v) (has_channel d fits b k known) ∙ ap (λ q. if q then v % 2 ^ k.width else v) (narrow k.width (fits.channels b k known).narrow)
-    where
-      narrow : (n : ℕ) → n ≤ 16 → nat_lt n 32 ≡ true
-      narrow n le = grind (arith, nat_tests)
+  masks v = ap (λ z. masked_by z v) (has_channel d fits b k known) ∙ ap (λ q. if q then v % 2 ^ k.width else v) (lt_from k.width 32 (let few = (fits.channels b k known).narrow in omega (arith, few)))
 
   none_prepares : prepares held ≡ false
   none_prepares = (none_readied d s.mode s.channels held on h.right).1

@@ -107,10 +107,9 @@ module _ (t : ToBegin) where
 
     -- what its job sends of a channel
     part_has : (n : ℕ) (x : Part) → HasPart (Some (begun_going t)) b n x → slice_get cs n ≡ Some b
-    part_has n x (at, same) = by (get_back (part_at d s) cs n x at)
-      where
-        by : (a : ℕ) × (slice_get cs n ≡ Some a) × (x ≡ part_at d s a) → slice_get cs n ≡ Some b
-        by (a, e, f) = e ∙ ap (λ z. Some z) (sym (channel_is d s a) ∙ sym (ap (λ z. z.channel) f) ∙ same)
+    part_has n x (at, same) =
+        let (a, e, f) = get_back (part_at d s) cs n x at in
+        e ∙ ap (λ z. Some z) (sym (channel_is d s a) ∙ sym (ap (λ z. z.channel) f) ∙ same)
 
     uses_at : (n : ℕ) → slice_get cs n ≡ Some b → uses_channel d b (next_job d p) ≡ true
     uses_at n e = any_in (λ c. c == b) cs b (get_contained cs n b e) (same_number b)
@@ -184,12 +183,10 @@ module _ (t : ToBegin) where
     -- ---- one of the job's
 
     values : (n : ℕ) (x : Part) → HasPart (Some (begun_going t)) b n x → x.values ≡ (channel_at s b).written
-    values n x (at, same) = by (get_back (part_at d s) cs n x at)
-      where
-        by : (a : ℕ) × (slice_get cs n ≡ Some a) × (x ≡ part_at d s a) → x.values ≡ (channel_at s b).written
-        by (a, e, f) =
-            let at : a ≡ b = sym (channel_is d s a) ∙ sym (ap (λ z. z.channel) f) ∙ same in
-            ap (λ z. z.values) f ∙ ap (λ i. (part_at d s i).values) at ∙ ap (λ z. z.values) (internal_values d s b k known internal)
+    values n x (at, same) =
+        let (a, e, f) = get_back (part_at d s) cs n x at in
+        let at : a ≡ b = sym (channel_is d s a) ∙ sym (ap (λ z. z.channel) f) ∙ same in
+        ap (λ z. z.values) f ∙ ap (λ i. (part_at d s i).values) at ∙ ap (λ z. z.values) (internal_values d s b k known internal)
 
     sent_count : length (channel_at s b).written ≡ k.length
     sent_count = written b k known internal
@@ -208,14 +205,12 @@ module _ (t : ToBegin) where
         count : length (part_at d s b).values ≡ k.length
         count = ap (λ z. length z.values) (internal_values d s b k known internal) ∙ sent_count
     banks_here n at false e (x, is, stands) =
+        let none : was.sent.take ≡ None = none_pinned b k known internal (uses_at n at) in
         with_sent x stands is.newest is.put
         (subst (λ o. TakeRight now b o) (sym is.free) (λ m lt. cases (same_or_other m u)
         (λ f. subst (λ i. PinsNone (now i) b) (sym f) (subst (λ g. PinsNone g b) (sym here_now) not_begun))
         (λ ne. subst (λ g. PinsNone g b) (sym (else_now m ne)) (subst (λ o. TakeRight going b o) none was.pinned m lt))))
       where
-        none : was.sent.take ≡ None
-        none = none_pinned b k known internal (uses_at n at)
-
         not_begun : (m : ℕ) (x : Part) → HasPart (Some (begun_going t)) b m x → is_to_begin first_place m (length x.values) ≡ false
         not_begun m x has = ap (λ i. is_to_begin first_place i (length x.values)) (one_at m n (part_has m x has) at) ∙ ap (is_to_begin first_place n) (ap length (values m x has) ∙ sent_count) ∙ e
 

@@ -41,14 +41,14 @@ module _ (d : SpiTable) (fits : FitsSpi d) (u : ℕ) (few : u < 2) (j : ℕ) (jo
 
   -- another word of a channel
   pub quiet_beside : (c : ℕ) (k : Channel) (e : channel_of d c ≡ Some k) (i : ℕ) → IsWordOf d c k i → (k.internal ≡ true → trio.own_of (trio_of (placed_of d c) Sent) i ≡ false) → i ≢ held_word (placed_of d c) → IsQuiet d u j i
-  quiet_beside c k e i is sent held = past_quiet i (past_the_first d c k i (fits.channels c k e) is) (λ b x at f. by b x f (same_or_other b c))
+  quiet_beside c k e i is sent held = past_quiet i (past_the_first d c k i (fits.channels c k e) is) (λ b x at f. apart_from_each b x f (same_or_other b c))
     where
-      by : (b : ℕ) (x : Channel) → channel_of d b ≡ Some x → (b ≡ c) ⊎ (b ≢ c) → (x.internal ≡ true → trio.own_of (trio_of (placed_of d b) Sent) i ≡ false) × (i ≢ held_word (placed_of d b))
-      by b x f (inl same) = (
+      apart_from_each : (b : ℕ) (x : Channel) → channel_of d b ≡ Some x → (b ≡ c) ⊎ (b ≢ c) → (x.internal ≡ true → trio.own_of (trio_of (placed_of d b) Sent) i ≡ false) × (i ≢ held_word (placed_of d b))
+      apart_from_each b x f (inl same) = (
         λ inner. subst (λ n. trio.own_of (trio_of (placed_of d n) Sent) i ≡ false) (sym same) (sent (ap (λ z. z.internal) (some_is k x (sym e ∙ ap (channel_of d) (sym same) ∙ f)) ∙ inner)),
         subst (λ n. i ≢ held_word (placed_of d n)) (sym same) held,
       )
-      by b x f (inr ne) = other_channel c k e i is b x f ne
+      apart_from_each b x f (inr ne) = other_channel c k e i is b x f ne
 
   -- any word of a channel that the job doesn't have
   pub quiet_away : (c : ℕ) (k : Channel) (e : channel_of d c ≡ Some k) → uses_channel d c j ≡ false → (i : ℕ) → IsWordOf d c k i → IsQuiet d u j i

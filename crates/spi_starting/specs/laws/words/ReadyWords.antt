@@ -74,15 +74,13 @@ module _ (d : SpiTable) (fits : FitsSpi d) (u : ℕ) (few : u < 2) (number : ℕ
   -- a store into one of the first words
   pub ready_first : (c : Chip) (f : (place length : ℕ) → Bool) (g : ℕ → Bool) (j v : ℕ) → Ready f g c → j < STATE + 64 → ((i : ℕ) → IsBeside d u number i → i ≢ j) → Ready f g (chip_after c (Store j v) 0)
   ready_first c f g j v a lt beside =
+      let differs : DiffersIn own c (chip_after c (Store j v) 0) = differs_by_store own c j v a.whole (same_number j) in
       ready_on own c (chip_after c (Store j v) 0) f f g g differs a (λ i is. other_number i j (beside i is))
       (λ n b k at known internal. sent_kept own c (chip_after c (Store j v) 0) differs b k (f n k.length) (λ i mine. other_number i j (λ e. let past = past_the_first d b k i (fits.channels b k known) (of_banks d fits b k known internal Sent i mine) in omega (arith, past, e, lt))) (a.sends n b k at known internal))
       (λ n b k at known external ready. differs.others (held_word (placed_of d b)) (other_number (held_word (placed_of d b)) j (λ e. let past = past_the_first d b k (held_word (placed_of d b)) (fits.channels b k known) (of_held d fits b k known) in omega (arith, past, e, lt))) ∙ a.holds n b k at known external ready)
     where
       own : ℕ → Bool
       own i = i == j
-
-      differs : DiffersIn own c (chip_after c (Store j v) 0)
-      differs = differs_by_store own c j v a.whole (same_number j)
 
   -- ---- a channel at its place
 
@@ -112,13 +110,13 @@ module _ (d : SpiTable) (fits : FitsSpi d) (u : ℕ) (few : u < 2) (number : ℕ
         ready_on (trio.own_of (trio_of (placed_of d b) Sent)) c c1 f f1 g g1 differs a (beside_trio internal) sends holds
       where
         sends : (i a : ℕ) (x : Channel) → slice_get cs i ≡ Some a → channel_of d a ≡ Some x → x.internal ≡ true → SentAt d held s a x (word_of c1) (f1 i x.length)
-        sends i a1 x here is inner = by (same_or_other i n)
+        sends i a1 x here is inner = sends_at (same_or_other i n)
           where
-            by : (i ≡ n) ⊎ (i ≢ n) → SentAt d held s a1 x (word_of c1) (f1 i x.length)
-            by (inl e) =
+            sends_at : (i ≡ n) ⊎ (i ≢ n) → SentAt d held s a1 x (word_of c1) (f1 i x.length)
+            sends_at (inl e) =
                 let same = same_channel i a1 x e here is in
                 subst (λ z. SentAt d held s z x (word_of c1) (f1 i x.length)) (sym same.0) (subst (λ z. SentAt d held s b z (word_of c1) (f1 i z.length)) (sym same.1) (subst (λ z. SentAt d held s b k (word_of c1) (f1 z k.length)) (sym e) sent))
-            by (inr ne) =
+            sends_at (inr ne) =
                 subst (λ q. SentAt d held s a1 x (word_of c1) q) (others i x.length a1 here ne)
                 (sent_kept (trio.own_of (trio_of (placed_of d b) Sent)) c c1 differs a1 x (f i x.length) (trio_apart internal a1 x is inner (apart_at i a1 here ne)) (a.sends i a1 x here is inner))
 
@@ -135,21 +133,21 @@ module _ (d : SpiTable) (fits : FitsSpi d) (u : ℕ) (few : u < 2) (number : ℕ
         (λ i is. other_number i (held_word (placed_of d b)) (is.2 b k (get_contained cs n b at) known).1) sends holds
       where
         sends : (i a : ℕ) (x : Channel) → slice_get cs i ≡ Some a → channel_of d a ≡ Some x → x.internal ≡ true → SentAt d held s a x (word_of c1) (f1 i x.length)
-        sends i a1 x here is inner = by (same_or_other i n)
+        sends i a1 x here is inner = sends_at (same_or_other i n)
           where
-            by : (i ≡ n) ⊎ (i ≢ n) → SentAt d held s a1 x (word_of c1) (f1 i x.length)
-            by (inl e) = absurd (let same = same_channel i a1 x e here is in let f = sym external ∙ sym (ap (λ z. z.internal) same.1) ∙ inner in cc)
-            by (inr ne) =
+            sends_at : (i ≡ n) ⊎ (i ≢ n) → SentAt d held s a1 x (word_of c1) (f1 i x.length)
+            sends_at (inl e) = absurd (let same = same_channel i a1 x e here is in let f = sym external ∙ sym (ap (λ z. z.internal) same.1) ∙ inner in cc)
+            sends_at (inr ne) =
                 subst (λ q. SentAt d held s a1 x (word_of c1) q) (others i x.length ne)
                 (sent_kept (λ i. i == held_word (placed_of d b)) c c1 differs a1 x (f i x.length) (λ j mine. other_number j (held_word (placed_of d b)) (λ e. of_one d fits a1 b x k j (held_word (placed_of d b)) (apart_at i a1 here ne) is known (of_banks d fits a1 x is inner Sent j mine) (of_held d fits b k known) e)) (a.sends i a1 x here is inner))
 
         holds : (i a : ℕ) (x : Channel) → slice_get cs i ≡ Some a → channel_of d a ≡ Some x → x.internal ≡ false → g1 i ≡ true → word_of c1 (held_word (placed_of d a)) ≡ packed (as_read (set_up_or x (channel_at s a).set_up))
-        holds i a1 x here is outer now = by (same_or_other i n)
+        holds i a1 x here is outer now = holds_at (same_or_other i n)
           where
-            by : (i ≡ n) ⊎ (i ≢ n) → word_of c1 (held_word (placed_of d a1)) ≡ packed (as_read (set_up_or x (channel_at s a1).set_up))
-            by (inl e) =
+            holds_at : (i ≡ n) ⊎ (i ≢ n) → word_of c1 (held_word (placed_of d a1)) ≡ packed (as_read (set_up_or x (channel_at s a1).set_up))
+            holds_at (inl e) =
                 let same = same_channel i a1 x e here is in
                 subst (λ z. word_of c1 (held_word (placed_of d z)) ≡ packed (as_read (set_up_or x (channel_at s z).set_up))) (sym same.0) (subst (λ z. word_of c1 (held_word (placed_of d b)) ≡ packed (as_read (set_up_or z (channel_at s b).set_up))) (sym same.1) holding)
-            by (inr ne) =
+            holds_at (inr ne) =
                 differs.others (held_word (placed_of d a1)) (other_number (held_word (placed_of d a1)) (held_word (placed_of d b)) (λ e. of_one d fits a1 b x k (held_word (placed_of d a1)) (held_word (placed_of d b)) (apart_at i a1 here ne) is known (of_held d fits a1 x is) (of_held d fits b k known) e))
                 ∙ a.holds i a1 x here is outer (ready i a1 here ne now)

@@ -8,12 +8,11 @@ use Terms.{carried_at, CarriesAgrees, cases, Channel, channel_of, Chip, Contains
 use Terms.{entries_of, false, from_order, Going, has_bit, has_mark, holds-agree, holds_back, holds_debt, inl, inr}
 use Terms.{is_for, is_number, is_of, is_off, is_owed, is_running, item, item_for, Job, job_of, job_small, job_word}
 use Terms.{length, length-set, marked_other, marked_same, MARKS, Memory, next_job, NEXTS, None, none_in, none_stored}
-use Terms.{not_order, not_true, one_unit, Option, order_word, other_number, Pending, place_of, placed_of}
+use Terms.{not_order, not_true, one_unit, Option, order_stays, order_word, other_number, Pending, place_of, placed_of}
 use Terms.{position_word, refl, Reservations, run_at, run_carried, RunAgrees, running_word, same_number}
 use Terms.{same_or_other, sends_as, sequence_word, sequences_after, SequencesAgree, SerialData, set_up_word}
 use Terms.{slice_index, Some, Source, SpiRepresents, SpiState, stands-move, stands_owed, started_bit, starts, STATE}
-use Terms.{stored, stored-other, stored-same, subst, sym, to_order, true, unit_at, UnitAgrees, view, waiting, word_of}
-use Terms.{Write, ℕ}
+use Terms.{stored, stored-other, stored-same, subst, sym, true, unit_at, UnitAgrees, view, waiting, word_of, Write, ℕ}
 use Rattle.spi_starting.specs.laws.bookkeeping.UnitsGoOn.{going_else, going_here, going_now, half_view, job_apart}
 use Rattle.spi_starting.specs.laws.bookkeeping.UnitsGoOn.{nexts_now, one_entry, ran_sound, rests, runs_else, runs_now}
 use Rattle.spi_starting.specs.laws.bookkeeping.UnitsGoOn.{starts_keep}
@@ -87,24 +86,21 @@ module _ (st : ToStart) (word received : ℕ) (c : Chip)
   was = (h.words.on on).sequences
 
   orders : (n : ℕ) → n < 2 → ranked.Holds (record { at = order_word n }) middle (entries_of d (half_view st word received) n)
-  orders n lt = by (same_or_other n u)
+  orders n lt = order_holds (same_or_other n u)
     where
-      not_marks : (j : ℕ) → ranked.own_of (record { at = order_word n }) j ≡ true → j ≢ MARKS
-      not_marks j own e = let low = from_order n j own in omega (arith, low, e)
-
       chosen : entries_of d (half_view st word received) u ≡ waiting q false (entries_of d (view s) u)
       chosen = order_chosen d fits (view s) h.sound p there (one_entry st word received) (job_apart st word received) (is_running after) (view after).idle (rests st) (runs_now st word received) (runs_else st word received) u
 
       kept : n ≢ u → entries_of d (half_view st word received) n ≡ entries_of d (view s) n
       kept ne = order_kept d fits (view s) h.sound p there (one_entry st word received) (job_apart st word received) (is_running after) (view after).idle (rests st) (runs_now st word received) (runs_else st word received) n (not_true (is_for d n p) (λ e. ne (one_unit d n u (next_job d p) e for)))
 
-      by : (n ≡ u) ⊎ (n ≢ u) → ranked.Holds (record { at = order_word n }) middle (entries_of d (half_view st word received) n)
-      by (inl e) =
+      order_holds : (n ≡ u) ⊎ (n ≢ u) → ranked.Holds (record { at = order_word n }) middle (entries_of d (half_view st word received) n)
+      order_holds (inl e) =
           subst (λ k. ranked.Holds (record { at = order_word k }) middle (entries_of d (half_view st word received) k)) (sym e)
           (subst (λ xs. ranked.Holds (record { at = order_word u }) middle xs) (sym chosen) (holds-agree (record { at = order_word u }) (word_of c) middle _ (λ j own. sym (middle_other j (λ f. let low = from_order u j own in omega (arith, low, f)))) r.along.order))
-      by (inr ne) =
+      order_holds (inr ne) =
           subst (λ xs. ranked.Holds (record { at = order_word n }) middle xs) (sym (kept ne))
-          (holds-agree (record { at = order_word n }) (word_of chip) middle (entries_of d (view s) n) (λ j own. let low = from_order n j own in let high = to_order n j own in sym (middle_other j (not_marks j own) ∙ unit_words begins (word_of c) quiet n lt ne j (omega (arith, low)) (omega (arith, high)))) (was.orders n lt))
+          (order_stays (word_of chip) middle (entries_of d (view s) n) n (λ j low high. middle_other j (λ f. omega (arith, low, f)) ∙ unit_words begins (word_of c) quiet n lt ne j (omega (arith, low)) (omega (arith, high))) (was.orders n lt))
 
   half_words : SequencesAgree d middle (half_view st word received)
   half_words = run_words d fits (view s) h.sound p there (one_entry st word received) (job_apart st word received) (is_running after) (view after).idle (rests st) (runs_now st word received) (runs_else st word received)
@@ -116,7 +112,7 @@ module _ (st : ToStart) (word received : ℕ) (c : Chip)
       orders
 
   marks : (x : Pending) → Contains s.pending x → (has_mark (word_of c MARKS) (started_bit x.sequence) ≡ (item q starts x).started) × (has_mark (word_of c MARKS) (cancelled_bit x.sequence) ≡ (item q starts x).cancelled)
-  marks x also = by (is_of q x) refl
+  marks x also = marks_agree (is_of q x) refl
     where
       small : q < 8
       small = (h.sound.entries p (all_pending (view s) p there)).number
@@ -127,9 +123,9 @@ module _ (st : ToStart) (word received : ℕ) (c : Chip)
       cancelled : has_mark (word_of c MARKS) (cancelled_bit x.sequence) ≡ x.cancelled
       cancelled = ap (λ n. has_mark n (cancelled_bit x.sequence)) r.along.marks ∙ marked_other (word_of chip MARKS) (q % 8) (8 + x.sequence % 8) (λ e. omega (arith, e, small)) ∙ (was.pending x also).cancelled
 
-      by : (b : Bool) → is_of q x ≡ b → (has_mark (word_of c MARKS) (started_bit x.sequence) ≡ (if b then starts x else x).started) × (has_mark (word_of c MARKS) (cancelled_bit x.sequence) ≡ (if b then starts x else x).cancelled)
-      by true e = (ap (λ n. has_mark (word_of c MARKS) (started_bit n)) (is_number x.sequence q e) ∙ ap (λ n. has_mark n (started_bit q)) r.along.marks ∙ marked_same (word_of chip MARKS) (q % 8), cancelled)
-      by false e = (
+      marks_agree : (b : Bool) → is_of q x ≡ b → (has_mark (word_of c MARKS) (started_bit x.sequence) ≡ (if b then starts x else x).started) × (has_mark (word_of c MARKS) (cancelled_bit x.sequence) ≡ (if b then starts x else x).cancelled)
+      marks_agree true e = (ap (λ n. has_mark (word_of c MARKS) (started_bit n)) (is_number x.sequence q e) ∙ ap (λ n. has_mark n (started_bit q)) r.along.marks ∙ marked_same (word_of chip MARKS) (q % 8), cancelled)
+      marks_agree false e = (
         ap (λ n. has_mark n (started_bit x.sequence)) r.along.marks ∙ marked_other (word_of chip MARKS) (q % 8) (x.sequence % 8) (λ f. let g = sym e ∙ ap (λ n. n == q) (let same : x.sequence ≡ q = omega (arith, f, small, number) in same) ∙ same_number q in cc) ∙ (was.pending x also).started,
         cancelled,
       )

@@ -1,17 +1,23 @@
 -- Words change while the machine's state and all registers stay: what is held stays right, and so does the whole agreement.
--- From adc_groups: hardware.StableUnderHardware, adc_groups: words.DisjointWords, adc_groups: words.Cases and 3 more.
--- Used by services.CopyRight, words.ControlWord, services.ClaimRight, services.TellRight, adc_driver: words.KeptWords.
+-- From words.DisjointWords, words.StructureParts, words.WordsOfModule, hardware.StableUnderHardware, words.Cases.
+-- Used by adc_serving: services.CopyRight, words.ControlWord, services.ClaimRight, services.TellRight and 2 more.
 use Rattle.std.proofs.Common.{◌≡◌, ◌≢◌, ◌+◌, ◌-◌, ◌*◌, ◌/◌, ◌%◌, ◌<◌, ◌≤◌, ◌&&◌, ◌||◌, ◌==◌, [], ◌∷◌, ◌∙◌}
-use Rattle.adc_serving.specs.Terms
-use Terms.{AdcState, AdcTable, Agrees, AllRight, ap, arith, Backed, Bank, bank_word, BanksAgree, Bool, Call, cases}
-use Terms.{cases_lt, Chip, chip_after, claim_right, Clears, Converters, Copies, end_of, eq_is, eq_other, false, Fills}
-use Terms.{FitsAdc, Full, Group, group_of, group_word, GroupAgrees, has_bit, HasWords, HeldRight, holds-agree, inl}
-use Terms.{inputs_of, inr, is_on, is_some, IsBlock, Keeps, KeepsRight, kept_within, kept_word, length, length-set}
-use Terms.{listed_agree, nat_le, nat_lt, nat_tests, on_there, Option, order_of, order_own, own_of, place_apart}
-use Terms.{PlacesAgree, Promised, Reads, refl, Reservation, Reservations, ReservedBy, result_word, ResultBuffer}
-use Terms.{Round, round_at, RoundAgrees, rounds_of, same_or_other, slice_get, Some, stands_words, start_from}
-use Terms.{start_of, STATE, Store, stored_other, subst, sym, TriggersAgree, trio_apart, trio_of, true, unit_of}
-use Terms.{UnitAgrees, value_within, values_of, Whole, WholeRight, word_number, word_of, World, ℕ}
+use Rattle.adc_groups.specs.Terms
+use Terms.{AdcState, AdcTable, Agrees, AllRight, ap, arith, Backed, Bank, bank_number, bank_word, BanksAgree, Bool}
+use Terms.{Call, cases, cases_lt, Chip, chip_after, claim_right, claims_on, Clears, Converters, Copies, end_of, eq_is}
+use Terms.{eq_other, eq_self, false, Fills, FitsAdc, Full, Group, group_of, group_word, GroupAgrees, has_bit}
+use Terms.{HasWords, HeldRight, holds-agree, inl, inputs_of, inr, is_on, is_some, IsBlock, Keeps, KeepsRight, kept_in}
+use Terms.{kept_word, length, length-set, nat_le, nat_lt, nat_tests, Option, or_parts, order_of, own-control}
+use Terms.{own-word, own_of, PlacesAgree, Promised, Reads, refl, Reservation, Reservations, ReservedBy, result_word}
+use Terms.{ResultBuffer, Round, round_at, RoundAgrees, rounds_of, same_or_other, slice_get, Some, some_hold, start_of}
+use Terms.{STATE, Store, stored_other, stored_same, subst, sym, TriggersAgree, trio_of, true, unit_of, UnitAgrees}
+use Terms.{values_of, Whole, WholeRight, word_number, word_of, World, ℕ}
+use Rattle.adc_groups.specs.laws.words.DisjointWords.{place_apart, start_from, trio_apart}
+use Rattle.adc_groups.specs.laws.words.OrderBetweenWrites.{order_within}
+use Rattle.adc_groups.specs.laws.words.StructureParts.{stands_words, word_there}
+use Rattle.adc_groups.specs.laws.words.WordsOfModule.{bank_below, claim_words, on_there}
+use Rattle.adc_groups.specs.laws.hardware.StableUnderHardware.{kept_within, listed_agree, value_within}
+use Rattle.word_shapes.specs.PriorityQueue.{own_of as order_own}
 use Rattle.chip_converter.specs.Converters as chips
 use Rattle.chip_converter.specs.Rounds as rounds
 use Rattle.adc_machine.specs.declared.call.ResultBuffer.TheVariants as buffers
@@ -23,12 +29,16 @@ use Rattle.adc_groups.specs.declared.words.Word.TheVariants as words
 abbrev pub BankStays : AdcTable → (a b : Chip) → (group : ℕ) → Bank → Type 0
 BankStays d a b g n = (j : ℕ) → j < length (inputs_of (group_of d g)) → word_of b (bank_word (rounds_of d g) n j) ≡ word_of a (bank_word (rounds_of d g) n j)
 
+-- and so do the values that a group has kept
+abbrev pub KeptStays : AdcTable → (a b : Chip) → (group : ℕ) → Type 0
+KeptStays d a b g = (j : ℕ) → j < length (inputs_of (group_of d g)) → word_of b (kept_word (rounds_of d g) j) ≡ word_of a (kept_word (rounds_of d g) j)
+
 -- the words that a hold rests on stay, but for those that stay in any case
 abbrev pub HoldStays : AdcTable → (a b : Chip) → Reservation → Type 0
 HoldStays d a b (Fills u g e n i x) = BankStays d a b g n
 HoldStays d a b (Full u g n) = BankStays d a b g n
-HoldStays d a b (Keeps u g e n i x) = (word_of b (word_number d (words.Claim u)) ≡ 2 + g → word_of a (word_number d (words.Claim u)) ≡ 2 + g) × (word_of a (word_number d (words.Claim u)) ≡ 2 + g → word_of b (word_number d (words.Claim u)) ≡ 2 + g)
-HoldStays d a b (Whole u g n) = word_of b (word_number d (words.Claim u)) ≡ 2 + g → word_of a (word_number d (words.Claim u)) ≡ 2 + g
+HoldStays d a b (Keeps u g e n i x) = (word_of b (word_number d (words.Claim u)) ≡ 2 + g → word_of a (word_number d (words.Claim u)) ≡ 2 + g) × (word_of a (word_number d (words.Claim u)) ≡ 2 + g → word_of b (word_number d (words.Claim u)) ≡ 2 + g) × KeptStays d a b g
+HoldStays d a b (Whole u g n) = (word_of b (word_number d (words.Claim u)) ≡ 2 + g → word_of a (word_number d (words.Claim u)) ≡ 2 + g) × KeptStays d a b g
 HoldStays d a b (Copies n c i x) = (word_of b (trio_of (rounds_of d c.group)).control % 4 ≡ word_of a (trio_of (rounds_of d c.group)).control % 4) × BankStays d a b c.group n
 HoldStays d a b (Reads g n vs) = (word_of b (trio_of (rounds_of d g)).control / 4 ≡ word_of a (trio_of (rounds_of d g)).control / 4) × BankStays d a b g n
 HoldStays d a b z = Unit {0}
@@ -37,17 +47,16 @@ abbrev pub AllStay : AdcTable → (a b : Chip) → Reservations → Type 0
 AllStay d a b [] = Unit {0}
 AllStay d a b (h ∷ hs) = HoldStays d a b h.what × AllStay d a b hs
 
--- All registers stay, and so do all words but those of banks, control words, claims and places of buffers.
+-- All registers stay, and so do all words but those of banks, control words, claims, kept values and places of buffers.
 pub record CoreStays (d : AdcTable) (a b : Chip) : Type 0 where
   pub rest : b ≡ record a { words = b.words }
   pub whole : HasWords b
   pub first : word_of b STATE ≡ word_of a STATE
   pub low : (k j : ℕ) → is_some (group_of d k) ≡ true → j < 7 → word_of b (group_word d k j) ≡ word_of a (group_word d k j)
-  pub kept : (k j : ℕ) → is_some (group_of d k) ≡ true → j < length (inputs_of (group_of d k)) → word_of b (kept_word (rounds_of d k) j) ≡ word_of a (kept_word (rounds_of d k) j)
   pub running : (u : ℕ) → u < 2 → word_of b (word_number d (words.Running u)) ≡ word_of a (word_number d (words.Running u))
   pub order : (u k : ℕ) → u < 2 → order_own (order_of u) k ≡ true → word_of b k ≡ word_of a k
 
--- what is new: what is held, the banks, places and claims
+-- what is new: what is held, the banks, places, claims and kept values
 pub record Anew (d : AdcTable) (after : Reservations) (a b : Chip) (w : World) (s : AdcState) : Type 0 where
   pub right : AllRight d b w s after
   pub banks : (g : ℕ) → is_some (group_of d g) ≡ true → BanksAgree d after (word_of b) s g
@@ -56,6 +65,7 @@ pub record Anew (d : AdcTable) (after : Reservations) (a b : Chip) (w : World) (
   pub claimed : (k : ℕ) → is_some (group_of d k) ≡ true → word_of b (word_number d (words.Claim (unit_of (group_of d k)))) ≢ 2 + k → word_of a (word_number d (words.Claim (unit_of (group_of d k)))) ≢ 2 + k
   pub claims : (u : ℕ) → u < 2 → claim_right after u (word_of b (word_number d (words.Claim u))) ≡ true
   pub promised : (u : ℕ) → Promised d after w s u
+  pub kept : (k : ℕ) → is_some (group_of d k) ≡ true → word_of a (word_number d (words.Claim (unit_of (group_of d k)))) ≢ 2 + k → (j v : ℕ) → slice_get (kept_in d s k) j ≡ Some v → word_of b (kept_word (rounds_of d k) j) ≡ word_of a (kept_word (rounds_of d k) j)
 
 module _ (d : AdcTable) (fits : FitsAdc d) (before : Reservations) (a b : Chip) (w : World) (s : AdcState) (h : Agrees d before a w s) (on : s.initialised ≡ true) (c : CoreStays d a b) where
   block : b.converters ≡ a.converters
@@ -66,26 +76,26 @@ module _ (d : AdcTable) (fits : FitsAdc d) (before : Reservations) (a b : Chip) 
   few_values : (u : ℕ) (r : Round) (k : ℕ) → round_at s u ≡ Some r → r.group ≡ k → (j n : ℕ) → slice_get (values_of w (group_of d k) r) j ≡ Some n → j < length (inputs_of (group_of d k))
   few_values u r k e same j n is = value_within w (group_of d k) r j n (subst (λ z. length r.request.kept < length (inputs_of (group_of d z))) same (h.sound.runs u r e).4.2) is
 
-  keeps_stays : (u k e : ℕ) (n : Option ℕ) (i : ℕ) (x : Option ℕ) → is_on u (group_of d k) ≡ true → KeepsRight d a s u k e n i x → KeepsRight d b s u k e n i x
-  keeps_stays u k e n i x on q = record {
+  keeps_stays : (u k e : ℕ) (n : Option ℕ) (i : ℕ) (x : Option ℕ) → is_on u (group_of d k) ≡ true → KeptStays d a b k → KeepsRight d a s u k e n i x → KeepsRight d b s u k e n i x
+  keeps_stays u k e n i x on kept q = record {
     waits = q.waits;
     count = q.count ∙ ap (λ (z : Converters). e + rounds.ended (chips.unit_at z u).round z.time) (sym block);
     told = λ m f. q.told m f ∙ ap (λ (z : Converters). rounds.ended (chips.unit_at z u).round z.time) (sym block);
     word = c.low k 6 (on_there u (group_of d k) on) (omega arith) ∙ q.word;
-    kept = λ j v less is. c.kept k j (on_there u (group_of d k) on) (kept_within d w s h.sound k j v is) ∙ q.kept j v less is;
+    kept = λ j v less is. kept j (kept_within d w s h.sound k j v is) ∙ q.kept j v less is;
     results = λ j v is. ap (λ (z : Converters). chips.result z.levels z.time (chips.unit_at z u) j) block ∙ q.results j v is;
     next = q.next;
   }
 
-  whole_stays : (u k n : ℕ) → is_on u (group_of d k) ≡ true → WholeRight d a s u k n → WholeRight d b s u k n
-  whole_stays u k n on q = record { waits = q.waits; count = q.count; kept = λ j v is. c.kept k j (on_there u (group_of d k) on) (kept_within d w s h.sound k j v is) ∙ q.kept j v is }
+  whole_stays : (u k n : ℕ) → KeptStays d a b k → WholeRight d a s u k n → WholeRight d b s u k n
+  whole_stays u k n kept q = record { waits = q.waits; count = q.count; kept = λ j v is. kept j (kept_within d w s h.sound k j v is) ∙ q.kept j v is }
 
   pub held_stays : (x : ReservedBy Call Reservation) (z : Reservation) → HoldStays d a b z → HeldRight d a w s x z → HeldRight d b w s x z
   held_stays x (Clears n) stays r = absurd (let none = r.1 in let some = on in cc)
   held_stays x (Fills u k e n i y) stays r = (r.0, r.1, r.2, (let q = r.3 in record { same = q.same; filled = λ z m v o less is. stays m (few_values u z k o (q.same z o).0 m v is) ∙ q.filled z m v o less is; next = q.next }))
   held_stays x (Full u k n) stays r = (r.0, r.1, r.2, (let q = r.3 in record { same = q.same; filled = λ z m v o is. stays m (few_values u z k o (q.same z o).0 m v is) ∙ q.filled z m v o is }))
-  held_stays x (Keeps u k e n i y) stays r = (r.0, r.1, r.2, λ f. keeps_stays u k e n i y r.1 (r.3 (stays.0 f)), λ f. r.4 (λ q. f (stays.1 q)))
-  held_stays x (Whole u k n) stays r = (r.0, r.1, r.2, λ f. whole_stays u k n r.1 (r.3 (stays f)))
+  held_stays x (Keeps u k e n i y) stays r = (r.0, r.1, r.2, λ f. keeps_stays u k e n i y r.1 stays.2 (r.3 (stays.0 f)), λ f. r.4 (λ q. f (stays.1 q)))
+  held_stays x (Whole u k n) stays r = (r.0, r.1, r.2, λ f. whole_stays u k n stays.1 (r.3 (stays.0 f)))
   held_stays x (Copies n k i y) stays r = (r.0, r.1, r.2, (let q = r.3 in record { newest = stays.0 ∙ q.newest; values = λ m less le. stays.1 m less ∙ q.values m less le; next = q.next }))
   held_stays x (Reads k n vs) stays r = (
     r.0,
@@ -110,8 +120,9 @@ module _ (d : AdcTable) (fits : FitsAdc d) (before : Reservations) (a b : Chip) 
 
   -- ---- words of groups and units
 
-  group_stays : (k : ℕ) → is_some (group_of d k) ≡ true → (word_of b (word_number d (words.Claim (unit_of (group_of d k)))) ≢ 2 + k → word_of a (word_number d (words.Claim (unit_of (group_of d k)))) ≢ 2 + k) → GroupAgrees d (word_of b) s k
-  group_stays k there claimed =
+  group_stays : (k : ℕ) → is_some (group_of d k) ≡ true → (word_of b (word_number d (words.Claim (unit_of (group_of d k)))) ≢ 2 + k → word_of a (word_number d (words.Claim (unit_of (group_of d k)))) ≢ 2 + k)
+      → (word_of a (word_number d (words.Claim (unit_of (group_of d k)))) ≢ 2 + k → (j v : ℕ) → slice_get (kept_in d s k) j ≡ Some v → word_of b (kept_word (rounds_of d k) j) ≡ word_of a (kept_word (rounds_of d k) j)) → GroupAgrees d (word_of b) s k
+  group_stays k there claimed kept =
       let q = (h.settled on).groups k there in record {
         phase = c.low k 0 there (omega arith) ∙ q.phase;
         chosen = c.low k 1 there (omega arith) ∙ q.chosen;
@@ -120,7 +131,7 @@ module _ (d : AdcTable) (fits : FitsAdc d) (before : Reservations) (a b : Chip) 
         count = λ e. c.low k 4 there (omega arith) ∙ q.count e;
         place = λ e. c.low k 5 there (omega arith) ∙ q.place e;
         kept = λ e f. c.low k 6 there (omega arith) ∙ q.kept e (claimed f);
-        values = λ e f j v is. c.kept k j there (kept_within d w s h.sound k j v is) ∙ q.values e (claimed f) j v is;
+        values = λ e f j v is. kept (claimed f) j v is ∙ q.values e (claimed f) j v is;
       }
 
   unit_stays : (u : ℕ) → u < 2 → UnitAgrees d (word_of b) s u
@@ -145,7 +156,7 @@ module _ (d : AdcTable) (fits : FitsAdc d) (before : Reservations) (a b : Chip) 
     backed = n.backed;
     left = λ off. absurd (let q = on in cc);
     settled = λ e. record {
-      groups = λ k there. group_stays k there (n.claimed k there);
+      groups = λ k there. group_stays k there (n.claimed k there) (n.kept k there);
       units = unit_stays;
       claims = n.claims;
       lines = λ l i. ap (λ (x : Chip). has_bit x.control.enabled l) c.rest ∙ (h.settled on).lines l i;
@@ -175,18 +186,15 @@ module _ (d : AdcTable) (fits : FitsAdc d) where
 
   -- a word of a group's banks, or its control word, is one of the group's
   pub trio_place : (g k : ℕ) → own_of (trio_of (rounds_of d g)) k ≡ true → (j : ℕ) × (k ≡ group_word d g j) × (7 ≤ j) × (j < 32 + 3 * length (inputs_of (group_of d g)))
-  trio_place g k own = by (k == (trio_of (rounds_of d g)).control) refl
+  trio_place g k own = control_or_buffer (k == (trio_of (rounds_of d g)).control) refl
     where
-      by : (q : Bool) → (k == (trio_of (rounds_of d g)).control) ≡ q → (j : ℕ) × (k ≡ group_word d g j) × (7 ≤ j) × (j < 32 + 3 * length (inputs_of (group_of d g)))
-      by true e = (7, (let at = eq_is k (trio_of (rounds_of d g)).control e in omega (arith, at)), omega arith, omega arith)
-      by false e =
+      control_or_buffer : (q : Bool) → (k == (trio_of (rounds_of d g)).control) ≡ q → (j : ℕ) × (k ≡ group_word d g j) × (7 ≤ j) × (j < 32 + 3 * length (inputs_of (group_of d g)))
+      control_or_buffer true e = (7, (let at = eq_is k (trio_of (rounds_of d g)).control e in omega (arith, at)), omega arith, omega arith)
+      control_or_buffer false e =
           let both = is_control k (trio_of (rounds_of d g)).control (trio_of (rounds_of d g)).banks (3 * length (inputs_of (group_of d g))) e own in
           let low = both.0 in
           let high = both.1 in
           (k - (STATE + start_of (group_of d g)), omega (arith, low), omega (arith, low), omega (arith, low, high))
-
-  order_within : (u k : ℕ) → order_own (order_of u) k ≡ true → (STATE + 10 + 8 * u ≤ k) × (k ≤ STATE + 12 + 8 * u)
-  order_within u k own = (grind (arith, nat_tests), grind (arith, nat_tests))
 
   -- where the word that is stored is one of a group's behind the first seven, but none of its kept values
   module _ (a : Chip) (v : ℕ) (whole : HasWords a) where
@@ -220,10 +228,12 @@ module _ (d : AdcTable) (fits : FitsAdc d) where
         whole = whole_later at;
         first = stored_other a at v 0 STATE (λ e. (let i = is in let l = low in omega (arith, e, i, l)));
         low = λ k j there less. stored_other a at v 0 (group_word d k j) (λ e. trio_apart d fits k g j at there here less own (sym e));
-        kept = λ k j there less. stored_other a at v 0 (kept_word (rounds_of d k) j) (kept_apart k j there less);
         running = λ u few. stored_other a at v 0 (word_number d (words.Running u)) (λ e. (let i = is in let l = low in omega (arith, e, i, l, few)));
-        order = λ u k few mine. stored_other a at v 0 k (λ e. (let i = is in let l = low in let both = order_within u k mine in let high = both.1 in omega (arith, e, i, l, few, high)));
+        order = λ u k few mine. stored_other a at v 0 k (λ e. (let i = is in let l = low in let both = order_within k (STATE + 10 + 8 * u) mine in let high = both.1 in omega (arith, e, i, l, few, high)));
       }
+
+      pub kept_trio : (k : ℕ) → is_some (group_of d k) ≡ true → KeptStays d a (later at) k
+      kept_trio k there j less = stored_other a at v 0 (kept_word (rounds_of d k) j) (kept_apart k j there less)
 
       -- words of other groups' banks, claims and places stay
       pub trio_other : (k j : ℕ) → is_some (group_of d k) ≡ true → k ≢ g → own_of (trio_of (rounds_of d k)) j ≡ true → word_of (later at) j ≡ word_of a j
@@ -249,22 +259,78 @@ module _ (d : AdcTable) (fits : FitsAdc d) where
       whole = whole_later (word_number d (words.Claim u));
       first = stored_other a (word_number d (words.Claim u)) v 0 STATE (λ e. omega (arith, e));
       low = λ k j there less. stored_other a (word_number d (words.Claim u)) v 0 (group_word d k j) (λ e. (let l = (start_from d fits k there).0 in omega (arith, e, l, lt)));
-      kept = λ k j there less. stored_other a (word_number d (words.Claim u)) v 0 (kept_word (rounds_of d k) j) (λ e. (let l = (start_from d fits k there).0 in omega (arith, e, l, lt)));
       running = λ n few. stored_other a (word_number d (words.Claim u)) v 0 (word_number d (words.Running n)) (λ e. omega (arith, e));
-      order = λ n k few mine. stored_other a (word_number d (words.Claim u)) v 0 k (λ e. (let both = order_within n k mine in let low = both.0 in let high = both.1 in omega (arith, e, low, high)));
+      order = λ n k few mine. stored_other a (word_number d (words.Claim u)) v 0 k (λ e. (let both = order_within k (STATE + 10 + 8 * n) mine in let low = both.0 in let high = both.1 in omega (arith, e, low, high)));
     }
+
+    past : (g : ℕ) (n : ResultBuffer) (p j : ℕ) → STATE + j ≡ result_word g n p → j < 8192 → ⊥
+    past g buffers.Zero p j e lt = omega (arith, e, lt)
+    past g buffers.One p j e lt = omega (arith, e, lt)
+
+    pub kept_place : (g : ℕ) (n : ResultBuffer) (p k : ℕ) → is_some (group_of d k) ≡ true → KeptStays d a (later (result_word g n p)) k
+    kept_place g n p k there j less = stored_other a (result_word g n p) v 0 (kept_word (rounds_of d k) j) (λ e. (let high = (start_from d fits k there).1 in past g n p (start_of (group_of d k) + (32 + 3 * length (inputs_of (group_of d k)) + j)) (omega (arith, e)) (omega (arith, high, less))))
 
     pub core_place : (g : ℕ) (n : ResultBuffer) (p : ℕ) → CoreStays d a (later (result_word g n p))
     core_place g n p = record {
       rest = refl;
       whole = whole_later (result_word g n p);
-      first = stored_other a (result_word g n p) v 0 STATE (λ e. past n 0 e (omega arith));
+      first = stored_other a (result_word g n p) v 0 STATE (λ e. past g n p 0 e (omega arith));
       low = λ k j there less. stored_other a (result_word g n p) v 0 (group_word d k j) (λ e. place_apart d fits k j g n p there (omega (arith, less)) (sym e));
-      kept = λ k j there less. stored_other a (result_word g n p) v 0 (kept_word (rounds_of d k) j) (λ e. (let high = (start_from d fits k there).1 in past n (start_of (group_of d k) + (32 + 3 * length (inputs_of (group_of d k)) + j)) (omega (arith, e)) (omega (arith, high, less))));
-      running = λ u few. stored_other a (result_word g n p) v 0 (word_number d (words.Running u)) (λ e. past n (8 + 8 * u) (omega (arith, e)) (omega (arith, few)));
-      order = λ u k few mine. stored_other a (result_word g n p) v 0 k (λ e. (let both = order_within u k mine in let low = both.0 in let high = both.1 in past n (k - STATE) (omega (arith, e, low)) (omega (arith, low, high, few))));
+      running = λ u few. stored_other a (result_word g n p) v 0 (word_number d (words.Running u)) (λ e. past g n p (8 + 8 * u) (omega (arith, e)) (omega (arith, few)));
+      order = λ u k few mine. stored_other a (result_word g n p) v 0 k (λ e. (let both = order_within k (STATE + 10 + 8 * u) mine in let low = both.0 in let high = both.1 in past g n p (k - STATE) (omega (arith, e, low)) (omega (arith, low, high, few))));
     }
-      where
-        past : (n : ResultBuffer) (j : ℕ) → STATE + j ≡ result_word g n p → j < 8192 → ⊥
-        past buffers.Zero j e lt = omega (arith, e, lt)
-        past buffers.One j e lt = omega (arith, e, lt)
+
+-- ---- a store of a claim's word
+
+module _ (d : AdcTable) (fits : FitsAdc d) (u : ℕ) (few : u < 2) (c : Chip) (whole : HasWords c) (v : ℕ) where
+  abbrev claimed : Chip
+  claimed = chip_after c (Store (word_number d (words.Claim u)) v) 0
+
+  pub claim_now : word_of (chip_after c (Store (word_number d (words.Claim u)) v) 0) (word_number d (words.Claim u)) ≡ v
+  claim_now = stored_same c (word_number d (words.Claim u)) v 0 (word_there d fits (word_number d (words.Claim u)) (claim_words d u few)) whole
+
+  pub claim_other : (n : ℕ) → n ≢ u → word_of (chip_after c (Store (word_number d (words.Claim u)) v) 0) (word_number d (words.Claim n)) ≡ word_of c (word_number d (words.Claim n))
+  claim_other n ne = stored_other c (word_number d (words.Claim u)) v 0 (word_number d (words.Claim n)) (λ e. omega (arith, e, ne))
+
+  pub trio_claimed : (g j : ℕ) → is_some (group_of d g) ≡ true → own_of (trio_of (rounds_of d g)) j ≡ true → word_of (chip_after c (Store (word_number d (words.Claim u)) v) 0) j ≡ word_of c j
+  trio_claimed g j there own = stored_other c (word_number d (words.Claim u)) v 0 j (λ e. (let place = trio_place d fits g j own in let is = place.1 in let low = (start_from d fits g there).0 in omega (arith, e, is, low, few)))
+
+  pub place_claimed : (g : ℕ) (n : ResultBuffer) (p : ℕ) → word_of (chip_after c (Store (word_number d (words.Claim u)) v) 0) (result_word g n p) ≡ word_of c (result_word g n p)
+  place_claimed g n p = stored_other c (word_number d (words.Claim u)) v 0 (result_word g n p) (far n)
+    where
+      far : (n : ResultBuffer) → result_word g n p ≢ word_number d (words.Claim u)
+      far buffers.Zero e = omega (arith, e, few)
+      far buffers.One e = omega (arith, e, few)
+
+  bank_claimed : (g : ℕ) (n : Bank) → is_some (group_of d g) ≡ true → BankStays d c claimed g n
+  bank_claimed g n there j less = trio_claimed g (bank_word (rounds_of d g) n j) there (own-word (trio_of (rounds_of d g)) (bank_number n) j (bank_below d fits n) less)
+
+  control_claimed : (g : ℕ) → is_some (group_of d g) ≡ true → word_of claimed (trio_of (rounds_of d g)).control ≡ word_of c (trio_of (rounds_of d g)).control
+  control_claimed g there = trio_claimed g (trio_of (rounds_of d g)).control there (own-control (trio_of (rounds_of d g)))
+
+  pub kept_claimed : (k : ℕ) → is_some (group_of d k) ≡ true → KeptStays d c (chip_after c (Store (word_number d (words.Claim u)) v) 0) k
+  kept_claimed k there j less = stored_other c (word_number d (words.Claim u)) v 0 (kept_word (rounds_of d k) j) (λ e. (let l = (start_from d fits k there).0 in omega (arith, e, l, few)))
+
+  -- what is held below stays right, where the claim keeps no values now
+  module _ (low : v < 2) where
+    kept_before : (n k : ℕ) → word_of claimed (word_number d (words.Claim n)) ≡ 2 + k → word_of c (word_number d (words.Claim n)) ≡ 2 + k
+    kept_before n k e = cases (same_or_other n u)
+        (λ same. absurd (let now : v ≡ 2 + k = sym claim_now ∙ subst (λ z. word_of claimed (word_number d (words.Claim z)) ≡ 2 + k) same e in omega (arith, now, low)))
+        (λ ne. sym (claim_other n ne) ∙ e)
+
+    -- and where no frame below claims the unit, other claims stay too
+    kept_after : (n k : ℕ) → (u == n) ≡ false → word_of c (word_number d (words.Claim n)) ≡ 2 + k → word_of claimed (word_number d (words.Claim n)) ≡ 2 + k
+    kept_after n k off e = claim_other n (λ same. absurd (let on : (u == n) ≡ true = ap (λ z. u == z) same ∙ eq_self u in cc)) ∙ e
+
+    one_stays : (w : World) (s : AdcState) (x : ReservedBy Call Reservation) (z : Reservation) → HeldRight d c w s x z → claims_on u z ≡ false → HoldStays d c claimed z
+    one_stays w s x (Fills n k e b i q) r free = bank_claimed k b (on_there n (group_of d k) r.2)
+    one_stays w s x (Full n k b) r free = bank_claimed k b (on_there n (group_of d k) r.2)
+    one_stays w s x (Keeps n k e b i q) r free = (kept_before n k, kept_after n k free, kept_claimed k (on_there n (group_of d k) r.1))
+    one_stays w s x (Whole n k b) r free = (kept_before n k, kept_claimed k (on_there n (group_of d k) r.1))
+    one_stays w s x (Copies n k i q) r free = (ap (λ z. z % 4) (control_claimed k.group r.2), bank_claimed k.group n r.2)
+    one_stays w s x (Reads k n vs) r free = (ap (λ z. z / 4) (control_claimed k r.2), bank_claimed k n r.2)
+    one_stays w s x _ r free = tt
+
+    pub claim_stays_below : (w : World) (s : AdcState) (hs : Reservations) → AllRight d c w s hs → some_hold (claims_on u) hs ≡ false → AllStay d c (chip_after c (Store (word_number d (words.Claim u)) v) 0) hs
+    claim_stays_below w s [] r free = tt
+    claim_stays_below w s (x ∷ xs) r free = let both = or_parts (claims_on u x.what) (some_hold (claims_on u) xs) free in (one_stays w s x x.what r.0 both.0, claim_stays_below w s xs r.1 both.1)
