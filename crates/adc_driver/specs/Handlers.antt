@@ -1,5 +1,5 @@
 -- What the handler of a line begins with.
-use Rattle.std.specs.Prelude.{ℕ, zero, suc, ◌+◌, ◌-◌, ◌==◌, Bool, true, false, if◌then◌else◌, Option, Some, None}
+use Rattle.std.specs.Prelude.{ℕ, zero, suc, ◌+◌, ◌-◌, Bool, true, false, if◌then◌else◌, Option, Some, None}
 use Rattle.service_outline.specs.declared.body.Or.TheVariants.{Second}
 use Rattle.adc_machine.specs.Machine.{is_trigger_line, is_unit_line}
 use Rattle.adc_machine.specs.Table.{group_of}

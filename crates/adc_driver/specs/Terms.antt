@@ -15,7 +15,7 @@ pub use Rattle.mcal_base.specs.facts.{Numbers.{eq_self, lt_from, lt_is, lt_isnt,
 pub use Rattle.mcal_base.specs.facts.{Options.{some_same}, Truths.{and_false, and_first, and_second}}
 pub use Rattle.mcal_base.proofs.BitLaws.{has_bit-or}
 pub use Rattle.mcal_base.specs.{Bits.{has_bit}, Layout.{is_within}, declared.TheConstants.{WORDS}}
-pub use Rattle.mcal_base.specs.{declared.answer.Answer.{Answer}, declared.answer_name.AnswerName.TheVariants.{ENotOk}}
+pub use Rattle.mcal_base.specs.declared.answer.Answer.{Answer}
 pub use Rattle.mcal_base.specs.{declared.answer_name.AnswerName.TheVariants.{EOk}}
 pub use Rattle.mcal_base.specs.{declared.config.adc.AdcConfig.{AdcConfig}, declared.config.adc.AdcGroup.{AdcGroup}}
 pub use Rattle.mcal_base.specs.{declared.config.adc.AdcHwUnit.{AdcHwUnit}}
@@ -24,9 +24,9 @@ pub use Rattle.mcal_base.specs.{declared.config.adc.AdcTriggerSource.TheVariants
 pub use Rattle.mcal_base.specs.{declared.directive.Order.{Order}, declared.directive.Order.TheVariants.{Level}}
 pub use Rattle.mcal_base.specs.{declared.error_name.ErrorName.{ErrorName}, declared.layout.TheConstants.{SOURCES}}
 pub use Rattle.mcal_base.specs.{declared.module_name.ModuleName.TheVariants.{Adc}, declared.moves.Event.{Event}}
-pub use Rattle.mcal_base.specs.{declared.moves.Event.TheVariants.{Abort, Act, Serve, Start}, declared.moves.Move.{Move}}
-pub use Rattle.mcal_base.specs.{declared.moves.Move.TheVariants.{Load, Mask, Note, Read, Report, Store, Unmask, Write}}
-pub use Rattle.mcal_base.specs.{declared.moves.Unit.TheVariants.{Adc0, Adc1, Spi0, Spi1}, declared.register.Reg.{Reg}}
+pub use Rattle.mcal_base.specs.declared.moves.{Event.TheVariants.{Act, Serve}, Move.{Move}}
+pub use Rattle.mcal_base.specs.declared.moves.Move.TheVariants.{Load, Read, Store, Write}
+pub use Rattle.mcal_base.specs.declared.{moves.Unit.TheVariants.{Spi0, Spi1}, register.Reg.{Reg}}
 pub use Rattle.mcal_base.specs.{declared.register.Reg.TheVariants.{CaptureCountHigh, CaptureTimeHigh, ConverterAbort}}
 pub use Rattle.mcal_base.specs.{declared.register.Reg.TheVariants.{ConverterAck, ConverterDone, ConverterGo}}
 pub use Rattle.mcal_base.specs.{declared.register.Reg.TheVariants.{ConverterList, ConverterResult, ConverterState}}
@@ -58,7 +58,7 @@ pub use Rattle.word_shapes.specs.{declared.choosing.Front.{Front}, declared.choo
 pub use Rattle.word_shapes.specs.{declared.put.Put.{Put}, declared.search.Search.{Search}, declared.take.Take.{Take}}
 pub use Rattle.service_outline.specs.{Acts.{Cleans, is_quiet, KeepsClean}, Both.{both}, DeferredWrites.{AreFree}}
 pub use Rattle.service_outline.specs.{DeferredWrites.{AreWindows, GoesFree, GoesOwing, is_fill, is_simple, or_owed}}
-pub use Rattle.run_model.specs.{Machine.{named, named_with}}
+pub use Rattle.run_model.specs.Machine.{named_with}
 pub use Rattle.service_outline.specs.{DeferredWrites.{spot_or, Under, Windows}, Done.{ends, goes}}
 pub use Rattle.run_model.specs.{Machine.{tells_error}}
 pub use Rattle.service_outline.specs.{FrameHistory.{FrameHistory, fresh_history, Is_this_frame}}
@@ -73,8 +73,8 @@ pub use Rattle.service_outline.specs.{Short.{short_move}, Sweep.{takes_at}, Swee
 pub use Rattle.service_outline.specs.{SweepServices.{Sweeping}, WindowHistory.{is_windowed, Plain}}
 pub use Rattle.service_outline.specs.{declared.body.Looked.{Looked}, declared.body.Or.TheVariants.{First, Second}}
 pub use Rattle.service_outline.specs.{declared.done.BodyTaken.{BodyTaken}, declared.done.Done.{Done}}
-pub use Rattle.service_outline.specs.{declared.done.Epilogue.{Epilogue}, declared.done.Epilogue.TheVariants.{Error}}
-pub use Rattle.service_outline.specs.{declared.done.Epilogue.TheVariants.{Nothing, Two}, declared.short.Short.{Short}}
+pub use Rattle.service_outline.specs.declared.done.Epilogue.{Epilogue}
+pub use Rattle.service_outline.specs.declared.{done.Epilogue.TheVariants.{Nothing}, short.Short.{Short}}
 pub use Rattle.service_outline.specs.{declared.sweep.Sweep.{Sweep}}
 pub use Rattle.service_outline.specs.laws.{Acts.{never_clean}, Both.{both_ending}, Duties.{no_duties}}
 pub use Rattle.service_outline.specs.laws.{Lawful.{services_lawful}, Owing.{not_filled, windows_right}}
@@ -118,19 +118,19 @@ pub use Rattle.adc_groups.specs.{PendingWrites.{rooms, shape_room}, Places.{acte
 pub use Rattle.adc_groups.specs.{Places.{banks_spot, Begins_stream, clean_at, Closes_module, Enables_trigger}}
 pub use Rattle.adc_groups.specs.{Places.{ends_claim, Has_acted, Has_served, has_served, HasDone, HasLooked, HasSeen}}
 pub use Rattle.adc_groups.specs.{Places.{HasSurveyed, hold_in, hold_then, InFlag, InWindow, IsAlone, IsCalling, IsCopy}}
-pub use Rattle.adc_groups.specs.{Places.{IsDealing, IsFirst, IsOnlyReader, IsOutranked, IsPinning, IsReading}}
+pub use Rattle.adc_groups.specs.Places.{IsDealing, IsFirst, IsOutranked, IsPinning, IsReading}
 pub use Rattle.adc_groups.specs.{Places.{IsReleasing, IsSeeking, IsServing, IsStart, IsStarting, IsTaken, Leaves_acted}}
 pub use Rattle.adc_groups.specs.{Places.{MayCall, MayClose, MayCopy, MayLeave, MayPin, MayPulse, MaySeek, MayServe}}
 pub use Rattle.adc_groups.specs.{Places.{MayStart, MayTurn, Notifies, of_driver, Orders, owes_at, owes_making}}
 pub use Rattle.adc_groups.specs.{Places.{place_out, place_then, Points, Prepares, Pulses, read_spot, round_words}}
 pub use Rattle.adc_groups.specs.{Places.{Sets_up, sought_unit, spot_at, spot_making, spot_start, steps_then, Stops}}
 pub use Rattle.adc_groups.specs.{Places.{Stops_turn}, Refinement.{adc_owns, AdcRepresents, Agrees, AllRight, bare}}
-pub use Rattle.adc_groups.specs.{Refinement.{buffer_in, chosen_of, claim_right, Claims, claims_on, Clears, Copies}}
+pub use Rattle.adc_groups.specs.Refinement.{buffer_in, chosen_of, claim_right, claims_on, Clears, Copies}
 pub use Rattle.adc_groups.specs.{Refinement.{end_of, Fills, FitsAdc, FitsGroup, foot_of, Footprint, Full, GroupAgrees}}
 pub use Rattle.adc_groups.specs.{Refinement.{has_lines, HeldRight, is_handler, IsCleared, IsOrder, IsSound}}
-pub use Rattle.adc_groups.specs.{Refinement.{IsSoundGroup, IsZero, KeepsRight, kept_in, owns_written, Promised}}
+pub use Rattle.adc_groups.specs.Refinement.{IsZero, KeepsRight, kept_in, owns_written, Promised}
 pub use Rattle.adc_groups.specs.{Refinement.{Reservation, Reservations, result_of, running_of, Settled, some_hold}}
-pub use Rattle.adc_groups.specs.{Refinement.{UnitAgrees, Whole, WholeRight, will_yield, Yields}, Stored.{group_in}}
+pub use Rattle.adc_groups.specs.{Refinement.{UnitAgrees, Whole, WholeRight, will_yield}, Stored.{group_in}}
 pub use Rattle.adc_groups.specs.{Stored.{group_word, is_under_way, order_of, phase_in, rounds_of, start_of}}
 pub use Rattle.adc_groups.specs.{Stored.{word_number}, declared.asked.Asked.{Asked}, declared.body.AdcBody.{AdcBody}}
 pub use Rattle.adc_groups.specs.{declared.body.Decided.{Decided}, declared.body.Decided.TheVariants.{Ends, Goes}}
@@ -150,16 +150,16 @@ pub use Rattle.adc_groups.specs.{declared.service.read.Stage.{Stage}, declared.s
 pub use Rattle.adc_groups.specs.{declared.service.stop.StopSeen.{StopSeen}, declared.window.Window.{Window}}
 pub use Rattle.adc_groups.specs.{declared.words.Phase.{Phase}, declared.words.TheConstants.{LINES, STATE}}
 pub use Rattle.adc_groups.specs.{declared.words.Word.{Word}, declared.words.Word.TheVariants.{Chosen, Notified, Turn}}
-pub use Rattle.adc_groups.specs.laws.bookkeeping.HeldAnew.{banks_stay, claim_tells, holds_anew}
+pub use Rattle.adc_groups.specs.laws.bookkeeping.FrameRule.{banks_stay, claim_tells, holds_anew}
 pub use Rattle.adc_groups.specs.laws.{bookkeeping.PendingWritesRight.{adc_basis_right, owed_right}}
-pub use Rattle.adc_groups.specs.laws.{bookkeeping.PromisesKept.{no_unit}, bookkeeping.RefinementRight.{bare_right}}
-pub use Rattle.adc_groups.specs.laws.{bookkeeping.TurnsOfUnit.{named_of}, hardware.HardwareCommutes.{block_after}}
-pub use Rattle.adc_groups.specs.laws.{hardware.HardwareCommutes.{happened_block}, hardware.OtherModules.{by_line}}
-pub use Rattle.adc_groups.specs.laws.{hardware.OtherModules.{plain}, hardware.PendingWritesStable.{shape_lowers}}
-pub use Rattle.adc_groups.specs.laws.{hardware.PendingWritesStable.{shape_simple, some_room}}
+pub use Rattle.adc_groups.specs.laws.{bookkeeping.PendingWritesRight.{no_unit}, bookkeeping.RefinementRight.{bare_right}}
+pub use Rattle.adc_groups.specs.laws.{bookkeeping.RefinementRight.{named_of}, hardware.HardwareCommutes.{block_after}}
+pub use Rattle.adc_groups.specs.laws.{hardware.HardwareCommutes.{happened_block}, hardware.HardwareMoves.{by_line}}
+pub use Rattle.adc_groups.specs.laws.{hardware.HardwareMoves.{plain}, hardware.HardwareCommutes.{shape_lowers}}
+pub use Rattle.adc_groups.specs.laws.{hardware.HardwareCommutes.{shape_simple, some_room}}
 pub use Rattle.adc_groups.specs.laws.{hardware.StableUnderHardware.{kept_within}}
-pub use Rattle.adc_groups.specs.laws.{services.BeginDecisions.{Begins, Begins_enable, Begins_start, bit_none}}
-pub use Rattle.adc_groups.specs.laws.{services.BeginDecisions.{from_found}}
+pub use Rattle.adc_groups.specs.laws.{services.CallSteps.{Begins, Begins_enable, Begins_start, bit_none}}
+pub use Rattle.adc_groups.specs.laws.{services.CallSteps.{from_found}}
 pub use Rattle.adc_groups.specs.laws.{services.BodySteps.{after_copies, after_making, all_kept, body_ends, body_takes}}
 pub use Rattle.adc_groups.specs.laws.{services.BodySteps.{body_work, choose_takes, copies_on, follows, given}}
 pub use Rattle.adc_groups.specs.laws.{services.BodySteps.{keeps_some, look_move, look_takes, making_takes, opened}}
@@ -169,59 +169,62 @@ pub use Rattle.adc_groups.specs.laws.{services.CallSteps.{enable_looks, point_lo
 pub use Rattle.adc_groups.specs.laws.{services.CallSteps.{start_looks, status_looks, stop_looks, survey_step}}
 pub use Rattle.adc_groups.specs.laws.{services.CallSteps.{trigger_flag, trigger_looks}}
 pub use Rattle.adc_groups.specs.laws.{services.DeInitRight.{close_survey, closing_surveys}}
-pub use Rattle.adc_groups.specs.laws.{services.Decisions.{aborted, aborted_by, acts_and_ends, after_request, begin}}
-pub use Rattle.adc_groups.specs.laws.{services.Decisions.{begins, begins_next, change, claim, claim_ended, claim_lost}}
+pub use Rattle.adc_groups.specs.laws.services.Decisions.{aborted, aborted_by, after_request, begin}
+pub use Rattle.adc_groups.specs.laws.services.Decisions.{begins, begins_next, claim, claim_ended, claim_lost}
 pub use Rattle.adc_groups.specs.laws.{services.Decisions.{clean_in, column_of, conversion, convert, copies_or, decided}}
 pub use Rattle.adc_groups.specs.laws.{services.Decisions.{done, entered, flagged, is_ready, keep, kept_where, leaves}}
 pub use Rattle.adc_groups.specs.laws.{services.Decisions.{list_deed, lists_for, looked, looking, makes, moves_ahead}}
-pub use Rattle.adc_groups.specs.laws.{services.Decisions.{nothing_more, off_where, over, owed, point_by, pulse_by}}
-pub use Rattle.adc_groups.specs.laws.{services.Decisions.{quieted, read_by, reading, refused, round_seen, serve}}
+pub use Rattle.adc_groups.specs.laws.services.Decisions.{nothing_more, off_where, over, point_by, pulse_by}
+pub use Rattle.adc_groups.specs.laws.{services.Decisions.{quieted, read_by, refused, round_seen, serve}}
 pub use Rattle.adc_groups.specs.laws.{services.Decisions.{serving, set_up, sought, start_deeds, stop, stop_seen}}
-pub use Rattle.adc_groups.specs.laws.{services.Decisions.{stop_service, stop_turn, stopping, stores, survey, survey_by}}
+pub use Rattle.adc_groups.specs.laws.services.Decisions.{stop_turn, stopping, stores, survey, survey_by}
 pub use Rattle.adc_groups.specs.laws.{services.Decisions.{surveyed, take_by, taken_away, trigger_bit, turn_shape}}
 pub use Rattle.adc_groups.specs.laws.{services.Decisions.{unit_in, unit_named, word_seen, yields_by}}
 pub use Rattle.adc_groups.specs.laws.{services.InitSteps.{clear_at, clear_count, cleared_group, cleared_word, few}}
 pub use Rattle.adc_groups.specs.laws.{services.InitSteps.{group_clear, init_takes, init_work, many_from, nth_from}}
 pub use Rattle.adc_groups.specs.laws.{services.InitSteps.{setup_after, setup_count, setup_move}}
-pub use Rattle.adc_groups.specs.laws.{services.InitSteps.{unit_word}, services.LookRight.{some_within}}
+pub use Rattle.adc_groups.specs.laws.{services.InitSteps.{unit_word}, services.SingleWordCalls.{some_within}}
 pub use Rattle.adc_groups.specs.laws.{services.LookSteps.{adc_looked, any_ends, AnyBody, begun_by, is_wrong, looked_by}}
 pub use Rattle.adc_groups.specs.laws.{services.LookSteps.{place_for, set_up_at, small}}
-pub use Rattle.adc_groups.specs.laws.{services.MaskSteps.{closes_step, opens_step}}
-pub use Rattle.adc_groups.specs.laws.{services.QueriesAndErrors.{not_reset}, services.ReadSteps.{left_by, stage_by}}
+pub use Rattle.adc_groups.specs.laws.{services.CallSteps.{closes_step, opens_step}}
+pub use Rattle.adc_groups.specs.laws.{services.SingleWordCalls.{not_reset}, services.ReadSteps.{left_by, stage_by}}
 pub use Rattle.adc_groups.specs.laws.{services.ReadSteps.{stage_move, stage_read, taken_by}}
-pub use Rattle.adc_groups.specs.laws.{services.RequestRight.{on_own}, services.SearchSteps.{begin_looks, begin_seeks}}
-pub use Rattle.adc_groups.specs.laws.{services.SearchSteps.{suspend_seeks, yield_looks}}
+pub use Rattle.adc_groups.specs.laws.{services.RequestRight.{on_own}, services.SeekRight.{begin_looks, begin_seeks}}
+pub use Rattle.adc_groups.specs.laws.{services.SeekRight.{suspend_seeks, yield_looks}}
 pub use Rattle.adc_groups.specs.laws.{services.SingleWordSteps.{deals_right}, services.WriteBatchSteps.{banks_left}}
 pub use Rattle.adc_groups.specs.laws.{services.WriteBatchSteps.{deed_move, deed_or_open, either_shape, is_first}}
 pub use Rattle.adc_groups.specs.laws.{services.WriteBatchSteps.{making, making_by, making_event, making_left}}
 pub use Rattle.adc_groups.specs.laws.{services.WriteBatchSteps.{making_move, making_over, one_made, order_left}}
 pub use Rattle.adc_groups.specs.laws.{services.WriteBatchSteps.{shape_after, shape_move}}
-pub use Rattle.adc_groups.specs.laws.{services.YieldRight.{unclaimed}, words.DisjointWords.{place_apart, start_from}}
-pub use Rattle.adc_groups.specs.laws.{words.DisjointWords.{trio_apart}, words.FirstRequest.{choice_next}}
+pub use Rattle.adc_groups.specs.laws.{services.SeekRight.{unclaimed}, words.StoreOneWord.{place_apart, start_from}}
+pub use Rattle.adc_groups.specs.laws.{words.StoreOneWord.{trio_apart}, services.SeekRight.{choice_next}}
 pub use Rattle.adc_groups.specs.laws.{words.StructureParts.{word_there}, words.WindowWords.{word_at}}
-pub use Rattle.adc_groups.specs.laws.{words.WindowWords.{words_of}, words.WordsAtRest.{IsQuiet, rests_agree}}
-pub use Rattle.adc_groups.specs.laws.{words.WordsAtRest.{result_past, trio_past}, words.WordsOfModule.{all_small}}
+pub use Rattle.adc_groups.specs.laws.{words.WindowWords.{words_of}, hardware.AfterReset.{IsQuiet, rests_agree}}
+pub use Rattle.adc_groups.specs.laws.{hardware.AfterReset.{result_past, trio_past}, words.WordsOfModule.{all_small}}
 pub use Rattle.adc_groups.specs.laws.{words.WordsOfModule.{AllSmall, bank_below, bank_words, claim_words, clear_words}}
 pub use Rattle.adc_groups.specs.laws.{words.WordsOfModule.{few_inputs, first_words, IsOwnStore, kept_words, low_words}}
 pub use Rattle.adc_groups.specs.laws.{words.WordsOfModule.{on_there, order_words, place_words, running_words, unit_is}}
 pub use Rattle.adc_groups.specs.laws.{words.WordsOfModule.{unit_small, unit_within, within, words_below}}
 pub use Rattle.adc_groups.specs.laws.words.Cases.{cases, some_or_none, whether, whether_as}
-pub use Rattle.adc_groups.specs.laws.words.OrderBetweenWrites.{order_within}
+pub use Rattle.adc_groups.specs.laws.words.StructureParts.{order_within}
 pub use Rattle.adc_groups.specs.laws.words.WordsChange.{all_stay, AllStay, BankStays, CoreStays, HoldStays, KeptStays}
 pub use Rattle.adc_groups.specs.laws.words.WordsChange.{ranges_apart, stays_agree, trio_place}
 pub use Rattle.adc_turns.specs.laws.services.ClaimEndRight.{quit_right}
-pub use Rattle.adc_turns.specs.laws.services.ClaimEndSteps.{keep_looks, leave_seeks}
-pub use Rattle.adc_turns.specs.laws.services.StartLastStep.{asks_for, convert_looks, starting_right}
+pub use Rattle.adc_turns.specs.laws.services.KeepRight.{keep_looks, leave_seeks}
+pub use Rattle.adc_turns.specs.laws.services.StartRight.{asks_for, convert_looks, starting_right}
 pub use Rattle.adc_turns.specs.laws.services.WriteBatchRight.{claim_at, deed_takes, deed_work, go_at, last_takes}
-pub use Rattle.adc_turns.specs.laws.services.WriteBatchRight.{len_start, list_at, order_takes, order_work, running_at}
-pub use Rattle.adc_turns.specs.laws.services.YieldSteps.{abort_right, suspend_looks}
+pub use Rattle.adc_turns.specs.laws.services.WriteBatchRight.{len_start, list_at, order_takes, order_work, running_at, some_ahead}
+pub use Rattle.adc_turns.specs.laws.services.AbortRight.{abort_right, suspend_looks}
 pub use Rattle.adc_turns.specs.laws.words.BegunWords.{none_aborts, none_starts}
-pub use Rattle.adc_serving.specs.laws.{bookkeeping.ReadAlone.{only_reader}, services.AfterCopySteps.{serve_looks}}
+pub use Rattle.adc_serving.specs.laws.{services.ReadRight.{only_reader}, services.GiveUpRight.{serve_looks}}
 pub use Rattle.adc_serving.specs.laws.{services.ClaimRight.{claim_looks}, services.CopyRight.{got}}
-pub use Rattle.adc_serving.specs.laws.{services.NoticeSteps.{notes_step}, services.OpenMaskSteps.{serves_step}}
-pub use Rattle.adc_serving.specs.laws.{services.OpenMaskSteps.{tells_step_any}, services.PinRight.{pin_makes}}
+pub use Rattle.adc_serving.specs.laws.{services.TellRight.{notes_step}, services.TellRight.{serves_step}}
+pub use Rattle.adc_serving.specs.laws.{services.TellRight.{tells_step_any}, services.PinRight.{pin_makes}}
 pub use Rattle.adc_serving.specs.laws.{services.PinRight.{pins_from}, services.ReadRight.{read_step, reads_begin}}
-pub use Rattle.adc_serving.specs.laws.{services.ServeRight.{serve_makes}, services.TakeRoundSteps.{chooses_step}}
-pub use Rattle.adc_serving.specs.laws.{services.TakeRoundSteps.{take_flag, take_looks}, services.TellRight.{column_is}}
-pub use Rattle.adc_serving.specs.laws.services.TellRight.{place_within}
+pub use Rattle.adc_serving.specs.laws.{services.ServeRight.{serve_makes}, services.ClaimRight.{chooses_step}}
+pub use Rattle.adc_serving.specs.laws.{services.ClaimRight.{take_flag, take_looks}, services.TellRight.{column_is}}
+pub use Rattle.adc_serving.specs.laws.services.TellRight.{place_within, places_few}
 pub use Rattle.adc_driver.specs.Handlers.{first_on, group_on, handled_body, handled_by}
+pub use Rattle.word_shapes.specs.declared.put.PutPart.{PutPart}
+pub use Rattle.mcal_base.specs.declared.service.Service.{Service}
+pub use Rattle.service_outline.specs.declared.sweep.SweepStage.{SweepStage}

@@ -36,7 +36,7 @@ pub use Rattle.det_errors.specs.Rows.{first_error}
 pub use Rattle.chip_converter.proofs.HistoryLaws.{ended-later, ended-open, has_ended-not_yet, has_ended-open}
 pub use Rattle.chip_converter.proofs.HistoryLaws.{result-settled, unit_at-analog}
 pub use Rattle.chip_converter.proofs.StateLaws.{finished-later, finished_not_running}
-pub use Rattle.chip_converter.specs.{Accesses.{HasUnit}, Converters.{Converters}}
+pub use Rattle.chip_converter.specs.{Accesses.{HasUnit}, Converters.{Converters, unit_at}}
 pub use Rattle.chip_converter.specs.{declared.converter.Converter.{Converter}, declared.converter.Levels.{Levels}}
 unfoldable pub use Rattle.chip_converter.specs.Converters.{unused}
 pub use Rattle.chip_model.proofs.{HistoryLaws.{edged, level_leaves, rate-left, words-read, words-write}}
@@ -60,7 +60,8 @@ pub use Rattle.word_shapes.specs.{Order.{waiting, with_wait, without as left_of}
 pub use Rattle.word_shapes.specs.{PriorityQueue.{add_gave, add_left, add_start, adding, again_gave, again_left}}
 pub use Rattle.word_shapes.specs.{PriorityQueue.{choosing_front, drop_gave, drop_left, drop_start, dropping}}
 pub use Rattle.word_shapes.specs.{PriorityQueue.{front_gave, front_left, front_start, Holds as HoldsOrder, next_gave}}
-pub use Rattle.word_shapes.specs.{PriorityQueue.{next_left, search_move, waiting_again}, Room.{LowersTo}}
+pub use Rattle.word_shapes.specs.{PriorityQueue.{next_left, own_of as order_own, search_move, waiting_again}}
+pub use Rattle.word_shapes.specs.{Room.{LowersTo}}
 pub use Rattle.word_shapes.specs.{TripleBuffer.{own_of, put_gave, put_left, take_gave, take_left, word_at}}
 pub use Rattle.word_shapes.specs.{declared.choosing.Front.{Front}, declared.search.Search.{Search}}
 pub use Rattle.service_outline.specs.{DeferredWrites.{AreOwed, CommitsTo, deferring_writes, is_fill, is_simple}}
@@ -163,4 +164,6 @@ pub use Rattle.adc_groups.specs.laws.services.Decisions.{unit_named, yields, yie
 pub use Rattle.adc_groups.specs.laws.services.InitSteps.{clear_at, cleared_group, cleared_word, group_clear, unit_word}
 pub use Rattle.adc_groups.specs.laws.services.WriteBatchSteps.{deed_move, making, shape_after, shape_move}
 pub use Rattle.adc_groups.specs.laws.words.WindowWords.{words_of}
-pub use Rattle.adc_groups.specs.laws.words.Cases.{cases, whether, whether_as}
+pub use Rattle.adc_groups.specs.laws.words.Cases.{cases, option_as, same_or_below, whether, whether_as}
+pub use Rattle.word_shapes.specs.declared.dropped.Dropped.{Dropped}
+pub use Rattle.mcal_base.specs.declared.service.Service.{Service}

@@ -5,6 +5,7 @@ ghost use Rattle.adc_groups.specs.laws.services.LookSteps as spec;
 
 use crate::body::{AdcBody, Place};
 use crate::owed::error_owed;
+use crate::service::listed::ListedTable;
 use crate::service::module::{InitBody, Setup};
 use crate::service::{ask, looking, request};
 use crate::window::Window;
@@ -128,7 +129,9 @@ impl Asked {
         let table = self.table.copied();
         match self.call {
             Call::Init => Looked::Goes(Or::First(Sweep {
-                objects: Setup { table },
+                objects: Setup {
+                    table: ListedTable::new(table),
+                },
                 place: SweepStage::Opens,
             })),
             Call::DeInit => {

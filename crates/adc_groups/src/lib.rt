@@ -14,6 +14,7 @@ pub use asked::{AnyBody, Asked};
 pub use body::{AdcBody, Decided, Place, Snapshot};
 pub use making::{Continuation, StructureOp, WindowWrite, WindowWrites, WriteBatch};
 pub use outside::{Copied, Outside, Suspended, Taken};
+pub use service::listed::ListedTable;
 pub use service::module::{InitBody, Setup};
 pub use service::read::{Newest, Stage};
 pub use service::serve::RoundSeen;

@@ -1,6 +1,7 @@
 //! What each window decides by what it has seen.
 
 pub mod ask;
+pub mod listed;
 pub mod module;
 pub mod read;
 pub mod request;

@@ -12,7 +12,7 @@ pub use Rattle.std.specs.Option.{option_map}
 pub use Rattle.mcal_base.specs.facts.{Numbers.{eq_is, eq_other, eq_self, le_since, lt_is, lt_isnt, same_or_other}}
 pub use Rattle.mcal_base.specs.facts.{Options.{none_some, some_same}, Truths.{and_false, clash, off_on}}
 pub use Rattle.mcal_base.proofs.BitLaws.{has_bit-without}
-pub use Rattle.mcal_base.specs.{Bits.{bit_of, has_bit}, declared.TheConstants.{WORDS}, declared.answer.Answer.{Answer}}
+pub use Rattle.mcal_base.specs.{Bits.{bit_of, has_bit}, declared.answer.Answer.{Answer}}
 pub use Rattle.mcal_base.specs.{declared.answer_name.AnswerName.TheVariants.{EOk}, declared.layout.TheConstants.{USERS}}
 pub use Rattle.mcal_base.specs.{declared.moves.Move.{Move}, declared.moves.Move.TheVariants.{Load, Mask, Read, Store}}
 pub use Rattle.mcal_base.specs.{declared.moves.Move.TheVariants.{Unmask}}
@@ -49,7 +49,7 @@ pub use Rattle.adc_stream.specs.{declared.rounds.Bank.{Bank}, declared.rounds.Ro
 pub use Rattle.adc_machine.proofs.{Parts.{group_same, round_same}, Places.{stored as round_stored}}
 pub use Rattle.adc_machine.proofs.{Rounds.{whole_values}, Stopped.{unmarked_group, unmarked_round}}
 pub use Rattle.adc_machine.specs.{Bounds.{adc_setting, class_of}, Checks.{error_by}, Configured.{ranks_of, unit_of}}
-pub use Rattle.adc_machine.specs.{Groups.{Busy, Completed, ends_with_stream, finish_of, GroupState, held_in, Idle}}
+pub use Rattle.adc_machine.specs.Groups.{Completed, ends_with_stream, finish_of, GroupState, held_in, Idle}
 pub use Rattle.adc_machine.specs.{Groups.{inputs_left, inputs_of, is_continuous, is_finished, is_full, is_idle}}
 pub use Rattle.adc_machine.specs.{Groups.{is_linear_stream, is_same, newest, Request, Results, Round, samples_of}}
 pub use Rattle.adc_machine.specs.{Groups.{Status, status_after, status_read, StreamCompleted, trigger_input, untouched}}
@@ -57,7 +57,7 @@ pub use Rattle.adc_machine.specs.{Groups.{values_of, with_round_of}, Laws.{ends_
 pub use Rattle.adc_machine.specs.{Machine.{acts_by, adc_machine, after_round, circumstances, happens, is_done, notes}}
 pub use Rattle.adc_machine.specs.{Machine.{place_value, read_from, reads, ready, served_round, with_values}}
 pub use Rattle.adc_machine.specs.{Table.{group_of}, Triggers.{listener, mark_at, without_mark}, Turns.{aborts}}
-pub use Rattle.adc_machine.specs.{Turns.{aborts_by, AdcState, group_at, has_turn, is_on, is_round_of, round_at, starts}}
+pub use Rattle.adc_machine.specs.{Turns.{aborts_by, AdcState, group_at, has_turn, is_on, is_round_of, round_at}}
 pub use Rattle.adc_machine.specs.{Turns.{with_group, with_round}, Words.{is_word, place_count, result_word}}
 pub use Rattle.adc_machine.specs.{declared.call.Call.{Call}, declared.call.GroupCall.TheVariants.{ReadGroup}}
 pub use Rattle.adc_machine.specs.{declared.call.ResultBuffer.{ResultBuffer}}
@@ -77,7 +77,7 @@ pub use Rattle.adc_groups.specs.{Refinement.{IsSoundGroup, IsSoundRequest, Keeps
 pub use Rattle.adc_groups.specs.{Refinement.{kept_of_round, number_at, number_by, or_else, phase_of}}
 pub use Rattle.adc_groups.specs.{Refinement.{Promised, put_of, Reads, Reservation, Reservations, result_of}}
 pub use Rattle.adc_groups.specs.{Refinement.{RoundAgrees, running_of, some_hold, SoundGroup, Starts, starts_on}}
-pub use Rattle.adc_groups.specs.{Refinement.{take_of, TriggersAgree, UnitAgrees, Whole, will_yield, Yields}}
+pub use Rattle.adc_groups.specs.Refinement.{take_of, TriggersAgree, UnitAgrees, Whole, will_yield}
 pub use Rattle.adc_groups.specs.{Stored.{entry, group_in, group_word, order_of, phase_in, phase_number, rounds_of}}
 pub use Rattle.adc_groups.specs.{Stored.{word_number}, declared.body.AdcBody.{AdcBody}}
 pub use Rattle.adc_groups.specs.{declared.body.Decided.TheVariants.{Goes}, declared.body.Place.{Place}}
@@ -89,33 +89,34 @@ pub use Rattle.adc_groups.specs.{declared.outside.Copied.{Copied}, declared.outs
 pub use Rattle.adc_groups.specs.{declared.outside.Taken.{Taken}, declared.service.read.Stage.{Stage}}
 pub use Rattle.adc_groups.specs.{declared.service.serve.RoundSeen.{RoundSeen}, declared.words.Phase.{Phase}}
 pub use Rattle.adc_groups.specs.{declared.words.TheConstants.{STATE}}
-pub use Rattle.adc_groups.specs.laws.bookkeeping.HeldAnew.{banks_stay, claimed_parts, holds_anew}
+pub use Rattle.adc_groups.specs.laws.bookkeeping.FrameRule.{banks_stay, claim_past, claimed_parts, holds_anew}
 pub use Rattle.adc_groups.specs.laws.{bookkeeping.FrameRule.{all_changed, AllSpare, changed, claim_stays, Fresh}}
 pub use Rattle.adc_groups.specs.laws.{bookkeeping.FrameRule.{place_stays, Stays}}
-pub use Rattle.adc_groups.specs.laws.{bookkeeping.PromisesKept.{promised_same, waits_other}}
+pub use Rattle.adc_groups.specs.laws.{bookkeeping.PendingWritesRight.{promised_same, waits_other}}
 pub use Rattle.adc_groups.specs.laws.{bookkeeping.RefinementRight.{bare_right, finished_here}}
-pub use Rattle.adc_groups.specs.laws.{bookkeeping.TriggerOff.{marks_off, triggers_off}}
-pub use Rattle.adc_groups.specs.laws.{bookkeeping.TurnsOfUnit.{none_past, off_unit as off_group, round_turn}}
-pub use Rattle.adc_groups.specs.laws.{bookkeeping.TurnsOfUnit.{turn_round, unit_of_round}}
+pub use Rattle.adc_groups.specs.laws.{services.EnableTriggerRight.{marks_off, triggers_off}}
+pub use Rattle.adc_groups.specs.laws.{bookkeeping.RefinementRight.{none_past, off_unit as off_group, round_turn}}
+pub use Rattle.adc_groups.specs.laws.{bookkeeping.RefinementRight.{kept_round, turn_round, unit_of_round}}
 pub use Rattle.adc_groups.specs.laws.{hardware.HardwareCommutes.{unit_block, unit_other, unit_set}}
-pub use Rattle.adc_groups.specs.laws.{hardware.PendingWritesStable.{acknowledged_list, acknowledged_over}}
+pub use Rattle.adc_groups.specs.laws.{hardware.HardwareCommutes.{acknowledged_list, acknowledged_over}}
 pub use Rattle.adc_groups.specs.laws.{hardware.StableUnderHardware.{kept_within, value_within}}
 pub use Rattle.adc_groups.specs.laws.{services.BodySteps.{body_ends, body_work, copies_on, place_ends, step}}
 pub use Rattle.adc_groups.specs.laws.{services.CallSteps.{decides_so, held}, services.Decisions.{chosen, claim}}
 pub use Rattle.adc_groups.specs.laws.{services.Decisions.{column_of, copies_or, flagged, is_streamed, leaves, looking}}
 pub use Rattle.adc_groups.specs.laws.{services.Decisions.{makes, off_where, over, phase_after, phase_on, serve}}
 pub use Rattle.adc_groups.specs.laws.{services.Decisions.{serving, take_by, trigger_bit, turn_deed, turn_shape}}
-pub use Rattle.adc_groups.specs.laws.{services.FirstWrites.{first_takes, steps_so}, services.LookRight.{DecidedRight}}
-pub use Rattle.adc_groups.specs.laws.{services.LookRight.{looks_right}, services.QueriesAndErrors.{group_errors}}
-pub use Rattle.adc_groups.specs.laws.{services.QueriesAndErrors.{not_reset}, services.ReadSteps.{stage_read}}
-pub use Rattle.adc_groups.specs.laws.{services.RequestRight.{listener_as, other_at, past_untouched, sound_past}}
-pub use Rattle.adc_groups.specs.laws.{services.SingleWordCalls.{read_phase, read_sound}, services.StatusCalls.{same}}
-pub use Rattle.adc_groups.specs.laws.{services.StatusCalls.{Touches, turn_same}, services.StopWords.{bits_few}}
+pub use Rattle.adc_groups.specs.laws.{services.StopRight.{first_takes, steps_so}, services.SingleWordCalls.{DecidedRight}}
+pub use Rattle.adc_groups.specs.laws.{services.SingleWordCalls.{looks_right}, services.SingleWordCalls.{group_errors}}
+pub use Rattle.adc_groups.specs.laws.{services.SingleWordCalls.{not_reset}, services.ReadSteps.{stage_read}}
+pub use Rattle.adc_groups.specs.laws.{services.RequestRight.{listener_as}}
+pub use Rattle.adc_groups.specs.laws.{words.StoreOneWord.{other_at, past_untouched, sound_past}}
+pub use Rattle.adc_groups.specs.laws.{services.SingleWordCalls.{read_phase, read_sound}, words.StoreOneWord.{same}}
+pub use Rattle.adc_groups.specs.laws.{words.StoreOneWord.{Touches, turn_same}, services.StopWords.{bits_few}}
 pub use Rattle.adc_groups.specs.laws.{services.StopWords.{off_block, off_time, off_unit}}
-pub use Rattle.adc_groups.specs.laws.{services.WriteBatchSteps.{deed_move, making}, services.YieldRight.{none_aborted}}
-pub use Rattle.adc_groups.specs.laws.{services.YieldRight.{unclaimed}, words.DisjointWords.{start_from}}
-pub use Rattle.adc_groups.specs.laws.{words.DisjointWords.{trio_apart}, words.OrderBetweenWrites.{differs_none}}
-pub use Rattle.adc_groups.specs.laws.{words.OrderBetweenWrites.{low_last, order_first, other_last, stands_last}}
+pub use Rattle.adc_groups.specs.laws.{services.WriteBatchSteps.{deed_move, making}, services.SeekRight.{none_aborted}}
+pub use Rattle.adc_groups.specs.laws.{services.SeekRight.{unclaimed}, words.StoreOneWord.{start_from}}
+pub use Rattle.adc_groups.specs.laws.{words.StoreOneWord.{trio_apart}, words.StructureParts.{differs_none}}
+pub use Rattle.adc_groups.specs.laws.{words.StructureParts.{low_last, order_first, other_last, stands_last}}
 pub use Rattle.adc_groups.specs.laws.{words.OrderWords.{order_waiting, order_without}, words.StoreOneWord.{group_with}}
 pub use Rattle.adc_groups.specs.laws.{words.StoreOneWord.{others_here, stored_here, touched}}
 pub use Rattle.adc_groups.specs.laws.{words.StructureParts.{again_part, AllOf, deeds_listed, deeds_low, deeds_other}}
@@ -126,9 +127,16 @@ pub use Rattle.adc_groups.specs.laws.{words.WordsOfModule.{order_words, place_wo
 pub use Rattle.adc_groups.specs.laws.{words.WordsOfModule.{some_samples, trio_words, unit_is, unit_small, unit_within}}
 pub use Rattle.adc_groups.specs.laws.{words.WordsOfModule.{within}}
 pub use Rattle.adc_groups.specs.laws.words.Cases.{cases, whether, whether_as}
-pub use Rattle.adc_groups.specs.laws.words.OrderBetweenWrites.{order_within}
+pub use Rattle.adc_groups.specs.laws.words.StructureParts.{order_within}
 pub use Rattle.adc_groups.specs.laws.words.WordsChange.{all_stay, AllStay, BankStays, claim_now, claim_other}
 pub use Rattle.adc_groups.specs.laws.words.WordsChange.{claim_stays_below, core_claim, core_place, core_trio}
 pub use Rattle.adc_groups.specs.laws.words.WordsChange.{CoreStays, HoldStays, kept_claimed, kept_place, kept_trio}
 pub use Rattle.adc_groups.specs.laws.words.WordsChange.{KeptStays, place_claimed, stays_agree, trio_claim}
 pub use Rattle.adc_groups.specs.laws.words.WordsChange.{trio_claimed, trio_far, trio_other, trio_result}
+pub use Rattle.mcal_base.specs.declared.moves.Event.{Event}
+pub use Rattle.adc_groups.specs.declared.outside.Outside.{Outside}
+pub use Rattle.word_shapes.specs.declared.put.PutPart.{PutPart}
+pub use Rattle.mcal_base.specs.declared.service.Service.{Service}
+pub use Rattle.adc_groups.specs.declared.making.StructureOp.{StructureOp}
+pub use Rattle.adc_groups.specs.declared.window.Window.{Window}
+pub use Rattle.adc_groups.specs.declared.words.Word.{Word}

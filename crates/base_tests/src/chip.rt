@@ -4,7 +4,9 @@ ghost use Rattle.chip_model.specs.Chip.{CanHappen};
 use crate::line::{Line, number, numbers, reason, step};
 use crate::timed::capture_input;
 use chip_model::Bus;
-use mcal_base::{Config, Directive, IcuConfig, Order, PwmChannel, PwmConfig, Short, WORDS};
+use mcal_base::{
+    BoxedWords, Config, Directive, IcuConfig, Order, PwmChannel, PwmConfig, Short, WORDS,
+};
 use serial_devices::{ListDevice, PlainDevice, SerialDevice};
 use std::alloc::{AllocError, Global};
 use trace_reader::Step;
@@ -65,7 +67,8 @@ fn begun(alloc: Global) -> Result<Bus, AllocError> {
     let Ok(mut bus) = Bus::new(alloc, &wired(), 3) else {
         return Err(AllocError);
     };
-    happen(&mut bus, Order::Miso(1, three_words(11, 12, 13)));
+    let words = BoxedWords::new(alloc, three_words(11, 12, 13))?;
+    happen(&mut bus, Order::Miso(1, words));
     Ok(bus)
 }
 

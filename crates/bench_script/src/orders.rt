@@ -1,4 +1,4 @@
-ghost use Rattle.std.specs.Prelude.{◌≡◌, ◌≤◌, [], length, map};
+ghost use Rattle.std.specs.Prelude.{◌≡◌, ◌≤◌, [], IfOk, length, map};
 ghost use Rattle.mcal_base.specs.Names.{service_text};
 ghost use Rattle.mcal_base.specs.declared.service.Service.{Service};
 ghost use Rattle.bench_script.specs.Orders as spec;
@@ -13,7 +13,8 @@ use crate::services::service_named;
 use crate::spelled::{Spelled, named};
 use crate::tables::arguments_of;
 use crate::words::{Keyword, reasons, sights, stops};
-use mcal_base::{Order, Reason, Request, Service, Short, Shown, Stop, Words};
+use mcal_base::{BoxedWords, Order, Reason, Request, Service, Short, Shown, Stop, Words};
+use std::alloc::{AllocError, Global};
 
 /// What a word must be one of.
 fn choice<T: Spelled>(choices: &[T], word: &[u8]) -> Result<T, LineFault>
@@ -85,14 +86,16 @@ fn row(
     word: &[u8],
     words: &[&[u8]],
     first: &mut u32,
-    others: &mut Words,
+    others: &mut BoxedWords,
 ) -> Result<(), LineFault>
     requires { length words.now ≤ 64 }
     ensures { put result (first.new, others.new) ≡ spec.row most most_next word.now (map (λ w. w.now) words.now) }
 {
     *first = number_up_to(most, word)?;
-    *others = Words::new();
-    numbers(most_next, words, others)
+    let mut read = Words::new();
+    numbers(most_next, words, &mut read)?;
+    others.set(read);
+    Ok(())
 }
 
 /// The number after a keyword, and the 1 to 64 numbers that follow it, written to a place.
@@ -101,7 +104,7 @@ fn several(
     most_next: u32,
     words: &[&[u8]],
     first: &mut u32,
-    others: &mut Words,
+    others: &mut BoxedWords,
 ) -> Result<(), LineFault>
     ensures { put result (first.new, others.new) ≡ spec.several most most_next (map (λ w. w.now) words.now) }
 {
@@ -189,10 +192,10 @@ fn no_request() -> Request
 }
 
 /// An order of a keyword, of which nothing is read yet.
-pub(crate) fn unread(keyword: Keyword) -> Order
-    ensures { spec.keyword_of result ≡ keyword }
+pub(crate) fn unread(alloc: Global, keyword: Keyword) -> Result<Order, AllocError>
+    ensures { IfOk result (λ order. spec.keyword_of order ≡ keyword) }
 {
-    match keyword {
+    let order = match keyword {
         Keyword::Call => Order::Call(0, no_request()),
         Keyword::Do => Order::Do(0, no_request()),
         Keyword::Enter => Order::Enter(0),
@@ -204,13 +207,14 @@ pub(crate) fn unread(keyword: Keyword) -> Order
         Keyword::Level => Order::Level(0, false),
         Keyword::Analog => Order::Analog(0, 0),
         Keyword::Trigger => Order::Trigger(0),
-        Keyword::Miso => Order::Miso(0, Words::new()),
+        Keyword::Miso => Order::Miso(0, BoxedWords::new(alloc, Words::new())?),
         Keyword::SpiFault => Order::SpiFault(0),
         Keyword::Detach => Order::Detach,
-        Keyword::Fill => Order::Fill(0, Words::new()),
+        Keyword::Fill => Order::Fill(0, BoxedWords::new(alloc, Words::new())?),
         Keyword::Reset => Order::Reset(Reason::PowerOn),
         Keyword::Show => Order::Show(Shown::Pins),
-    }
+    };
+    Ok(order)
 }
 
 /// Reads what the words after a keyword ask for into an order of that keyword, where it stands. Inlined, so that a line

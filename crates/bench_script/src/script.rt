@@ -1,4 +1,4 @@
-ghost use Rattle.std.specs.Prelude.{◌≡◌, ◌≤◌, ◌<◌, ◌^◌, ◌∷◌, length, map, vec_len};
+ghost use Rattle.std.specs.Prelude.{◌≡◌, ◌≤◌, ◌<◌, ◌^◌, [], ◌∷◌, IfOk, length, map, vec_len};
 ghost use Rattle.bench_script.specs.Orders.{keyword_of, order_by_keyword, order_of, some_order};
 ghost use Rattle.bench_script.specs.Script as spec;
 ghost use Rattle.bench_script.specs.Steps.{put};
@@ -8,20 +8,28 @@ use crate::lines::line_words;
 use crate::orders::{read_order, unread};
 use crate::words::{Keyword, keyword_named};
 use mcal_base::{Directive, Order};
-use std::alloc::Global;
+use std::alloc::{AllocError, Global};
 
 /// The most directives of a script.
 const MOST_DIRECTIVES: usize = 50_000;
 
+/// The fewest bytes of a directive with its line feed, those of `run 1`.
+const FEWEST_BYTES: usize = 6;
+
 /// The fault of a line for whose directive there is no room.
 #[inline(never)]
-fn one_too_many(number: u32, keyword: Keyword, words: &[&[u8]]) -> ScriptFault
-    ensures { result ≡ spec.too_many number (order_by_keyword keyword (map (λ w. w.now) words.now)) }
+fn one_too_many(
+    alloc: Global,
+    number: u32,
+    keyword: Keyword,
+    words: &[&[u8]],
+) -> Result<ScriptFault, AllocError>
+    ensures { IfOk result (λ fault. fault ≡ spec.too_many number (order_by_keyword keyword (map (λ w. w.now) words.now))) }
 {
-    let mut order = unread(keyword);
+    let mut order = unread(alloc, keyword)?;
     match read_order(words, &mut order) {
-        Ok(()) => ScriptFault::Long(number),
-        Err(fault) => fault.at(number),
+        Ok(()) => Ok(ScriptFault::Long(number)),
+        Err(fault) => Ok(fault.at(number)),
     }
 }
 
@@ -38,6 +46,7 @@ fn read_numbered(number: u32, words: &[&[u8]], order: &mut Order) -> Result<(), 
 
 /// Keeps a directive of a keyword, and then reads what its words ask for where it is kept.
 fn keep_order(
+    alloc: Global,
     directives: &mut Vec<Directive>,
     number: u32,
     keyword: Keyword,
@@ -50,18 +59,20 @@ fn keep_order(
 {
     let place = directives.len();
     if place == MOST_DIRECTIVES {
-        return Err(one_too_many(number, keyword, words));
+        return Err(one_too_many(alloc, number, keyword, words)?);
     }
     directives.reserve(1)?;
+    let order = unread(alloc, keyword)?;
     directives.push_reserved(Directive {
         line: number,
-        order: unread(keyword),
+        order,
     });
     read_numbered(number, words, &mut directives[place].order)
 }
 
 /// Keeps the directive that a word and those after it are.
 fn keep_directive(
+    alloc: Global,
     directives: &mut Vec<Directive>,
     number: u32,
     word: &[u8],
@@ -73,13 +84,14 @@ fn keep_directive(
     ensures few { vec_len directives.new ≤ 50000 }
 {
     match keyword_named(word) {
-        Ok(keyword) => keep_order(directives, number, keyword, words),
+        Ok(keyword) => keep_order(alloc, directives, number, keyword, words),
         Err(fault) => Err(fault.at(number)),
     }
 }
 
 /// Keeps the directive that the words of a line are, if there are any.
 fn keep_words(
+    alloc: Global,
     directives: &mut Vec<Directive>,
     number: u32,
     words: &[&[u8]],
@@ -91,8 +103,15 @@ fn keep_words(
 {
     match words {
         [] => Ok(()),
-        [word, words @ ..] => keep_directive(directives, number, word, words),
+        [word, words @ ..] => keep_directive(alloc, directives, number, word, words),
     }
+}
+
+/// No directives, and room for as many as a text of so many bytes may have, so that their vector doesn't grow.
+fn room_for(alloc: Global, bytes: usize) -> Result<Vec<Directive>, AllocError>
+    ensures { IfOk result (λ directives. directives.items ≡ []) }
+{
+    Vec::with_capacity(alloc, (bytes / FEWEST_BYTES + 1).min(MOST_DIRECTIVES))
 }
 
 /// The directives of a script. Its first line that is refused is named, with the first reason for it. The words of each
@@ -102,7 +121,7 @@ pub fn read_script(alloc: Global, text: &[u8]) -> Result<Vec<Directive>, ScriptF
     requires { length text.now < 2 ^ 32 }
     ensures { spec.GivesScript (λ directives. directives.items) result text.now }
 {
-    let mut directives = Vec::new(alloc);
+    let mut directives = room_for(alloc, text.len())?;
     let mut words = Vec::new(alloc);
     let mut rest = text;
     let mut number = 0;
@@ -110,7 +129,7 @@ pub fn read_script(alloc: Global, text: &[u8]) -> Result<Vec<Directive>, ScriptF
         number += 1;
         match line_words(&mut words, rest)? {
             Some(after) => {
-                keep_words(&mut directives, number, words.as_slice())?;
+                keep_words(alloc, &mut directives, number, words.as_slice())?;
                 rest = after;
             }
             None => return Err(LineFault::NotText.at(number)),

@@ -1,7 +1,7 @@
-ghost use Rattle.std.specs.Prelude.{◌≡◌, ◌++◌, OnOk};
+ghost use Rattle.std.specs.Prelude.{◌≡◌, ◌++◌, IfOk, OnOk};
 
-use mcal_base::{Argument, Directive, Order, Request, Short, Words};
-use std::alloc::AllocError;
+use mcal_base::{Argument, BoxedWords, Directive, Order, Request, Short, Words};
+use std::alloc::{AllocError, Global};
 
 /// The same arguments.
 fn copied_arguments(arguments: &Short<Argument, 4>) -> Short<Argument, 4>
@@ -16,7 +16,7 @@ fn copied_arguments(arguments: &Short<Argument, 4>) -> Short<Argument, 4>
 }
 
 /// The same request.
-fn copied_request(request: &Request) -> Request
+pub(crate) fn copied_request(request: &Request) -> Request
     ensures { result ≡ request.now }
 {
     Request {
@@ -26,22 +26,22 @@ fn copied_request(request: &Request) -> Request
 }
 
 /// The same words.
-fn copied_words(words: &Words) -> Words
-    ensures { result ≡ words.now }
+fn copied_words(alloc: Global, words: &BoxedWords) -> Result<BoxedWords, AllocError>
+    ensures { IfOk result (λ copy. copy ≡ words.now) }
 {
     let mut copy = Words::new();
     let all = words.as_slice();
     for word in all {
         copy.push(*word);
     }
-    copy
+    BoxedWords::new(alloc, copy)
 }
 
 /// The same order.
-pub fn copied(order: &Order) -> Order
-    ensures { result ≡ order.now }
+pub fn copied(alloc: Global, order: &Order) -> Result<Order, AllocError>
+    ensures { IfOk result (λ copy. copy ≡ order.now) }
 {
-    match order {
+    let copy = match order {
         Order::Call(level, request) => Order::Call(*level, copied_request(request)),
         Order::Do(level, request) => Order::Do(*level, copied_request(request)),
         Order::Enter(line) => Order::Enter(*line),
@@ -53,23 +53,25 @@ pub fn copied(order: &Order) -> Order
         Order::Level(pin, level) => Order::Level(*pin, *level),
         Order::Analog(input, value) => Order::Analog(*input, *value),
         Order::Trigger(input) => Order::Trigger(*input),
-        Order::Miso(unit, words) => Order::Miso(*unit, copied_words(words)),
+        Order::Miso(unit, words) => Order::Miso(*unit, copied_words(alloc, words)?),
         Order::SpiFault(unit) => Order::SpiFault(*unit),
         Order::Detach => Order::Detach,
-        Order::Fill(channel, words) => Order::Fill(*channel, copied_words(words)),
+        Order::Fill(channel, words) => Order::Fill(*channel, copied_words(alloc, words)?),
         Order::Reset(reason) => Order::Reset(*reason),
         Order::Show(shown) => Order::Show(*shown),
-    }
+    };
+    Ok(copy)
 }
 
 /// Puts copies of directives behind others.
 pub fn copy_behind(all: &mut Vec<Directive>, directives: &[Directive]) -> Result<(), AllocError>
     ensures { OnOk result (all.new.items ≡ all.old.items ++ directives.now) }
 {
+    let alloc = *all.allocator();
     for directive in directives {
         all.push(Directive {
             line: directive.line,
-            order: copied(&directive.order),
+            order: copied(alloc, &directive.order)?,
         })?;
     }
     Ok(())

@@ -2,7 +2,7 @@ ghost use Rattle.std.specs.Prelude.{◌≡◌, ◌<◌, ◌+◌, ◌++◌, ◌�
 ghost use Rattle.bench_sweep.specs.Cuts as spec;
 ghost use Rattle.bench_sweep.specs.Placed.{block_on, block_up};
 
-use crate::copies::{copied, copy_behind};
+use crate::copies::{copied, copied_request, copy_behind};
 use crate::places::{BlockPlace, Spot};
 use mcal_base::{Directive, Order};
 use std::alloc::{AllocError, Global};
@@ -20,21 +20,21 @@ pub struct Cut {
 fn beginning_of(order: &Order) -> Option<Order>
     ensures { result ≡ spec.beginning_of order.now }
 {
-    match copied(order) {
-        Order::Do(level, request) => Some(Order::Call(level, request)),
-        Order::Serve(line) => Some(Order::Enter(line)),
+    match order {
+        Order::Do(level, request) => Some(Order::Call(*level, copied_request(request))),
+        Order::Serve(line) => Some(Order::Enter(*line)),
         _ => None,
     }
 }
 
 /// What makes the rest of an order's steps behind so many of them.
-fn rest_of(order: &Order, made: u32) -> Order
-    ensures { result ≡ spec.rest_of order.now made }
+fn rest_of(alloc: Global, order: &Order, made: u32) -> Result<Order, AllocError>
+    ensures { IfOk result (λ rest. rest ≡ spec.rest_of order.now made) }
 {
     match order {
-        Order::Do(..) | Order::Serve(_) => Order::Finish,
-        Order::Run(steps) => Order::Run(steps.saturating_sub(made)),
-        _ => copied(order),
+        Order::Do(..) | Order::Serve(_) => Ok(Order::Finish),
+        Order::Run(steps) => Ok(Order::Run(steps.saturating_sub(made))),
+        _ => copied(alloc, order),
     }
 }
 
@@ -62,6 +62,7 @@ impl Cut {
         ensures up { OnOk result (self.new.up.items ≡ self.old.up.items ++ spec.on_line directive.now.line (spec.orders_up directive.now.order made)) }
         ensures on { OnOk result (self.new.on.items ≡ self.old.on.items ++ spec.on_line directive.now.line (spec.orders_on directive.now.order made steps)) }
     {
+        let alloc = *self.on.allocator();
         if let Some(beginning) = beginning_of(&directive.order) {
             self.push_up(directive.line, beginning)?;
         }
@@ -69,7 +70,7 @@ impl Cut {
             self.push_up(directive.line, Order::Run(made))?;
         }
         if made < steps {
-            self.push_on(directive.line, rest_of(&directive.order, made))?;
+            self.push_on(directive.line, rest_of(alloc, &directive.order, made)?)?;
         }
         Ok(())
     }
@@ -79,11 +80,12 @@ impl Cut {
         ensures up { OnOk result (self.new.up.items ≡ self.old.up.items ++ spec.up_by spot directive.now) }
         ensures on { OnOk result (self.new.on.items ≡ self.old.on.items ++ spec.on_by steps spot directive.now) }
     {
+        let alloc = *self.on.allocator();
         match spot {
-            Spot::Before => self.push_on(directive.line, copied(&directive.order)),
+            Spot::Before => self.push_on(directive.line, copied(alloc, &directive.order)?),
             Spot::Begun => self.split(directive, 0, steps),
             Spot::Step(made) => self.split(directive, made, steps),
-            Spot::Behind => self.push_up(directive.line, copied(&directive.order)),
+            Spot::Behind => self.push_up(directive.line, copied(alloc, &directive.order)?),
         }
     }
 }

@@ -24,10 +24,11 @@ impl Flat {
         ensures same { OnOk result (vec_len self.new.script ≡ vec_len self.new.lines) }
         ensures count { OnOk result (vec_len self.new.script ≡ vec_len self.old.script + 1) }
     {
+        let alloc = *self.lines.allocator();
         self.lines.push(directive.line)?;
         self.script.push(Directive {
             line: self.lines.len() as u32,
-            order: copied(&directive.order),
+            order: copied(alloc, &directive.order)?,
         })?;
         Ok(())
     }

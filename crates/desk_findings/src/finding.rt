@@ -2,7 +2,7 @@ use desk_places::Span;
 use std::alloc::AllocError;
 
 /// How much a finding counts.
-#[derive(Clone, Copy, Debug)]
+#[derive(Clone, Copy)]
 pub enum Severity {
     /// The bench refuses the file.
     Error,
@@ -21,7 +21,7 @@ impl Severity {
 }
 
 /// What is found at a place of a text.
-#[derive(Debug, Drop)]
+#[derive(Drop)]
 pub struct Finding {
     /// How much it counts.
     pub severity: Severity,

@@ -171,16 +171,21 @@ fn call_of(
     Ok(())
 }
 
+/// What stands for the words of a place, and behind it whether more may follow.
+fn label_of(place: Operand) -> (&'static str, &'static str) {
+    match place {
+        Operand::Number(label, _) | Operand::Name(label, _) => (label, ""),
+        Operand::Several(label, _) => (label, " .."),
+        Operand::Buffer => ("buffer", ""),
+        Operand::Service => ("service", " .."),
+    }
+}
+
 /// How a line is written, from its first word on.
 fn form_of(alloc: Global, name: &str, places: &[Operand]) -> Result<String, AllocError> {
     let mut text = String::from_str(alloc, name)?;
     for place in places {
-        let (label, rest) = match *place {
-            Operand::Number(label, _) | Operand::Name(label, _) => (label, ""),
-            Operand::Several(label, _) => (label, " .."),
-            Operand::Buffer => ("buffer", ""),
-            Operand::Service => ("service", " .."),
-        };
+        let (label, rest) = label_of(*place);
         write!(text, " <{label}>{rest}")?;
     }
     Ok(text)

@@ -18,4 +18,5 @@ mod values;
 mod verdicts;
 
 pub use linted::{Lint, lint_file};
+pub use separator::script_line;
 pub use verdicts::{Verdict, verdict_on};

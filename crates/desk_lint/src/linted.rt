@@ -3,6 +3,7 @@ ghost use Rattle.desk_lint.specs.WellFormed as spec;
 
 use crate::config::ConfigPass;
 use crate::found::{Found, finding};
+use crate::objects::Objects;
 use crate::rules::told;
 use crate::script::script_pass;
 use crate::separator::{no_separator, script_line};
@@ -110,31 +111,39 @@ fn config_of(verdict: &Verdict) -> Option<&Config> {
     }
 }
 
-/// Looks through a file, by what the readers say of it.
-fn looked_through(alloc: Global, bytes: &[u8], verdict: &Verdict) -> Result<Found, AllocError> {
+/// Looks through a file in which the readers of the bench found this fault of the configuration, if any, or read this one.
+fn looked_through<C: Objects>(
+    alloc: Global,
+    bytes: &[u8],
+    fault: Option<ConfigFault>,
+    config: Option<&C>,
+) -> Result<Found, AllocError> {
     let mut found = Found::new(alloc);
-    if matches!(verdict, Verdict::TooLong) {
-        found
-            .errors
-            .push(refused(alloc, "more than 1048576 bytes")?)?;
-        return Ok(found);
-    }
     let lines = Lines::of(alloc, bytes)?;
-    let script = script_line(&lines);
-    match script {
-        Some(line) => {
-            let end = lines.start_of(line);
-            config_pass(
-                &mut found,
-                bytes.get(..end).unwrap_or(&[]),
-                config_fault(verdict),
-            )?;
-            let first = line.saturating_add(1);
-            script_pass(&mut found, &lines, first, config_of(verdict))?;
-        }
-        None => no_separator(&mut found, &lines)?,
-    }
+    let Some(line) = script_line(&lines) else {
+        no_separator(&mut found, &lines)?;
+        return Ok(found);
+    };
+    let front = bytes.get(..lines.start_of(line)).unwrap_or(&[]);
+    config_pass(&mut found, front, fault)?;
+    script_pass(&mut found, &lines, line.saturating_add(1), config)?;
     Ok(found)
+}
+
+/// What is found in a file that has too many bytes.
+fn too_long(alloc: Global) -> Result<Found, AllocError> {
+    let mut found = Found::new(alloc);
+    let error = refused(alloc, "more than 1048576 bytes")?;
+    found.errors.push(error)?;
+    Ok(found)
+}
+
+/// What is found in a file, by what the readers of the bench say of it.
+fn found_in(alloc: Global, bytes: &[u8], verdict: &Verdict) -> Result<Found, AllocError> {
+    match verdict {
+        Verdict::TooLong => too_long(alloc),
+        _ => looked_through(alloc, bytes, config_fault(verdict), config_of(verdict)),
+    }
 }
 
 /// Looks through a bench file for all that its readers refuse, and for what they take without a word. There is no error
@@ -143,7 +152,7 @@ pub fn lint_file(alloc: Global, bytes: &[u8]) -> Result<Lint, AllocError>
     ensures { IfOk result (λ l. (vec_len l.errors == 0) ≡ spec.is_well_formed bytes.now) }
 {
     let verdict = verdict_on(alloc, bytes)?;
-    let found = looked_through(alloc, bytes, &verdict)?;
+    let found = found_in(alloc, bytes, &verdict)?;
     let warnings = sorted(found.warnings)?;
     if let Verdict::Sound(_) = verdict {
         return Ok(Lint {

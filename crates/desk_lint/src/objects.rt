@@ -23,25 +23,44 @@ pub(crate) enum Object {
     ChannelGroup,
 }
 
+/// The name of an argument, and the object that it is the number of.
+struct ArgumentRow(&'static str, Object);
+
+/// The arguments of a module's services that are numbers of objects.
+fn arguments_of(module: ModuleName) -> &'static [ArgumentRow] {
+    match module {
+        ModuleName::Mcu => &[
+            ArgumentRow("setting", Object::ClockSetting),
+            ArgumentRow("mode", Object::ClockMode),
+            ArgumentRow("section", Object::RamSection),
+        ],
+        ModuleName::Port => &[ArgumentRow("pin", Object::Pin)],
+        ModuleName::Gpt => &[ArgumentRow("channel", Object::Timer)],
+        ModuleName::Pwm => &[ArgumentRow("channel", Object::PulseOutput)],
+        ModuleName::Icu => &[ArgumentRow("channel", Object::CaptureInput)],
+        ModuleName::Adc => &[ArgumentRow("group", Object::ConverterGroup)],
+        ModuleName::Spi => &[
+            ArgumentRow("channel", Object::SerialChannel),
+            ArgumentRow("job", Object::SerialJob),
+            ArgumentRow("sequence", Object::SerialSequence),
+        ],
+        ModuleName::Wdg => &[],
+        ModuleName::Dio => &[
+            ArgumentRow("channel", Object::Channel),
+            ArgumentRow("port", Object::Port),
+            ArgumentRow("group", Object::ChannelGroup),
+        ],
+    }
+}
+
 /// The object that an argument of this name is the number of.
 pub(crate) fn object_of(service: Service, name: &str) -> Option<Object> {
-    match (service.module(), name) {
-        (ModuleName::Mcu, "setting") => Some(Object::ClockSetting),
-        (ModuleName::Mcu, "mode") => Some(Object::ClockMode),
-        (ModuleName::Mcu, "section") => Some(Object::RamSection),
-        (ModuleName::Port, "pin") => Some(Object::Pin),
-        (ModuleName::Gpt, "channel") => Some(Object::Timer),
-        (ModuleName::Pwm, "channel") => Some(Object::PulseOutput),
-        (ModuleName::Icu, "channel") => Some(Object::CaptureInput),
-        (ModuleName::Adc, "group") => Some(Object::ConverterGroup),
-        (ModuleName::Spi, "channel") => Some(Object::SerialChannel),
-        (ModuleName::Spi, "job") => Some(Object::SerialJob),
-        (ModuleName::Spi, "sequence") => Some(Object::SerialSequence),
-        (ModuleName::Dio, "channel") => Some(Object::Channel),
-        (ModuleName::Dio, "port") => Some(Object::Port),
-        (ModuleName::Dio, "group") => Some(Object::ChannelGroup),
-        _ => None,
+    for ArgumentRow(argument, object) in arguments_of(service.module()) {
+        if *argument == name {
+            return Some(*object);
+        }
     }
+    None
 }
 
 impl Object {
@@ -85,25 +104,6 @@ impl Object {
         }
     }
 
-    /// Whether a configuration has the one with this number. A port is there where one of its eight pins is.
-    pub(crate) fn is_in(self, config: &Config, number: u32) -> bool {
-        match self {
-            Object::ClockSetting | Object::ClockMode | Object::RamSection => {
-                self.is_in_clock(&config.mcu, number)
-            }
-            Object::Pin | Object::Channel => has(config.port.pins.as_slice(), number),
-            Object::Port => has_port(config.port.pins.as_slice(), number),
-            Object::ChannelGroup => has(config.dio.groups.as_slice(), number),
-            Object::Timer => has(config.gpt.channels.as_slice(), number),
-            Object::PulseOutput => has(config.pwm.channels.as_slice(), number),
-            Object::CaptureInput => has(config.icu.channels.as_slice(), number),
-            Object::ConverterGroup => has(config.adc.groups.as_slice(), number),
-            Object::SerialChannel | Object::SerialJob | Object::SerialSequence => {
-                self.is_in_serial(&config.spi, number)
-            }
-        }
-    }
-
     /// Whether the clock has the one with this number.
     fn is_in_clock(self, clock: &McuConfig, number: u32) -> bool {
         match self {
@@ -119,6 +119,33 @@ impl Object {
             Object::SerialChannel => has(serial.channels.as_slice(), number),
             Object::SerialJob => has(serial.jobs.as_slice(), number),
             _ => has(serial.sequences.as_slice(), number),
+        }
+    }
+}
+
+/// What knows which objects a script may name.
+pub(crate) trait Objects {
+    /// Whether there is one of a kind with this number.
+    fn has(&self, object: Object, number: u32) -> bool;
+}
+
+impl Objects for Config {
+    /// Whether it is configured. A port is there where one of its eight pins is.
+    fn has(&self, object: Object, number: u32) -> bool {
+        match object {
+            Object::ClockSetting | Object::ClockMode | Object::RamSection => {
+                object.is_in_clock(&self.mcu, number)
+            }
+            Object::Pin | Object::Channel => has(self.port.pins.as_slice(), number),
+            Object::Port => has_port(self.port.pins.as_slice(), number),
+            Object::ChannelGroup => has(self.dio.groups.as_slice(), number),
+            Object::Timer => has(self.gpt.channels.as_slice(), number),
+            Object::PulseOutput => has(self.pwm.channels.as_slice(), number),
+            Object::CaptureInput => has(self.icu.channels.as_slice(), number),
+            Object::ConverterGroup => has(self.adc.groups.as_slice(), number),
+            Object::SerialChannel | Object::SerialJob | Object::SerialSequence => {
+                object.is_in_serial(&self.spi, number)
+            }
         }
     }
 }

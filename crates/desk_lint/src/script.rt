@@ -1,22 +1,22 @@
 use crate::explained::{explain, service_of};
 use crate::found::Found;
-use crate::objects::{Object, object_of};
+use crate::objects::{Object, Objects, object_of};
 use crate::split::{before_comment, words_of};
 use bench_script::{ScriptFault, read_script};
-use desk_places::Lines;
+use desk_places::{Lines, Span};
 use desk_tables::{Operand, ServiceRow};
-use mcal_base::{Argument, Config, Directive, Order, Request};
-use std::alloc::AllocError;
+use mcal_base::{Argument, Directive, Order, Request};
+use std::alloc::{AllocError, Global};
 
 /// The most directives of a script.
 const MOST_DIRECTIVES: usize = 50_000;
 
 /// Looks through the lines of a file from one on: each that the reader of scripts refuses is explained.
-pub(crate) fn script_pass(
+pub(crate) fn script_pass<C: Objects>(
     found: &mut Found,
     lines: &Lines<'_>,
     first: usize,
-    config: Option<&Config>,
+    config: Option<&C>,
 ) -> Result<(), AllocError> {
     let mut directives = 0usize;
     for number in first..lines.count().saturating_add(1) {
@@ -30,11 +30,11 @@ pub(crate) fn script_pass(
 }
 
 /// Looks at a line, and tells how many directives it has, one that is refused among them.
-fn look_at_line(
+fn look_at_line<C: Objects>(
     found: &mut Found,
     lines: &Lines<'_>,
     number: usize,
-    config: Option<&Config>,
+    config: Option<&C>,
 ) -> Result<usize, AllocError> {
     let line = lines.line(number);
     if line.len() > 1_000_000 {
@@ -76,12 +76,12 @@ fn is_meant(line: &[u8]) -> bool {
 }
 
 /// Looks at a directive that is right, for what may not be meant.
-fn look_at(
+fn look_at<C: Objects>(
     found: &mut Found,
     lines: &Lines<'_>,
     number: usize,
     directive: &Directive,
-    config: Option<&Config>,
+    config: Option<&C>,
 ) -> Result<(), AllocError> {
     if is_meant(lines.line(number)) {
         return Ok(());
@@ -95,12 +95,12 @@ fn look_at(
 }
 
 /// Looks at the numbers of a request for objects that aren't configured.
-fn look_at_request(
+fn look_at_request<C: Objects>(
     found: &mut Found,
     lines: &Lines<'_>,
     number: usize,
     request: &Request,
-    config: &Config,
+    config: &C,
 ) -> Result<(), AllocError> {
     let Some(ServiceRow(service, places)) = service_of(request.service.text()) else {
         return Ok(());
@@ -110,12 +110,21 @@ fn look_at_request(
             continue;
         };
         if let Some(object) = object_of(service, label) {
-            if !object.is_in(config, *id) {
+            if !config.has(object, *id) {
                 not_configured(found, lines, number, object, *id)?;
             }
         }
     }
     Ok(())
+}
+
+/// Where the first argument of a call in a line stands.
+fn first_argument(alloc: Global, lines: &Lines<'_>, number: usize) -> Result<Span, AllocError> {
+    let words = words_of(alloc, lines.line(number), lines.start_of(number))?;
+    match words.get(3) {
+        Some(word) => Ok(word.span),
+        None => Ok(lines.span_of(number)),
+    }
 }
 
 /// Says that an object isn't configured.
@@ -126,11 +135,7 @@ fn not_configured(
     object: Object,
     id: u32,
 ) -> Result<(), AllocError> {
-    let words = words_of(found.alloc, lines.line(number), lines.start_of(number))?;
-    let span = match words.get(3) {
-        Some(word) => word.span,
-        None => lines.span_of(number),
-    };
+    let span = first_argument(found.alloc, lines, number)?;
     let text = object.text();
     let error = object.error();
     found.warning(

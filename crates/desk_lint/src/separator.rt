@@ -7,8 +7,8 @@ use std::alloc::AllocError;
 /// The line that stands between configuration and script.
 const SEPARATOR: &[u8] = b"---";
 
-/// The number of the first line that is the separator.
-pub(crate) fn script_line(lines: &Lines<'_>) -> Option<usize> {
+/// The number of the first line that is the separator between configuration and script, from 1; `None` where there is none.
+pub fn script_line(lines: &Lines<'_>) -> Option<usize> {
     for number in 1..lines.count().saturating_add(1) {
         if lines.line(number) == SEPARATOR {
             return Some(number);

@@ -1,7 +1,7 @@
 use std::alloc::{AllocError, Global};
 
 /// A part of a text: from this byte on, up to before that one.
-#[derive(Clone, Copy, Debug)]
+#[derive(Clone, Copy)]
 pub struct Span {
     /// Its first byte.
     pub start: usize,
@@ -10,7 +10,7 @@ pub struct Span {
 }
 
 /// A place as a person counts it.
-#[derive(Clone, Copy, Debug)]
+#[derive(Clone, Copy)]
 pub struct Position {
     /// The line, from 1.
     pub line: usize,
@@ -28,7 +28,13 @@ pub struct Lines<'a> {
 
 /// How many characters some bytes are.
 pub fn characters(bytes: &[u8]) -> usize {
-    bytes.iter().filter(|byte| **byte & 0xC0 != 0x80).count()
+    let mut count = 0usize;
+    for byte in bytes {
+        if *byte & 0xC0 != 0x80 {
+            count = count.saturating_add(1);
+        }
+    }
+    count
 }
 
 impl<'a> Lines<'a> {

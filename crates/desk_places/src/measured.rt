@@ -1,30 +1,36 @@
-/// How many bytes at the front stand between words of a line.
-pub(crate) fn spaces(bytes: &[u8]) -> usize {
-    bytes
-        .iter()
-        .take_while(|byte| matches!(**byte, b' ' | b'\t'))
-        .count()
+/// Bytes that may follow each other at the front of a text.
+#[derive(Clone, Copy)]
+pub(crate) enum Signs {
+    /// What stands between words of a line.
+    Spaces,
+    /// What stands between values: spaces and ends of lines.
+    Blanks,
+    /// A key without quotes.
+    BareKey,
+    /// All up to the end of the line.
+    Line,
 }
 
-/// How many bytes at the front stand between values: spaces and ends of lines.
-pub(crate) fn blanks(bytes: &[u8]) -> usize {
-    bytes
-        .iter()
-        .take_while(|byte| matches!(**byte, b' ' | b'\t' | b'\n' | b'\r'))
-        .count()
-}
+impl Signs {
+    /// Whether a byte is one of them.
+    fn has(self, byte: u8) -> bool {
+        match self {
+            Signs::Spaces => matches!(byte, b' ' | b'\t'),
+            Signs::Blanks => matches!(byte, b' ' | b'\t' | b'\n' | b'\r'),
+            Signs::BareKey => byte.is_ascii_alphanumeric() || matches!(byte, b'_' | b'-'),
+            Signs::Line => byte != b'\n',
+        }
+    }
 
-/// How many bytes at the front are a key without quotes.
-pub(crate) fn bare_len(bytes: &[u8]) -> usize {
-    bytes
-        .iter()
-        .take_while(|byte| byte.is_ascii_alphanumeric() || matches!(**byte, b'_' | b'-'))
-        .count()
-}
-
-/// How many bytes at the front stand before the end of the line.
-pub(crate) fn line_len(bytes: &[u8]) -> usize {
-    bytes.iter().take_while(|byte| **byte != b'\n').count()
+    /// How many bytes at the front are such.
+    pub(crate) fn count_in(self, bytes: &[u8]) -> usize {
+        for (place, byte) in bytes.iter().enumerate() {
+            if !self.has(*byte) {
+                return place;
+            }
+        }
+        bytes.len()
+    }
 }
 
 /// How many bytes at the front are a value without quotes, spaces at its end left out.

@@ -2,7 +2,7 @@ use crate::lines::Span;
 use std::alloc::AllocError;
 
 /// Where a key or an item of a configuration stands.
-#[derive(Debug, Drop)]
+#[derive(Drop)]
 pub struct Placed {
     /// The keys, and the numbers of items from 0, that lead there, joined by points, as `Spi.SpiJob.0.SpiChannelList.1`.
     pub path: String,

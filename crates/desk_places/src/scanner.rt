@@ -1,5 +1,5 @@
 use crate::lines::Span;
-use crate::measured::{bare_len, blanks, line_len, plain_len, quoted_len, spaces};
+use crate::measured::{Signs, plain_len, quoted_len};
 use crate::placed::Placed;
 use std::alloc::{AllocError, Global};
 use std::str;
@@ -40,6 +40,17 @@ fn joined(alloc: Global, path: &str, part: &str) -> Result<String, AllocError> {
     }
 }
 
+/// How often a path is among some.
+fn count_of(paths: &[String], path: &str) -> usize {
+    let mut count = 0usize;
+    for other in paths {
+        if other.as_str() == path {
+            count = count.saturating_add(1);
+        }
+    }
+    count
+}
+
 impl<'a> Scanner<'a> {
     /// The next byte, if there is one.
     fn byte(&self) -> Option<u8> {
@@ -56,29 +67,20 @@ impl<'a> Scanner<'a> {
         self.at = self.at.saturating_add(bytes);
     }
 
+    /// Goes on behind such bytes.
+    fn skip_all(&mut self, signs: Signs) {
+        self.skip(signs.count_in(self.rest()));
+    }
+
     /// Goes on to the next byte that is no space, no end of a line and in no comment.
     fn skip_blank(&mut self) {
         for _ in 0..self.text.len() {
-            let bytes = blanks(self.rest());
-            self.skip(bytes);
+            self.skip_all(Signs::Blanks);
             if self.byte() != Some(b'#') {
                 return;
             }
-            let bytes = line_len(self.rest());
-            self.skip(bytes);
+            self.skip_all(Signs::Line);
         }
-    }
-
-    /// Goes on behind spaces.
-    fn skip_spaces(&mut self) {
-        let bytes = spaces(self.rest());
-        self.skip(bytes);
-    }
-
-    /// Goes on to the end of the line.
-    fn skip_line(&mut self) {
-        let bytes = line_len(self.rest());
-        self.skip(bytes);
     }
 
     /// The text between two places, empty where it is none.
@@ -95,7 +97,7 @@ impl<'a> Scanner<'a> {
             let end = self.at.saturating_sub(1);
             self.text_between(start.saturating_add(1), end)
         } else {
-            let bytes = bare_len(self.rest());
+            let bytes = Signs::BareKey.count_in(self.rest());
             self.skip(bytes.max(1));
             self.text_between(start, start.saturating_add(bytes))
         }
@@ -110,12 +112,12 @@ impl<'a> Scanner<'a> {
             let part = self.key_part();
             path = joined(self.alloc, path.as_str(), part)?;
             end = self.at;
-            self.skip_spaces();
+            self.skip_all(Signs::Spaces);
             if self.byte() != Some(b'.') {
                 break;
             }
             self.skip(1);
-            self.skip_spaces();
+            self.skip_all(Signs::Spaces);
         }
         Ok((path, Span { start, end }))
     }
@@ -129,11 +131,7 @@ impl<'a> Scanner<'a> {
 
     /// The path of one more element of an array of tables, whose header names the array.
     fn next_of(&mut self, path: String, key: Span) -> Result<String, AllocError> {
-        let before = self
-            .headers
-            .iter()
-            .filter(|header| header.as_str() == path.as_str())
-            .count();
+        let before = count_of(&self.headers, path.as_str());
         if before == 0 {
             self.keep(path.as_str(), key, key)?;
         }
@@ -146,9 +144,9 @@ impl<'a> Scanner<'a> {
     fn header(&mut self) -> Result<(), AllocError> {
         let is_element = self.rest().starts_with(b"[[");
         self.skip(if is_element { 2 } else { 1 });
-        self.skip_spaces();
+        self.skip_all(Signs::Spaces);
         let (mut path, key) = self.key("")?;
-        self.skip_line();
+        self.skip_all(Signs::Line);
         if is_element {
             path = self.next_of(path, key)?;
         }
@@ -210,7 +208,7 @@ impl<'a> Scanner<'a> {
             return Ok(());
         }
         self.skip(1);
-        self.skip_spaces();
+        self.skip_all(Signs::Spaces);
         self.value(path.as_str(), Some(key))
     }
 

@@ -1,21 +1,17 @@
 use crate::running::run_bench;
 use crate::told::Told;
+use desk_lint::script_line;
 use desk_places::Lines;
 use desk_reports::{Listing, listed, report_lines};
 use std::alloc::{AllocError, Global};
 use std::str;
 
-/// The line that stands between configuration and script.
-const SEPARATOR: &[u8] = b"---";
-
-/// The number of the first line of the script.
+/// The number of the first line of the script, which is behind the file's last line where the separator is that one.
 fn first_line(lines: &Lines<'_>) -> usize {
-    for number in 1..lines.count() {
-        if lines.line(number) == SEPARATOR {
-            return number.saturating_add(1);
-        }
+    match script_line(lines) {
+        Some(number) => number.saturating_add(1),
+        None => 1,
     }
-    1
 }
 
 /// The lines of a file from one on, without an empty one at its end.

@@ -23,11 +23,11 @@ use Rattle.bench_report.specs.declared.frames.Purpose.{Purpose}
 use Rattle.live_board.specs.Lives.{GoesOn, LiveRun, held_by, is_outside}
 use Rattle.live_board.specs.declared.outside.Refusal.{Refusal}
 use Rattle.live_board.specs.declared.outside.Refusal.TheVariants as refusals
-use Rattle.live_session.specs.Answers.{Answers, As_asked, As_far, IsObeyed, Of_words, moment_at}
+use Rattle.live_session.specs.Answers.{Answers, As_asked, IsObeyed, Of_words, moment_at}
 use Rattle.live_session.specs.Pages.{Page, say, say_all}
 use Rattle.live_session.specs.Steps.{refusal_told}
 use Rattle.live_session.proofs.Agreeing.{depth_at, is_one}
-use Rattle.live_session.proofs.Asked.{on_ok, on_ok_alone, one_item, spent_here}
+use Rattle.live_session.proofs.Asked.{on_ok, on_ok_alone, one_item, spent_told}
 
 -- the orders that move the hardware: those of the outside, and the drop of a device
 abbrev pub is_moving : Order → Bool
@@ -96,10 +96,14 @@ module _ {M State Call Frame : Type 0} (d : Driver State Call Frame) (call_of : 
       (λ first h e. gives_held d.setting call_of (moment_at d first h) line order cause _ moving (held first h e.stands) (is_one d first a h e line (Stays cause)))
       refl page
 
+  -- as it is told
+  pub held_told : {R E : Type 0} (x : Result R E) (cause : Held) → ((first : Chip) (h : List (Transition Call)) → Stands d first a.chip a.kept.frames h → hardware_held d.setting (moment_at d first h) order ≡ Some cause) → b ≡ a → OnOk x (p1 ≡ say p (Holds cause)) → OnOk x (IsObeyed d call_of false order a b f f p p1 (λ m items. Gives d.setting call_of m line order items))
+  held_told x cause held same page = on_ok_alone x (λ told. As_asked (stayed cause held same told)) page
+
   -- as it is told that it was refused
   pub refused_told : {R E : Type 0} (A : Type 0) (x : Result R E) (refusal : Refusal) → ((first : Chip) (h : List (Transition Call)) → Stands d first a.chip a.kept.frames h → hardware_held d.setting (moment_at d first h) order ≡ held_by {A = A} (Err refusal)) → (refusal ≡ refusals.Spent → a.room < words_by order) → b ≡ a → OnOk x (p1 ≡ refusal_told p refusal) → OnOk x (IsObeyed d call_of false order a b f f p p1 (λ m items. Gives d.setting call_of m line order items))
-  refused_told A x (refusals.Held cause) held spent same page = on_ok_alone x (λ told. As_asked (stayed cause held same told)) page
-  refused_told A x refusals.Spent held spent same page = on_ok_alone x (λ told. As_far (spent_here d call_of order false a b f p p1 same (Of_words (spent refl)) told)) page
+  refused_told A x (refusals.Held cause) held spent same page = held_told x cause held same page
+  refused_told A x refusals.Spent held spent same page = spent_told d call_of order x line a b f p p1 same (Of_words (spent refl)) page
 
 gives_reset : {State Call : Type 0} (g : Setting State Call) (call_of : Request → Call) (m : Moment State Call) (line : ℕ) (reason : Reason) (items : List Entry) → reason ≢ Software → IsOne m line (Resets reason (length m.opens)) items → Gives g call_of m line (orders.Reset reason) items
 gives_reset g call_of m line PowerOn items h one = one

@@ -1,5 +1,5 @@
-use crate::answer::Words;
 use crate::argument_name::ArgumentName;
+use crate::boxed_words::BoxedWords;
 use crate::service::Service;
 use crate::short::Short;
 
@@ -90,13 +90,13 @@ pub enum Order {
     /// A pulse on a trigger input, 0 to 3.
     Trigger(u32),
     /// Words that come in next on a serial unit.
-    Miso(u32, Words),
+    Miso(u32, BoxedWords),
     /// The word in transfer on a serial unit will end as failed.
     SpiFault(u32),
     /// Drops the last device of the rack.
     Detach,
     /// The first places of a channel's source array.
-    Fill(u32, Words),
+    Fill(u32, BoxedWords),
     /// Resets the chip.
     Reset(Reason),
     /// Prints.

@@ -6,6 +6,7 @@ mod answer;
 mod answer_name;
 mod argument_name;
 mod bits;
+mod boxed_words;
 mod config;
 mod directive;
 mod ends;
@@ -26,6 +27,7 @@ pub use answer::{Answer, Head, Words};
 pub use answer_name::AnswerName;
 pub use argument_name::ArgumentName;
 pub use bits::is_set;
+pub use boxed_words::BoxedWords;
 pub use config::adc::{
     AdcAccessMode, AdcConfig, AdcConversionMode, AdcGroup, AdcGroupReplacement, AdcHwUnit,
     AdcPriorityImplementation, AdcStreamBufferMode, AdcTriggerSource,

@@ -32,7 +32,7 @@ use Rattle.adc_groups.specs.laws.services.LookSteps.{adc_looked, any_ends}
 use Rattle.spi_driver.specs.laws.bookkeeping.Joined.{joined, joined_lawful}
 use Rattle.spi_sequences.specs.declared.words.TheConstants as serial_words
 use Rattle.spi_sequences.specs.laws.services.Bodies.{spi_ends}
-use Rattle.spi_sequences.specs.laws.services.LookSteps.{spi_looked}
+use Rattle.spi_sequences.specs.laws.services.Bodies.{spi_looked}
 use Rattle.mcal_drivers.specs.Drivers.{host, as_one}
 use Rattle.mcal_drivers.specs.Frames.{HostFrame, SystemFrame}
 use Rattle.mcal_drivers.specs.Setting.{SystemState, SystemCall, host_pins, ports_of}

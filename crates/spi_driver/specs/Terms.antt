@@ -9,7 +9,7 @@ pub use Rattle.std.proofs.lemmas.List.Concat.{flat_map-cons}
 pub use Rattle.std.proofs.lemmas.List.Elements.{Contains-get_or}
 pub use Rattle.std.proofs.lemmas.List.Sums.{count_by-le-length, sum_by-cons, sum_by-le}
 pub use Rattle.std.specs.List.{enumerate_from, list_all, list_any}
-pub use Rattle.mcal_base.specs.facts.{Numbers.{lt_from}, Options.{some_is}, Truths.{and_false, and_first}}
+pub use Rattle.mcal_base.specs.facts.{Numbers.{lt_from, lt_since}, Options.{some_is}, Truths.{and_false, and_first}}
 pub use Rattle.mcal_base.specs.{Bits.{has_bit}, Layout.{is_within, start_of, words_of}, declared.TheConstants.{WORDS}}
 pub use Rattle.mcal_base.specs.{declared.answer.Answer.{Answer}, declared.answer_name.AnswerName.TheVariants.{ENotOk}}
 pub use Rattle.mcal_base.specs.{declared.answer_name.AnswerName.TheVariants.{EOk, SpiUninit}}
@@ -19,22 +19,22 @@ pub use Rattle.mcal_base.specs.{declared.directive.Order.{Order}, declared.error
 pub use Rattle.mcal_base.specs.{declared.error_name.ErrorName.TheVariants.{SpiParamSeq, SpiSeqPending}}
 pub use Rattle.mcal_base.specs.{declared.layout.Array.TheVariants.{Destination, Source}}
 pub use Rattle.mcal_base.specs.{declared.module_name.ModuleName.TheVariants.{Spi}, declared.moves.Event.{Event}}
-pub use Rattle.mcal_base.specs.{declared.moves.Event.TheVariants.{Abort, Act, Serve, Start}, declared.moves.Move.{Move}}
+pub use Rattle.mcal_base.specs.{declared.moves.Event.TheVariants.{Act}, declared.moves.Move.{Move}}
 pub use Rattle.mcal_base.specs.{declared.moves.Move.TheVariants.{Load, Mask, Note, Read, Report, Store, Unmask, Write}}
 pub use Rattle.mcal_base.specs.{declared.moves.Unit.TheVariants.{Adc0, Adc1, Spi0, Spi1}}
 pub use Rattle.mcal_base.specs.{declared.notice.Notice.{Notice}}
 pub use Rattle.mcal_base.specs.{declared.notice.NoticeKind.TheVariants.{SpiJobEndNotification, SpiSeqEndNotification}}
-pub use Rattle.mcal_base.specs.{declared.register.Reg.{Reg}, declared.register.Reg.TheVariants.{CaptureCountHigh}}
-pub use Rattle.mcal_base.specs.{declared.register.Reg.TheVariants.{CaptureTimeHigh, EnableClear, EnableSet}}
-pub use Rattle.mcal_base.specs.{declared.register.Reg.TheVariants.{PulseCommit, PulseIdle, SerialAck, SerialData}}
-pub use Rattle.mcal_base.specs.{declared.register.Reg.TheVariants.{SerialReceived, SerialSelect, SerialState, SerialWait}}
-pub use Rattle.mcal_base.specs.{declared.register.Reg.TheVariants.{SerialWidth, TimerHigh}}
+pub use Rattle.mcal_base.specs.{declared.register.Reg.{Reg}}
+pub use Rattle.mcal_base.specs.{declared.register.Reg.TheVariants.{EnableClear, EnableSet}}
+pub use Rattle.mcal_base.specs.{declared.register.Reg.TheVariants.{PulseCommit}}
+pub use Rattle.mcal_base.specs.{declared.register.Reg.TheVariants.{SerialSelect, SerialWait}}
+pub use Rattle.mcal_base.specs.{declared.register.Reg.TheVariants.{TimerHigh}}
 pub use Rattle.mcal_base.specs.There.{names_there}
 pub use Rattle.chip_model.specs.Chip.{Chip, chip_after, happened, is_masked, value_of, word_of}
 pub use Rattle.run_model.specs.{Causes.{blocks}, Frame.{asks_reset, begins_word, Brought, brought_by, Called}}
 pub use Rattle.run_model.specs.{Frame.{caller_of, Entered, happening_at, happening_of, is_shared, missed_after, Open}}
 pub use Rattle.run_model.specs.{Frame.{Origin, outcome_of, Owing, owing, polled_by, resets_chip, served_by, state_by}}
-pub use Rattle.run_model.specs.{Legal.{has_line, is_left_waiting, IsNext, LeavesNone, ReceivedRight}}
+pub use Rattle.run_model.specs.{Legal.{has_line, is_left_waiting, IsNext, LeavesNone}}
 pub use Rattle.run_model.specs.{Legal.{StandsAt, StartsUncalled}, Machine.{no_answer, Outcome, outcome, outcome_with, Serves}}
 pub use Rattle.run_model.specs.{Machine.{Starts, tells_nothing, Told}, World.{World, world_after}}
 pub use Rattle.step_runner.proofs.Whose.{not-unless}
@@ -43,7 +43,7 @@ pub use Rattle.step_runner.specs.Whose.{EnablesOthers, EnablesWithin, is_line_of
 pub use Rattle.step_runner.specs.Whose.{module_of_register, module_of_unit, module_of_word, NamesOthers, NamesWithin}
 pub use Rattle.step_runner.specs.Whose.{only, WritesOthers, WritesWithin}
 pub use Rattle.word_shapes.specs.{Banks.{Banks}, Playing.{Memory}, PriorityQueue.{add_gave, again_gave, drop_gave}}
-pub use Rattle.word_shapes.specs.{PriorityQueue.{front_gave, front_move, next_gave, search_move}}
+pub use Rattle.word_shapes.specs.{PriorityQueue.{front_gave, front_move, search_move}}
 pub use Rattle.word_shapes.specs.{TripleBuffer.{take_gave}, declared.choosing.Front.{Front}}
 pub use Rattle.word_shapes.specs.{declared.search.Search.{Search}}
 pub use Rattle.service_outline.specs.{Acts.{ActsRight, is_quiet, KeepsClean}, Both.{both}}
@@ -59,7 +59,7 @@ pub use Rattle.service_outline.specs.{Services.{CanBegin, Continues, Decides, De
 pub use Rattle.service_outline.specs.{Services.{holds_at, holds_in, is_closed, KeepsMask, Leaves, LongBodies, Looking}}
 pub use Rattle.service_outline.specs.{Services.{MakesTo, mark_of, MayCome, MayStop, Notes, Outside, place_at}}
 pub use Rattle.service_outline.specs.{Services.{PointAssertion, Proceeds, ReservedBy, Right, Services, services_driver}}
-pub use Rattle.service_outline.specs.{Services.{TurnsMask, TurnsTo, with_holds, Within, Works}, Short.{ending_gave}}
+pub use Rattle.service_outline.specs.{Services.{Adding, TurnsMask, with_holds, Within, Works}, Short.{ending_gave}}
 pub use Rattle.service_outline.specs.{Short.{short_left, short_move}, WindowHistory.{is_windowed}}
 pub use Rattle.service_outline.specs.{WindowHistory.{Plain}, declared.body.Looked.{Looked}, declared.body.Or.{Or}}
 pub use Rattle.service_outline.specs.{declared.body.Or.TheVariants.{First, Second}, declared.done.BodyTaken.{BodyTaken}}
@@ -70,7 +70,7 @@ pub use Rattle.service_outline.specs.laws.{Lawful.{services_lawful}, Owing.{not_
 pub use Rattle.service_outline.specs.laws.{Reports.{error_told}, Seen.{waiting_windows}, ShortServices.{plain_makes}}
 pub use Rattle.service_outline.specs.laws.{ShortServices.{plain_turns}, StepKinds.{asks_no, same_line}}
 pub use Rattle.spi_jobs.specs.{Parts.{commit_ends, find_gave, gave, has_ended, keep_ends}}
-pub use Rattle.spi_jobs.specs.{Parts.{prepare_ends, releasing}, Placing.{bank_of, bank_word, control_word}}
+pub use Rattle.spi_jobs.specs.{Parts.{pinning, releasing}, Placing.{bank_of, bank_word, control_word}}
 pub use Rattle.spi_jobs.specs.{Placing.{trio_of}, declared.channel.Channel.{Channel}, declared.channel.Placed.{Placed}}
 pub use Rattle.spi_jobs.specs.{declared.channel.Side.{Side}, declared.channel.Side.TheVariants.{Received, Sent}}
 pub use Rattle.spi_jobs.specs.{declared.finding.Find.{Find}}
@@ -136,23 +136,23 @@ pub use Rattle.spi_sequences.specs.{declared.service.unit.UnitPlace.{UnitPlace},
 pub use Rattle.spi_sequences.specs.{declared.service.whole.WholeBody.{WholeBody}}
 pub use Rattle.spi_sequences.specs.{declared.service.write.WriteBody.{WriteBody}, declared.words.Position.{Position}}
 pub use Rattle.spi_sequences.specs.{declared.words.Running.{Running}, declared.words.TheConstants.{PENDING, STATE}}
-pub use Rattle.spi_sequences.specs.laws.{bookkeeping.ClearedUnit.{clear_over, cleared_of}}
+pub use Rattle.spi_sequences.specs.laws.{words.PendingWords.{clear_over, cleared_of}}
 pub use Rattle.spi_sequences.specs.laws.{bookkeeping.PendingWritesBounds.{basis_right, owed_right}}
 pub use Rattle.spi_sequences.specs.laws.{bookkeeping.RefinementRight.{frame_may, frame_names, plain_move, waits_none}}
-pub use Rattle.spi_sequences.specs.laws.{bookkeeping.SequenceEnded.{get_contained}, hardware.AfterReset.{by_two}}
+pub use Rattle.spi_sequences.specs.laws.{bookkeeping.SequenceEnded.{get_contained}, hardware.StableUnderHardware.{by_two}}
 pub use Rattle.spi_sequences.specs.laws.{hardware.SourceFilled.{any_in}, hardware.StableUnderHardware.{mode_later}}
 pub use Rattle.spi_sequences.specs.laws.{hardware.StableUnderHardware.{pending_later, runs_later}}
 pub use Rattle.spi_sequences.specs.laws.{services.Bodies.{spi_ends, SpiBody, unit_body}}
 pub use Rattle.spi_sequences.specs.laws.{services.CancelRight.{cancel_bodies, cancel_right}}
-pub use Rattle.spi_sequences.specs.laws.{services.InitBounds.{init_within}, services.InitRight.{init_right}}
-pub use Rattle.spi_sequences.specs.laws.{services.InitWords.{init_bodies, IsInit}, services.LookSteps.{begins}}
-pub use Rattle.spi_sequences.specs.laws.{services.LookSteps.{channel_begun, looked_by, query_begun, sequence_begun}}
-pub use Rattle.spi_sequences.specs.laws.{services.LookSteps.{spi_looked}, services.ModuleRight.{call_by, NoneBefore}}
+pub use Rattle.spi_sequences.specs.laws.services.InitRight.{init_right, init_within}
+pub use Rattle.spi_sequences.specs.laws.{services.InitRight.{init_bodies, IsInit}, services.Bodies.{begins}}
+pub use Rattle.spi_sequences.specs.laws.{services.Bodies.{channel_begun, looked_by, query_begun, sequence_begun}}
+pub use Rattle.spi_sequences.specs.laws.{services.Bodies.{spi_looked}, services.ModuleRight.{call_by, NoneBefore}}
 pub use Rattle.spi_sequences.specs.laws.{services.ModuleRight.{whole_bodies, whole_right}}
 pub use Rattle.spi_sequences.specs.laws.{services.QueryRight.{asks_none, may_first, query_bodies, query_right}}
 pub use Rattle.spi_sequences.specs.laws.{services.ReadRight.{read_bodies, read_right}}
-pub use Rattle.spi_sequences.specs.laws.{services.RequestRight.{accepted_owes}, services.RequestSteps.{request_adds}}
-pub use Rattle.spi_sequences.specs.laws.{services.RequestSteps.{request_looked, request_takes}}
+pub use Rattle.spi_sequences.specs.laws.{services.RequestRight.{accepted_owes}, services.UnitSteps.{request_adds}}
+pub use Rattle.spi_sequences.specs.laws.{services.UnitSteps.{request_looked, request_takes}}
 pub use Rattle.spi_sequences.specs.laws.{services.ServeSteps.{begins_by, begins_of, channel_next, channel_served}}
 pub use Rattle.spi_sequences.specs.laws.{services.ServeSteps.{commit_by, commit_last, ends_of, first_internal}}
 pub use Rattle.spi_sequences.specs.laws.{services.ServeSteps.{first_pinned, further_of, goes_on, is_last_place}}
@@ -161,15 +161,14 @@ pub use Rattle.spi_sequences.specs.laws.{services.ServeSteps.{sequence_note, ser
 pub use Rattle.spi_sequences.specs.laws.{services.ServeSteps.{serve_finds, serve_keeps, serve_keeps_last, serve_lets}}
 pub use Rattle.spi_sequences.specs.laws.{services.ServeSteps.{serve_move, serve_releases, serve_run, serve_takes}}
 pub use Rattle.spi_sequences.specs.laws.{services.SetUpRight.{may_store, set_up_bodies, set_up_right}}
-pub use Rattle.spi_sequences.specs.laws.{services.StartSteps.{prepare_at, prepare_by, prepared, start_chooses}}
 pub use Rattle.spi_sequences.specs.laws.{services.StartSteps.{start_finds, start_found, start_looks, start_move}}
-pub use Rattle.spi_sequences.specs.laws.{services.StartSteps.{start_prepares, start_releases, start_takes, unit_named}}
+pub use Rattle.spi_sequences.specs.laws.{services.StartSteps.{start_takes, unit_named}}
 pub use Rattle.spi_sequences.specs.laws.{services.UnitSteps.{after_request, after_serve, after_start, held_by, opened}}
 pub use Rattle.spi_sequences.specs.laws.{services.UnitSteps.{passes, requested_by, rest_after, told_first, told_next}}
 pub use Rattle.spi_sequences.specs.laws.{services.UnitSteps.{unit_move, unit_over, unit_takes, unit_work}}
 pub use Rattle.spi_sequences.specs.laws.{services.WriteRight.{first-at, write_bodies, write_right}}
 pub use Rattle.spi_sequences.specs.laws.{words.ConfigurationFits.{job_row, rows, sequence_row, so_at, some_of}}
-pub use Rattle.spi_sequences.specs.laws.words.ListTests.{last_below}
+pub use Rattle.spi_sequences.specs.laws.words.JobPlaces.{last_below}
 pub use Rattle.spi_sequences.specs.laws.{words.JobPlaces.{listed, number_there, place_found, place_missing, unit_few}}
 pub use Rattle.spi_sequences.specs.laws.{words.PendingWords.{holds_back, holds_changed, HoldsLike}}
 pub use Rattle.spi_sequences.specs.laws.{words.SideWords.{trio_fits}, words.WordsOfModule.{has_channel, in_list}}
@@ -186,25 +185,26 @@ pub use Rattle.spi_machine.specs.{Wiring.{is_sync_sequence}, declared.call.Seque
 pub use Rattle.spi_sequences.specs.{PendingWrites.{Sends, sync_owed}, Refinement.{all_of, entry_carried, Sending}}
 pub use Rattle.spi_sequences.specs.{declared.service.sync.SyncBody.{SyncBody}}
 pub use Rattle.spi_sequences.specs.laws.{bookkeeping.RefinementRight.{none_served}, services.CancelRight.{found_none}}
-pub use Rattle.spi_sequences.specs.laws.{services.LookSteps.{cancel_begun, first_served}}
-pub use Rattle.spi_sequences.specs.laws.{services.SyncSteps.{sync_begins}, services.UnitSteps.{main_over, unit_acts}}
-pub use Rattle.spi_sequences.specs.laws.{words.AllSequences.{all_carried, all_cases, all_pending, none_under_way}}
-pub use Rattle.spi_sequences.specs.laws.{words.AllSequences.{shares_unit}, words.WordsToState.{pending_alone}}
+pub use Rattle.spi_sequences.specs.laws.{services.Bodies.{cancel_begun, first_served}}
+pub use Rattle.spi_sequences.specs.laws.services.UnitSteps.{main_over, unit_acts}
+pub use Rattle.spi_sequences.specs.laws.{words.JobPlaces.{all_carried, all_cases, all_pending, none_under_way}}
+pub use Rattle.spi_sequences.specs.laws.{words.JobPlaces.{shares_unit}, words.WordsToState.{pending_alone}}
 pub use Rattle.spi_sequences.specs.laws.{words.WordsToState.{pending_word}}
-pub use Rattle.spi_sequences.specs.laws.words.Cases.{whether, whether_as}
+pub use Rattle.spi_sequences.specs.laws.words.Cases.{cases, whether, whether_as}
 pub use Rattle.spi_machine.specs.State.{carries_channel}
 pub use Rattle.spi_starting.specs.Starting.{start_left, start_place}
 pub use Rattle.spi_starting.specs.laws.bookkeeping.RanState.{debt_of}
-pub use Rattle.spi_starting.specs.laws.services.StartAround.{none_owed, owed_left_is, start_calm, start_later}
-pub use Rattle.spi_starting.specs.laws.services.StartAround.{start_may, start_shorter}
-pub use Rattle.spi_starting.specs.laws.services.StartRight.{start_right, StartBegins}
+pub use Rattle.spi_starting.specs.laws.services.StartAround.{Fewer as StartLess, none_owed, NotStart, owed_left_is}
+pub use Rattle.spi_starting.specs.laws.services.StartAround.{start_calm, start_later, start_may, start_shorter}
+pub use Rattle.spi_starting.specs.laws.services.StartRight.{start_right, StartBegins, StartLeaves}
 pub use Rattle.spi_serving.specs.Serving.{notices_by, serve_ahead, serve_fuel, serve_place, serve_room}
-pub use Rattle.spi_serving.specs.laws.{bookkeeping.LastWordFits.{place_fits}, services.ServeAround.{NotServing}}
+pub use Rattle.spi_serving.specs.laws.{services.ServeBounds.{place_fits}, services.ServeAround.{NotServing}}
 pub use Rattle.spi_serving.specs.laws.{services.ServeAround.{serve_calm, serve_later}}
-pub use Rattle.spi_serving.specs.laws.services.ServeBounds.{Fewer as ServeLess, less_fuel, less_room}
-pub use Rattle.spi_serving.specs.laws.{services.ServeMoves.{serve_may}}
-pub use Rattle.spi_serving.specs.laws.{services.ServeRight.{ServeHappens, ServeOwes, steps_right}}
+pub use Rattle.spi_serving.specs.laws.services.ServeBounds.{Fewer as ServeLess, fuel_at as serve_fuel_at, less_fuel, less_room}
+pub use Rattle.spi_serving.specs.laws.{services.ServeBounds.{room_at as serve_room_at}, services.ServeMoves.{serve_may}}
+pub use Rattle.spi_serving.specs.laws.{services.ServeRight.{Leaves as ServeLeaves, ServeHappens, ServeOwes, steps_right}}
 pub use Rattle.spi_sending.specs.Sending.{about_sent, SendAbout, SendAhead, ToEnd, ToWait}
 pub use Rattle.spi_sending.specs.Sending.{StandsAbout, StandsAhead, sync_bodies, sync_spot, sync_windows}
 pub use Rattle.spi_sending.specs.laws.services.{SendBegins.{begins_at, begins_few}, SendRight.{sender, sync_opens, sync_right}}
-pub use Rattle.spi_sending.specs.laws.services.{SendAround.{asking_plain, find_plain}, SendWindows.{AreWindowsRight}}
+pub use Rattle.spi_sending.specs.laws.services.{SendAround.{asking_plain, find_plain}}
+pub use Rattle.spi_sending.specs.laws.services.WindowsRight.{windows_are_right}

@@ -116,12 +116,12 @@ pub use Rattle.spi_sequences.specs.declared.service.sync.SyncPlace.{SyncPlace}
 pub use Rattle.spi_sequences.specs.declared.words.Position.{Position}
 pub use Rattle.spi_sequences.specs.declared.words.Running.{Running}
 pub use Rattle.spi_sequences.specs.declared.words.TheConstants.{FAILED, MARKS, NEXTS, PENDING, STATE}
-pub use Rattle.spi_sequences.specs.laws.bookkeeping.AcceptedState.{map_at, map_get}
+pub use Rattle.spi_sequences.specs.laws.services.RequestRight.{map_at, map_get}
 pub use Rattle.spi_sequences.specs.laws.bookkeeping.PendingWritesBounds.{owed_right}
 pub use Rattle.spi_sequences.specs.laws.bookkeeping.RefinementRight.{apart_agrees}
 pub use Rattle.spi_sequences.specs.laws.bookkeeping.SequenceEnded.{ended_sound, ended_view, ended_words, get_contained}
 pub use Rattle.spi_sequences.specs.laws.bookkeeping.SequenceEnded.{jobs_once, Leaves, leaves_begun}
-pub use Rattle.spi_sequences.specs.laws.hardware.AfterReset.{by_two, none_in}
+pub use Rattle.spi_sequences.specs.laws.hardware.StableUnderHardware.{by_two, none_in}
 pub use Rattle.spi_sequences.specs.laws.hardware.StableUnderHardware.{mode_later, pointwise, set_unit, words_kept}
 pub use Rattle.spi_sequences.specs.laws.services.CancelRight.{not_order}
 pub use Rattle.spi_sequences.specs.laws.services.QueryRight.{may_first}
@@ -141,19 +141,19 @@ pub use Rattle.spi_sequences.specs.laws.services.SyncSteps.{sync_job_over, sync_
 pub use Rattle.spi_sequences.specs.laws.services.SyncSteps.{sync_prepares, sync_prepares_at, sync_prepares_by}
 pub use Rattle.spi_sequences.specs.laws.services.SyncSteps.{sync_serves, sync_starts, sync_takes, sync_took, sync_work}
 pub use Rattle.spi_sequences.specs.laws.services.SyncSteps.{taker_sent, with_taken}
-pub use Rattle.spi_sequences.specs.laws.words.AllSequences.{all_carried, all_cases, all_pending, asked_unit, for_unit}
-pub use Rattle.spi_sequences.specs.laws.words.AllSequences.{job_on}
+pub use Rattle.spi_sequences.specs.laws.words.JobPlaces.{all_carried, all_cases, all_pending, asked_unit, for_unit}
+pub use Rattle.spi_sequences.specs.laws.words.JobPlaces.{job_on}
 pub use Rattle.spi_sequences.specs.laws.words.ConfigurationFits.{some_of}
 pub use Rattle.spi_sequences.specs.laws.words.FirstParts.{as_read, external_part, internal_part, part_at, part_by}
 pub use Rattle.spi_sequences.specs.laws.words.FirstParts.{part_for, read_set_up, some_words, words_are}
 pub use Rattle.spi_sequences.specs.laws.words.JobPlaces.{at_left, job_place, job_unit, left_at, LeftAt, one_place}
 pub use Rattle.spi_sequences.specs.laws.words.JobPlaces.{is_behind, is_next, next_ahead, next_left, unit_few}
-pub use Rattle.spi_sequences.specs.laws.words.KeptWords.{banks_view, next_view, sequences_as, sound_as}
-pub use Rattle.spi_sequences.specs.laws.words.ListTests.{any_in, any_none, any_some, none_any, one_unit}
+pub use Rattle.spi_sequences.specs.laws.words.SameWords.{banks_view, next_view, sequences_as, sound_as}
+pub use Rattle.spi_sequences.specs.laws.words.JobPlaces.{any_in, any_none, any_some, none_any, one_unit}
 pub use Rattle.spi_sequences.specs.laws.words.PendingWords.{banks_held, holds_changed, holds_debt, HoldsLike}
 pub use Rattle.spi_sequences.specs.laws.words.PendingWords.{stands_owed}
 pub use Rattle.spi_sequences.specs.laws.words.SameWords.{banks_words, going_words, job_small, order_stays}
-pub use Rattle.spi_sequences.specs.laws.words.SendsKept.{sends_as}
+pub use Rattle.spi_sequences.specs.laws.words.SameWords.{sends_as}
 pub use Rattle.spi_sequences.specs.laws.words.WordsOfModule.{has_channel, of_banks, of_held, of_one, of_set_up}
 pub use Rattle.spi_sequences.specs.laws.words.WordsOfModule.{few_places, of_sixteen, own_first, past_the_first}
 pub use Rattle.spi_sequences.specs.laws.words.WordsToState.{at_contained, going_next, is_below, is_number, is_past}
@@ -164,15 +164,15 @@ pub use Rattle.spi_serving.specs.Serving.{asked_word, Footing, IsDone, IsFinding
 pub use Rattle.spi_serving.specs.Serving.{serve_fuel, serve_room, unit_run, word_after, word_place}
 pub use Rattle.spi_serving.specs.laws.ToServe.{ToServe}
 pub use Rattle.spi_serving.specs.laws.bookkeeping.JobsApart.{agrees_at, for_at, is_kept, one_job, one_part}
-pub use Rattle.spi_serving.specs.laws.bookkeeping.MovedOn.{going_here, going_other, going_with, moved_on, taken_before}
-pub use Rattle.spi_serving.specs.laws.bookkeeping.MovedOn.{taken_same}
-pub use Rattle.spi_serving.specs.laws.bookkeeping.PinsTurned.{After, At, none_received}
+pub use Rattle.spi_serving.specs.laws.services.FurtherBegun.{by_unit, going_here, going_other, going_with, moved_on}
+pub use Rattle.spi_serving.specs.laws.services.FurtherBegun.{taken_before, taken_same}
+pub use Rattle.spi_serving.specs.laws.services.FurtherBegun.{After, At, none_received}
 pub use Rattle.spi_serving.specs.laws.bookkeeping.Readable.{IsStored, last_is, last_like, last_stored}
-pub use Rattle.spi_serving.specs.laws.bookkeeping.StoredWord.{stored_is, stored_like}
-pub use Rattle.spi_serving.specs.laws.bookkeeping.UnderWay.{done_alike, place_back, state_done, state_says, under_way}
-pub use Rattle.spi_serving.specs.laws.bookkeeping.UnderWay.{UnderWay}
-pub use Rattle.spi_serving.specs.laws.hardware.UnitRegisters.{unit_other, unit_same, width_agrees, width_is}
-pub use Rattle.spi_serving.specs.laws.services.EndsOwed.{IsEnding, OwesEnds}
+pub use Rattle.spi_serving.specs.laws.services.FurtherBegun.{stored_is, stored_like}
+pub use Rattle.spi_serving.specs.laws.words.FacingWords.{done_alike, place_back, state_done, state_says, under_way}
+pub use Rattle.spi_serving.specs.laws.words.FacingWords.{UnderWay}
+pub use Rattle.spi_serving.specs.laws.bookkeeping.JobEnd.{unit_other, unit_same, width_agrees, width_is}
+pub use Rattle.spi_serving.specs.laws.services.FurtherRight.{IsEnding, OwesEnds}
 pub use Rattle.spi_serving.specs.laws.services.FreedUnit.{freed_as, going_left, IsFilled, IsFree, IsTold, order_left}
 pub use Rattle.spi_serving.specs.laws.services.FreedUnit.{other_free, others_differ, start_owed, with_channels}
 pub use Rattle.spi_serving.specs.laws.services.FurtherBegun.{begun_agrees, IsLike, right_like, WordsAfter}
@@ -180,26 +180,27 @@ pub use Rattle.spi_serving.specs.laws.services.FurtherRight.{OwesWords}
 pub use Rattle.spi_serving.specs.laws.services.ServeAround.{serve_later}
 pub use Rattle.spi_serving.specs.laws.services.ServeBounds.{Fewer, fuel_at, less_fuel, less_room, room_at}
 pub use Rattle.spi_sequences.specs.laws.bookkeeping.PendingWritesBounds.{keep_few}
-pub use Rattle.spi_serving.specs.laws.services.ServeDecisions.{asks_load, Decided, find_decides, receive_decides}
-pub use Rattle.spi_serving.specs.laws.services.ServeDecisions.{width_decides}
+pub use Rattle.spi_serving.specs.laws.services.ServeRight.{asks_load, Decided, find_decides, receive_decides}
+pub use Rattle.spi_serving.specs.laws.services.ServeRight.{width_decides}
 pub use Rattle.spi_serving.specs.laws.services.ServeMoves.{serve_may}
-pub use Rattle.spi_serving.specs.laws.services.ToldRight.{aside_high, both_outside, both_told, first_told, is_told}
-pub use Rattle.spi_serving.specs.laws.services.ToldRight.{IsAside, order_before, told_first, told_other, told_second}
+pub use Rattle.spi_serving.specs.laws.services.SequenceOverRight.{aside_high, both_outside, both_told, first_told}
+pub use Rattle.spi_serving.specs.laws.services.SequenceOverRight.{is_told, IsAside, order_before, told_first}
+pub use Rattle.spi_serving.specs.laws.services.SequenceOverRight.{told_other, told_second}
 pub use Rattle.spi_serving.specs.laws.words.AllKept.{AllKept, IsApart, ReceivedAt}
-pub use Rattle.spi_serving.specs.laws.words.CommitWords.{upto}
+pub use Rattle.spi_serving.specs.laws.words.AllKept.{upto}
 pub use Rattle.spi_serving.specs.laws.words.FacingWords.{at_is, ends_here, goes_further, served_is}
-pub use Rattle.spi_serving.specs.laws.words.JoinedLists.{get_there, get_within}
+pub use Rattle.spi_serving.specs.laws.words.Positions.{get_there, get_within}
 pub use Rattle.spi_serving.specs.laws.words.KeepingWords.{words_after}
-pub use Rattle.spi_serving.specs.laws.words.LastKept.{IsBase}
-pub use Rattle.spi_serving.specs.laws.words.NextDigits.{next_other, next_same}
+pub use Rattle.spi_serving.specs.laws.services.WellEnded.{IsBase}
+pub use Rattle.spi_serving.specs.laws.words.NextWords.{next_other, next_same}
 pub use Rattle.spi_serving.specs.laws.words.Positions.{channel_there, part_most, parts_few, Stands}
 pub use Rattle.spi_starting.specs.Starting.{find_more, first_word, LooksAt, will_give}
-pub use Rattle.spi_starting.specs.laws.bookkeeping.ChosenNext.{first_placed, first_there, number_at}
+pub use Rattle.spi_starting.specs.laws.words.PinnedBanks.{first_placed, first_there, number_at}
 pub use Rattle.spi_starting.specs.laws.bookkeeping.RanState.{SentAt}
-pub use Rattle.spi_starting.specs.laws.bookkeeping.UnitTurned.{turned_agrees}
-pub use Rattle.spi_starting.specs.laws.services.ReadyOwed.{OwesReady, ready_at, ready_by, ready_from, ready_next}
+pub use Rattle.spi_starting.specs.laws.services.StartRight.{turned_agrees}
+pub use Rattle.spi_starting.specs.laws.words.ReadyWords.{OwesReady, ready_at, ready_by, ready_from, ready_next}
 pub use Rattle.spi_starting.specs.laws.services.StartAround.{may_find, or_may, turns_kept}
-pub use Rattle.spi_starting.specs.laws.words.FirstWord.{first_is, found}
+pub use Rattle.spi_starting.specs.laws.services.StartRight.{first_is, found}
 pub use Rattle.spi_starting.specs.laws.words.ReadyWords.{Ready, ready_first}
 pub use Rattle.std.proofs.Common.{ap, arith, Bool, Contains, false, flat_map, get_or-set_other, get_or-set_same}
 pub use Rattle.std.proofs.Common.{inl, inr, is_some, length, length-set, List, map, max, min, nat_le, nat_lt, None, not}

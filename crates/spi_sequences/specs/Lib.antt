@@ -1,6 +1,7 @@
 pub mod Going
 pub mod Refinement
 pub mod PendingWrites
+pub mod StepTerms
 pub mod Terms
 pub mod Words
 pub mod laws

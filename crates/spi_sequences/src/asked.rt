@@ -2,7 +2,7 @@ ghost use Rattle.std.specs.Prelude.{◌≡◌, ◌==◌, ◌&&◌, not, false};
 ghost use Rattle.spi_machine.specs.Checks as checks;
 ghost use Rattle.spi_machine.specs.Table as table;
 ghost use Rattle.spi_machine.specs.Wiring as wiring;
-ghost use Rattle.spi_sequences.specs.laws.services.LookSteps as spec;
+ghost use Rattle.spi_sequences.specs.laws.services.Bodies as spec;
 
 use crate::service::cancel::{CancelBody, Cancelled};
 use crate::service::init::{InitBody, InitPlace};
@@ -34,7 +34,7 @@ pub struct Asked {
 impl service_outline::Service for Asked {
     type Body = SpiBody;
 
-    ghost use Rattle.spi_sequences.specs.laws.services.LookSteps.{spi_looked};
+    ghost use Rattle.spi_sequences.specs.laws.services.Bodies.{spi_looked};
     ghost use Rattle.spi_sequences.specs.laws.services.Bodies.{spi_ends};
     ghost use Rattle.spi_sequences.specs.declared.words.TheConstants.{STATE};
 

@@ -2,6 +2,7 @@
 
 pub mod cancel;
 pub mod init;
+mod job_end;
 pub mod query;
 pub mod read;
 pub mod request;

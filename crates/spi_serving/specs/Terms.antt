@@ -15,7 +15,7 @@ pub use Rattle.std.proofs.lemmas.Nat.{and_le_l, and_le_r, or_disjoint, or_mod, o
 pub use Rattle.std.specs.List.{enumerate_from, list_any}
 pub use Rattle.mcal_base.specs.facts.Numbers.{le_since, lt_from, lt_itself, lt_next, lt_since, lt_zero, positive, same_or_other}
 pub use Rattle.mcal_base.specs.facts.Options.{some_is}
-pub use Rattle.mcal_base.specs.{Bits.{bit_of, has_bit}, Layout.{place_of}, declared.TheConstants.{WORDS}}
+pub use Rattle.mcal_base.specs.{Bits.{bit_of, has_bit}, Layout.{place_of}}
 pub use Rattle.mcal_base.specs.{declared.answer.Answer.{Answer}, declared.answer_name.AnswerName.{AnswerName}}
 pub use Rattle.mcal_base.specs.{declared.answer_name.AnswerName.TheVariants.{SpiJobOk, SpiJobPending, SpiJobQueued}}
 pub use Rattle.mcal_base.specs.{declared.answer_name.AnswerName.TheVariants.{SpiSeqCanceled, SpiSeqFailed, SpiSeqOk}}
@@ -49,8 +49,8 @@ pub use Rattle.shapes_on_chip.proofs.PartLaws.{one_owed, settles_part}
 pub use Rattle.shapes_on_chip.specs.{OnChip.{AreThere}, Parts.{DiffersIn, IsPart, PartTo}}
 pub use Rattle.spi_jobs.specs.{Parts.{asking, committing as committing_of, find_gave, find_left, find_move, finding}}
 pub use Rattle.spi_jobs.specs.{Parts.{found_in, free_bank, keeping, releasing, releasing as releasing_of, taker_of}}
-pub use Rattle.spi_jobs.specs.{Placing.{bank_of, bank_word, control_word, destination_word, flag, held_word, masked_by}}
-pub use Rattle.spi_jobs.specs.{Placing.{or_none, packed, pinned_bank, set_up_word, source_word, trio_of, unpacked}}
+pub use Rattle.spi_jobs.specs.{Placing.{bank_of, bank_word, control_word, destination_word, held_word, masked_by}}
+pub use Rattle.spi_jobs.specs.{Placing.{or_none, pinned_bank, set_up_word, source_word, trio_of, unpacked}}
 pub use Rattle.spi_jobs.specs.{declared.channel.Channel.{Channel}, declared.channel.Placed.{Placed}}
 pub use Rattle.spi_jobs.specs.{declared.channel.Side.{Side}, declared.channel.Side.TheVariants.{Received, Sent}}
 pub use Rattle.spi_jobs.specs.{declared.finding.Find.{Find}, declared.keeping.Keep.{Keep}}
@@ -82,8 +82,8 @@ pub use Rattle.spi_sequences.specs.{PendingWrites.{spi_owing, unit_owed, Units, 
 pub use Rattle.spi_machine.specs.{State.{carried_at}, Table.{is_sync_unit}, Wiring.{is_sync_sequence}}
 pub use Rattle.spi_sequences.specs.{Going.{CarriesAgrees}, Refinement.{all_of, AllSend, entries_begun, run_carried}}
 pub use Rattle.spi_sequences.specs.{Refinement.{RunsBy}}
-pub use Rattle.spi_sequences.specs.laws.{words.AllSequences.{all_carried, all_cases, all_pending, aside_pending}}
-pub use Rattle.spi_sequences.specs.laws.{words.SendsKept.{sends_as}, words.WordsToState.{going_asked, runs_none_sync}}
+pub use Rattle.spi_sequences.specs.laws.{words.JobPlaces.{all_carried, all_cases, all_pending, aside_pending}}
+pub use Rattle.spi_sequences.specs.laws.{words.SameWords.{sends_as}, words.WordsToState.{going_asked, runs_none_sync}}
 pub use Rattle.spi_sequences.specs.laws.{bookkeeping.SequenceEnded.{Leaves, leaves_pending}}
 pub use Rattle.std.proofs.lemmas.List.Folds.{list_any-append}
 pub use Rattle.spi_sequences.specs.{Refinement.{AllRight, AreOwed, BanksAgree, Debt, entries_of, HasPart, HeldRight}}
@@ -107,11 +107,11 @@ pub use Rattle.spi_sequences.specs.{declared.service.unit.UnitBody.{UnitBody}}
 pub use Rattle.spi_sequences.specs.{declared.service.unit.UnitPlace.{UnitPlace}, declared.words.Position.{Position}}
 pub use Rattle.spi_sequences.specs.{declared.words.Running.{Running}, declared.words.TheConstants.{CANCELLED, FAILED}}
 pub use Rattle.spi_sequences.specs.{declared.words.TheConstants.{MARKS, NEXTS, STATE}}
-pub use Rattle.spi_sequences.specs.laws.{bookkeeping.ClearedUnit.{cleared_of, clears}}
-pub use Rattle.spi_sequences.specs.laws.{bookkeeping.FrameRule.{any_mapped, contains_back, get_back}}
+pub use Rattle.spi_sequences.specs.laws.{words.PendingWords.{cleared_of, clears}}
+pub use Rattle.spi_sequences.specs.laws.{bookkeeping.MarkedState.{any_mapped, contains_back, get_back}}
 pub use Rattle.spi_sequences.specs.laws.{bookkeeping.SequenceEnded.{ended_sound, ended_view, ended_words, filter_back}}
 pub use Rattle.spi_sequences.specs.laws.{bookkeeping.SequenceEnded.{filter_keeps, left_order, stay, there_back}}
-pub use Rattle.spi_sequences.specs.laws.{bookkeeping.SequenceEnded.{there_by}, hardware.AfterReset.{by_two, none_in}}
+pub use Rattle.spi_sequences.specs.laws.{bookkeeping.SequenceEnded.{there_by}, hardware.StableUnderHardware.{by_two, none_in}}
 pub use Rattle.spi_sequences.specs.laws.{hardware.SourceFilled.{any_in, own_low}}
 pub use Rattle.spi_sequences.specs.laws.hardware.StableUnderHardware.{any_changed, done_same, pointwise, set_unit, words_kept}
 pub use Rattle.spi_sequences.specs.laws.{services.CancelRight.{found_entry, from_order, IsFound, named_own, not_order}}
@@ -129,16 +129,17 @@ pub use Rattle.spi_sequences.specs.laws.{services.SetUpRight.{may_store, may_use
 pub use Rattle.spi_sequences.specs.laws.{services.UnitSteps.{after_serve, unit_over}, services.WriteRight.{first-at}}
 pub use Rattle.spi_sequences.specs.laws.words.JobPlaces.{is_behind, is_next, job_unit, next_ahead, next_left}
 pub use Rattle.spi_sequences.specs.laws.words.JobPlaces.{one_place}
-pub use Rattle.spi_sequences.specs.laws.{words.KeptWords.{banks_view, sequences_as, sound_as}}
+pub use Rattle.spi_sequences.specs.laws.{words.FirstParts.{unpacked_back}}
+pub use Rattle.spi_sequences.specs.laws.{words.SameWords.{banks_view, sequences_as, sound_as}}
 pub use Rattle.spi_sequences.specs.laws.{words.PendingWords.{banks_held, holds_debt, stands_owed}}
 pub use Rattle.spi_sequences.specs.laws.words.SameWords.{banks_words, contains_map, going_words, job_small, job_there}
 pub use Rattle.spi_sequences.specs.laws.words.SameWords.{order_stays, part_there, part_words, sequences_stay}
-pub use Rattle.spi_sequences.specs.laws.{words.SequenceDigits.{first_other, first_same}, words.SideWords.{none_readied}}
+pub use Rattle.spi_sequences.specs.laws.{words.NumbersApart.{first_other, first_same}, words.SideWords.{none_readied}}
 pub use Rattle.spi_sequences.specs.laws.{words.SideWords.{not_first, not_held, not_of_other, not_users, set_up_by}}
 pub use Rattle.spi_sequences.specs.laws.{words.SideWords.{sides_apart, stands_by_store, trio_fits}}
 pub use Rattle.spi_sequences.specs.laws.{words.WordsOfModule.{destination_own, has_channel, IsWordOf, of_banks}}
 pub use Rattle.spi_sequences.specs.laws.{words.WordsOfModule.{few_places, of_held, of_one, of_set_up, of_sixteen}}
-pub use Rattle.spi_sequences.specs.laws.{words.WordsOfModule.{own_banks}, words.SequenceDigits.{by_eight}}
+pub use Rattle.spi_sequences.specs.laws.{words.WordsOfModule.{own_banks}, words.NumbersApart.{by_eight}}
 pub use Rattle.spi_sequences.specs.laws.{bookkeeping.PendingWritesBounds.{keep_few}}
 pub use Rattle.spi_sequences.specs.laws.{words.WordsOfModule.{own_first, own_held, own_of, past_the_first, source_own}}
 pub use Rattle.spi_sequences.specs.laws.{words.WordsToState.{any_none, any_some, at_contained, going_free, going_next}}
@@ -155,7 +156,7 @@ pub use Rattle.word_shapes.specs.{TripleBuffer.{take_move}}
 pub use Rattle.spi_machine.specs.{Machine.{faulted_carrying}, State.{Carrying, is_interrupt}}
 pub use Rattle.spi_sequences.specs.{PendingWrites.{owed_left, owed_move, owes_move, PendingWrites}, Refinement.{AreCarried, mode_word}}
 pub use Rattle.spi_sequences.specs.laws.{services.ServeSteps.{serve_keeps, serve_lets}}
-pub use Rattle.spi_sequences.specs.laws.{words.AllSequences.{none_under_way}}
+pub use Rattle.spi_sequences.specs.laws.{words.JobPlaces.{none_under_way}}
 pub use Rattle.spi_sequences.specs.laws.services.ServeSteps.{serve_keeps_last}
 pub use Rattle.spi_sequences.specs.laws.words.Cases.{cases, some_or_none, whether, whether_as}
 pub use Rattle.spi_jobs.specs.Parts.{commit_ends}

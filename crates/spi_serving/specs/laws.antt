@@ -1,5 +1,4 @@
 pub mod ToServe
 pub mod bookkeeping
-pub mod hardware
 pub mod services
 pub mod words

@@ -72,8 +72,8 @@ pub use Rattle.spi_sequences.specs.{Going.{run_of, taken_of, UnitAgrees, width_b
 pub use Rattle.spi_sequences.specs.{PendingWrites.{PendingWrites, spi_owing, start_more, start_owes, unit_owed, Units}}
 pub use Rattle.spi_sequences.specs.{PendingWrites.{unless_done, where_owed}, Refinement.{AreOwed, BanksAgree, Debt}}
 pub use Rattle.spi_sequences.specs.{Going.{CarriesAgrees}, Refinement.{all_of, run_carried, RunsBy}}
-pub use Rattle.spi_sequences.specs.laws.{words.AllSequences.{all_carried, all_pending, aside_pending}}
-pub use Rattle.spi_sequences.specs.laws.{words.SendsKept.{sends_as}}
+pub use Rattle.spi_sequences.specs.laws.{words.JobPlaces.{all_carried, all_pending, aside_pending}}
+pub use Rattle.spi_sequences.specs.laws.{words.SameWords.{sends_as}}
 pub use Rattle.spi_sequences.specs.{Refinement.{entries_of, HasPart, is_left, is_owed, IsLast, IsSoundState, job_code}}
 pub use Rattle.spi_sequences.specs.{Refinement.{KeepsNone, Pins, PinsNone, prepares, put_held, PutRight, readied_by}}
 pub use Rattle.spi_sequences.specs.{Refinement.{readied_in, Reservation, Reservations, RunAgrees, RunsNext}}
@@ -88,15 +88,15 @@ pub use Rattle.spi_sequences.specs.{declared.service.unit.FrameRole.TheVariants.
 pub use Rattle.spi_sequences.specs.{declared.service.unit.UnitBody.{UnitBody}}
 pub use Rattle.spi_sequences.specs.{declared.service.unit.UnitPlace.{UnitPlace}, declared.words.Position.{Position}}
 pub use Rattle.spi_sequences.specs.{declared.words.Running.{Running}, declared.words.TheConstants.{MARKS, NEXTS, STATE}}
-pub use Rattle.spi_sequences.specs.laws.{bookkeeping.AcceptedState.{map_get}, bookkeeping.ClearedUnit.{cleared_of}}
-pub use Rattle.spi_sequences.specs.laws.{bookkeeping.ClearedUnit.{clears}, bookkeeping.FrameRule.{contains_back}}
-pub use Rattle.spi_sequences.specs.laws.{bookkeeping.FrameRule.{get_back, item, item_for, Keeps, sequences_after}}
-pub use Rattle.spi_sequences.specs.laws.{bookkeeping.FrameRule.{sound_changed}, bookkeeping.MarkedState.{marked_other}}
+pub use Rattle.spi_sequences.specs.laws.{services.RequestRight.{map_get}, words.PendingWords.{cleared_of}}
+pub use Rattle.spi_sequences.specs.laws.{words.PendingWords.{clears}, bookkeeping.MarkedState.{contains_back}}
+pub use Rattle.spi_sequences.specs.laws.{bookkeeping.MarkedState.{get_back, item, item_for, Keeps, sequences_after}}
+pub use Rattle.spi_sequences.specs.laws.bookkeeping.MarkedState.{marked_other, sound_changed}
 pub use Rattle.spi_sequences.specs.laws.{bookkeeping.MarkedState.{marked_same}, bookkeeping.NextChosen.{best_in}}
 pub use Rattle.spi_sequences.specs.laws.{bookkeeping.NextChosen.{choice_next, free_rests, number_of}}
 pub use Rattle.spi_sequences.specs.laws.{bookkeeping.RefinementRight.{apart_agrees}}
 pub use Rattle.spi_sequences.specs.laws.{bookkeeping.SequenceEnded.{filter_back, filter_keeps, get_contained}}
-pub use Rattle.spi_sequences.specs.laws.{hardware.AfterReset.{by_two, none_in}, hardware.SourceFilled.{any_in, own_low}}
+pub use Rattle.spi_sequences.specs.laws.{hardware.StableUnderHardware.{by_two, none_in}, hardware.SourceFilled.{any_in, own_low}}
 pub use Rattle.spi_sequences.specs.laws.{hardware.StableUnderHardware.{any_changed, set_unit, words_kept}}
 pub use Rattle.spi_sequences.specs.laws.services.CancelRight.{from_order}
 pub use Rattle.spi_sequences.specs.laws.{services.CancelRight.{named_own, not_order, order_there, own_order, to_order}}
@@ -135,5 +135,5 @@ pub use Rattle.spi_jobs.specs.Parts.{prepare_move}
 pub use Rattle.word_shapes.specs.TripleBuffer.{take_left}
 pub use Rattle.spi_sequences.specs.PendingWrites.{owes_move}
 pub use Rattle.spi_sequences.specs.{Going.{ExternalAgrees, InternalAgrees}, Refinement.{AllRight}}
-pub use Rattle.spi_sequences.specs.laws.{words.KeptWords.{banks_view}, words.PendingWords.{banks_held}}
+pub use Rattle.spi_sequences.specs.laws.{words.SameWords.{banks_view}, words.PendingWords.{banks_held}}
 pub use Rattle.spi_sequences.specs.laws.words.Cases.{cases, whether, whether_as}

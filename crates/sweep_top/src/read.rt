@@ -91,12 +91,10 @@ fn end_of(fault: ScriptFault) -> SweepEnd
 fn call_by(line: u32, order: Order) -> Result<Directive, SweepEnd>
     ensures { result ≡ spec.call_by line order }
 {
-    match order {
-        Order::Do(level, request) => Ok(Directive {
-            line,
-            order: Order::Do(level, request),
-        }),
-        _ => Err(SweepEnd::Fault(SweepFault::Reaction(line))),
+    if matches!(order, Order::Do(..)) {
+        Ok(Directive { line, order })
+    } else {
+        Err(SweepEnd::Fault(SweepFault::Reaction(line)))
     }
 }
 

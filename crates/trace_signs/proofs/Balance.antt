@@ -24,7 +24,7 @@ use Rattle.trace_signs.specs.Laws.{seen, beginning_of, going_of, IsDrawingOf}
 use Rattle.trace_signs.specs.Moments.{moments_of}
 use Rattle.trace_signs.specs.declared.moments.Moment.{Moment}
 use Rattle.trace_signs.proofs.MomentLaws.{lines_belong, turns_belong}
-use Rattle.trace_signs.proofs.Seen.{seen-quiet, seen-more, seen-shut, before-signs}
+use Rattle.trace_signs.proofs.MoreSigns.{seen-quiet, seen-more, seen-shut, before-signs}
 use Rattle.trace_signs.proofs.Shows.{drawn_all, lines_shown, turns_shown}
 
 -- so many more begin than are gone

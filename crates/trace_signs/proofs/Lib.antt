@@ -1,4 +1,4 @@
 pub mod Balance
 pub mod MomentLaws
-pub mod Seen
+pub mod MoreSigns
 pub mod Shows

@@ -24,7 +24,7 @@ use Rattle.sign_kinds.specs.declared.signs.What.TheVariants as whats
 use Rattle.trace_signs.specs.Drawing.{Drawing, blank, put, turned, level_of, with_ticks, ticked, begun, entered, all_ended, ended_of, freshly, told, is_call_of, is_handler_of, top_of, is_of, fits_frames, fits, drawn, completed}
 use Rattle.trace_signs.specs.Laws.{seen, gone_line, returned_line, left_line, line_of, turn_of}
 use Rattle.trace_signs.specs.declared.moments.Moment.{Moment}
-use Rattle.trace_signs.proofs.Seen.{seen-quiet, seen-more, seen-shut, seen-ended, seen-stepped}
+use Rattle.trace_signs.proofs.MoreSigns.{seen-quiet, seen-more, seen-shut, seen-ended, seen-stepped}
 
 -- ---- what holds of each line holds of all
 

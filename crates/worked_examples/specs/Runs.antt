@@ -1,5 +1,5 @@
 -- Small runs of the timers' machine, written out: the boards, what happens, and what is told.
-use Rattle.std.specs.Prelude.{ℕ, true, false, List, [], ◌∷◌, Option, Some, None}
+use Rattle.std.specs.Prelude.{ℕ, true, false, List, [], ◌∷◌, Option, Some, None, option_map}
 use Rattle.mcal_base.specs.declared.config.gpt.GptChannelMode.TheVariants.{Continuous, OneShot}
 use Rattle.mcal_base.specs.declared.directive.Order.TheVariants.{Tick}
 use Rattle.mcal_base.specs.declared.error_name.ErrorName.{ErrorName}
@@ -54,15 +54,11 @@ abbrev pub world_by : GptTable → World → GptState → Happening Call → Wor
 world_by d w s (Moves order) = world_after w ((gpt_machine d).rate s) order
 world_by d w s _ = w
 
-abbrev pub outcome_told : Option (Outcome GptState) → Option Told
-outcome_told None = None
-outcome_told (Some out) = Some out.told
-
 -- what is told at each happening, and none where one isn't allowed, which changes nothing
 abbrev pub told_from : GptTable → World → GptState → List (Happening Call) → List (Option Told)
 told_from d w s [] = []
 told_from d w s (h ∷ hs) =
-    outcome_told ((gpt_machine d).happens w s h) ∷ told_from d (world_by d w s h) (state_by s ((gpt_machine d).happens w s h)) hs
+    option_map (λ (out : Outcome GptState). out.told) ((gpt_machine d).happens w s h) ∷ told_from d (world_by d w s h) (state_by s ((gpt_machine d).happens w s h)) hs
 
 -- the same from power on
 abbrev pub told : GptTable → List (Happening Call) → List (Option Told)

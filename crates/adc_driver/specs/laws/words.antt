@@ -1,3 +1,4 @@
 pub mod ConfigurationFits
+pub mod EitherOne
 pub mod KeptWords
 pub mod WordsToState

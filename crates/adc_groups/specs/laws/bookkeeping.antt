@@ -1,11 +1,3 @@
 pub mod FrameRule
-pub mod HeldAnew
-pub mod NoTurnKeepsNothing
 pub mod PendingWritesRight
-pub mod PromisesKept
 pub mod RefinementRight
-pub mod RequestNumbers
-pub mod TriggerListener
-pub mod TriggerOff
-pub mod TurnEnded
-pub mod TurnsOfUnit

@@ -1,13 +1,7 @@
 pub mod Cases
-pub mod DisjointWords
-pub mod FirstRequest
-pub mod OrderBetweenWrites
 pub mod OrderWords
-pub mod OtherGroups
 pub mod StoreOneWord
-pub mod StreamPlaces
 pub mod StructureParts
 pub mod WindowWords
-pub mod WordsAtRest
 pub mod WordsChange
 pub mod WordsOfModule

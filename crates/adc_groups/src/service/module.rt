@@ -1,8 +1,8 @@
-ghost use Rattle.std.specs.Prelude.{◌≡◌, ◌-◌, ◌≤◌};
+ghost use Rattle.std.specs.Prelude.{◌≡◌};
 ghost use Rattle.adc_groups.specs.laws.services.InitSteps as spec;
 
+use crate::service::listed::ListedTable;
 use crate::words::{LINES, STATE, Word, order_of, word_number};
-use adc_machine::AdcTable;
 use mcal_base::{Move, Reg};
 use service_outline::{Body, BodyTaken, Epilogue, Objects, acts_with, goes, nothing};
 
@@ -10,7 +10,7 @@ use service_outline::{Body, BodyTaken, Epilogue, Objects, acts_with, goes, nothi
 #[derive(Drop)]
 pub struct Setup {
     /// The driver.
-    pub table: AdcTable,
+    pub table: ListedTable,
 }
 
 impl Objects for Setup {
@@ -25,7 +25,7 @@ impl Objects for Setup {
     ghost after_of = { setup_after };
 
     fn count(&self) -> u16 {
-        6 + 4 * (self.many_from(0) as u16)
+        6 + 4 * self.table.many()
     }
 
     fn at(&self, object: u16) -> Move {
@@ -38,48 +38,12 @@ impl Objects for Setup {
 }
 
 impl Setup {
-    /// How many groups from this one on are configured.
-    fn many_from(&self, from: u8) -> u8
-        ensures is { result ≡ spec.many_from self.now.table (16 - from) from }
-        ensures few { result ≤ 16 - from }
-    {
-        if from > 15 {
-            0
-        } else if self.table.at(from).is_some() {
-            1 + self.many_from(from + 1)
-        } else {
-            self.many_from(from + 1)
-        }
-    }
-
-    /// The group at a place among those from this one on that are configured, 16 where there is none.
-    fn nth_from(&self, from: u8, place: u8) -> u8
-        ensures { result ≡ spec.nth_from self.now.table (16 - from) from place }
-    {
-        if from > 15 {
-            16
-        } else if self.table.at(from).is_none() {
-            self.nth_from(from + 1, place)
-        } else if place == 0 {
-            from
-        } else {
-            self.nth_from(from + 1, place - 1)
-        }
-    }
-
-    /// The group whose words are cleared at a place, 16 past the last one.
-    fn cleared_group(&self, place: u8) -> u8
-        ensures { result ≡ spec.cleared_group self.now.table place }
-    {
-        self.nth_from(0, place)
-    }
-
     /// What clears a word of a group; past the last one nothing does.
     fn group_clear(&self, group: u8, word: u8) -> Move
         ensures { result ≡ spec.group_clear self.now.table group word }
     {
-        if self.table.at(group).is_some() {
-            Move::Store(word_number(&self.table, group_word(group, word)), 0)
+        if self.table.table().at(group).is_some() {
+            Move::Store(word_number(self.table.table(), group_word(group, word)), 0)
         } else {
             Move::Load(STATE)
         }
@@ -92,7 +56,7 @@ impl Setup {
         if place < 6 {
             Move::Store(self.unit_word(place / 3, place % 3), 0)
         } else {
-            self.group_clear(self.cleared_group((place - 6) / 4), (place - 6) % 4)
+            self.group_clear(self.table.group((place - 6) / 4), (place - 6) % 4)
         }
     }
 
@@ -101,9 +65,9 @@ impl Setup {
         ensures { result ≡ spec.unit_word self.now.table unit at }
     {
         if at == 0 {
-            word_number(&self.table, Word::Running(unit))
+            word_number(self.table.table(), Word::Running(unit))
         } else if at == 1 {
-            word_number(&self.table, Word::Claim(unit))
+            word_number(self.table.table(), Word::Claim(unit))
         } else {
             order_of(unit).at + 2
         }

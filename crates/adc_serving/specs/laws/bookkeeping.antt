@@ -1,3 +1,2 @@
-pub mod ReadAlone
 pub mod ServedSound
 pub mod ServedState

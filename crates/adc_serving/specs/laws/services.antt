@@ -1,15 +1,9 @@
-pub mod AfterCopySteps
 pub mod ClaimRight
 pub mod CopyRight
-pub mod CopySteps
 pub mod GiveUpRight
-pub mod NoticeSteps
-pub mod OpenMaskSteps
 pub mod PinRight
 pub mod ReadRight
 pub mod ServeActRight
-pub mod ServeActSteps
 pub mod ServeRight
 pub mod ServeWords
-pub mod TakeRoundSteps
 pub mod TellRight

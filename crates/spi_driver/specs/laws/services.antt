@@ -1,10 +1,6 @@
 pub mod RequestAsking
-pub mod SendPart
-pub mod ServePart
-pub mod StartPart
 pub mod UnitBegins
 pub mod UnitBounds
 pub mod UnitFrames
-pub mod UnitParts
 pub mod UnitRight
 pub mod UnitSteps

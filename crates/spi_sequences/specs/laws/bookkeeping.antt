@@ -1,6 +1,3 @@
-pub mod AcceptedState
-pub mod ClearedUnit
-pub mod FrameRule
 pub mod MarkedState
 pub mod NextChosen
 pub mod PendingWritesBounds

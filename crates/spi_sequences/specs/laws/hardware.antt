@@ -1,3 +1,2 @@
-pub mod AfterReset
 pub mod SourceFilled
 pub mod StableUnderHardware

@@ -1,15 +1,10 @@
-pub mod AllSequences
 pub mod Cases
 pub mod ConfigurationFits
 pub mod FirstParts
 pub mod JobPlaces
-pub mod KeptWords
-pub mod ListTests
 pub mod NumbersApart
 pub mod PendingWords
 pub mod SameWords
-pub mod SendsKept
-pub mod SequenceDigits
 pub mod SideWords
 pub mod WordsOfModule
 pub mod WordsToState

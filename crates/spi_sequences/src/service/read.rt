@@ -1,5 +1,5 @@
 ghost use Rattle.std.specs.Prelude.{◌≡◌, None};
-ghost use Rattle.spi_sequences.specs.laws.services.ReadSteps as spec;
+ghost use Rattle.spi_sequences.specs.laws.services.ChannelSteps as spec;
 
 use mcal_base::{Answer, AnswerName, Head, Move, Routine, Words};
 use service_outline::{Body, BodyTaken, Epilogue, acts, copied, ends, goes, nothing};
@@ -39,7 +39,7 @@ pub enum ReadPlace {
 }
 
 impl Body for ReadBody {
-    ghost use Rattle.spi_sequences.specs.laws.services.ReadSteps.{read_work, read_takes};
+    ghost use Rattle.spi_sequences.specs.laws.services.ChannelSteps.{read_work, read_takes};
 
     ghost work_of = { read_work };
 

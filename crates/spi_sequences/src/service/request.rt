@@ -1,5 +1,5 @@
 ghost use Rattle.std.specs.Prelude.{◌≡◌};
-ghost use Rattle.spi_sequences.specs.laws.services.RequestSteps as spec;
+ghost use Rattle.spi_sequences.specs.laws.services.UnitSteps as spec;
 
 use crate::words::{MARKS, NEXTS, PENDING, SEQUENCES, order, sequence_word, unmarked, with_next};
 use mcal_base::{Event, Move, Routine};

@@ -10,7 +10,7 @@ pub enum SetUpBody {
 }
 
 impl Body for SetUpBody {
-    ghost use Rattle.spi_sequences.specs.laws.services.SetUpSteps.{set_up_work, set_up_takes};
+    ghost use Rattle.spi_sequences.specs.laws.services.ChannelSteps.{set_up_work, set_up_takes};
 
     ghost work_of = { set_up_work };
 

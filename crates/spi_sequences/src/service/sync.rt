@@ -4,7 +4,8 @@ ghost use Rattle.spi_sequences.specs.laws.services.ServeSteps.{begins_of, first_
 ghost use Rattle.word_shapes.specs.TripleBuffer.{put_gave};
 ghost use Rattle.spi_sequences.specs.laws.services.SyncSteps as spec;
 
-use crate::service::serve::{Arrived, SequenceNext, ServePlace, Served, left_after};
+use crate::service::job_end::left_after;
+use crate::service::serve::{Arrived, SequenceNext, ServePlace, Served};
 use crate::service::start::named as unit_named;
 use crate::words::{
     FAILED, NEXTS, PENDING, Position, Running, job_word, position_word, running_word,

@@ -1,5 +1,5 @@
 ghost use Rattle.std.specs.Prelude.{◌≡◌};
-ghost use Rattle.spi_sequences.specs.laws.services.WriteSteps as spec;
+ghost use Rattle.spi_sequences.specs.laws.services.ChannelSteps as spec;
 
 use mcal_base::{AnswerName, Move, Routine};
 use service_outline::{Body, BodyTaken, Epilogue, acts_with, goes, named};
@@ -34,7 +34,7 @@ pub enum WriteBody {
 }
 
 impl Body for WriteBody {
-    ghost use Rattle.spi_sequences.specs.laws.services.WriteSteps.{write_work, write_takes};
+    ghost use Rattle.spi_sequences.specs.laws.services.ChannelSteps.{write_work, write_takes};
 
     ghost work_of = { write_work };
 

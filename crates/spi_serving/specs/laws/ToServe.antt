@@ -1,5 +1,5 @@
 -- What the lemmas of this room are told, as one value.
--- Used by spi_sending: bookkeeping.AsFreed, spi_sending: services.SendFurther and 20 more.
+-- Used by spi_sending: bookkeeping.AsFreed, spi_sending: services.SendFurther and 13 more.
 use Rattle.std.proofs.Common.{◌≡◌, ◌<◌}
 use Rattle.spi_serving.specs.Terms
 use Terms.{Chip, false, FitsSpi, Going, is_off, Reservations, Some, SpiRepresents, SpiState, SpiTable, World, ℕ}

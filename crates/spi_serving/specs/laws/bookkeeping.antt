@@ -1,10 +1,3 @@
 pub mod JobEnd
-pub mod JobOver
 pub mod JobsApart
-pub mod LastWordFits
-pub mod MovedOn
-pub mod NextJob
-pub mod PinsTurned
 pub mod Readable
-pub mod StoredWord
-pub mod UnderWay

@@ -1,12 +1,6 @@
 pub mod AllKept
-pub mod CommitWords
 pub mod FacingWords
-pub mod FoundWord
-pub mod JoinedLists
 pub mod KeepingWords
-pub mod LastKept
-pub mod NextDigits
 pub mod NextWords
 pub mod Positions
-pub mod ReleasedPins
 pub mod SidesApart

@@ -1,10 +1,10 @@
 -- A job begins on a unit that is between jobs, whichever frame begins it: what stood before, under one name, and what the
 -- unit does then.
 -- From spi_sequences: words.FirstParts, bookkeeping.RanState, spi_sequences: words.WordsToState, ToStart.
--- Used by spi_sending: services.SendBegun, words.BegunWords, words.PinnedBanks and 5 more.
+-- Used by spi_sending: services.SendBegun, words.PinnedBanks, spi_sending: services.SendGoesOn and 3 more.
 use Rattle.std.proofs.Common.{◌≡◌, ◌≢◌, ◌<◌, ◌==◌, [], ◌∷◌, if◌then◌else◌}
 use Rattle.spi_starting.specs.Terms
-use Terms.{AllRight, as_read, BanksAgree, Channel, channel_at, channel_of, channels_of, ExternalAgrees, external_part}
+use Terms.{AllRight, as_read, BanksAgree, Channel, channel_at, channel_of, channels_of, external_part, ExternalAgrees}
 use Terms.{false, first_parts, FitsSpi, Going, going_next, held_word, internal_part, InternalAgrees, is_for, is_off}
 use Terms.{length, Memory, next_job, None, Option, packed, part_at, Pending, placed_of, Reservations, RunAgrees}
 use Terms.{set_up_or, Some, some_words, source_word, SpiState, SpiTable, starts, true, view, word_of, ℕ}

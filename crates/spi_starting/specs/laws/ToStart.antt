@@ -1,6 +1,6 @@
 -- What the lemmas of this room are told, as one value.
 -- From bookkeeping.RanState.
--- Used by ToBegin, bookkeeping.UnitBegun, bookkeeping.UnitsGoOn, services.StartBegun, services.StartWords and 1 more.
+-- Used by ToBegin, services.StartWords, words.UnitWords.
 use Rattle.std.proofs.Common.{◌≡◌, ◌∷◌}
 use Rattle.spi_starting.specs.Terms
 use Terms.{Answer, Call, Chip, Contains, FitsSpi, is_for, None, Option, Origin, Pending, Reservations, SpiRepresents}

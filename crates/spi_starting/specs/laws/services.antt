@@ -1,5 +1,3 @@
-pub mod ReadyOwed
 pub mod StartAround
-pub mod StartBegun
 pub mod StartRight
 pub mod StartWords

@@ -1,6 +1,3 @@
-pub mod BegunWords
-pub mod FirstWord
 pub mod PinnedBanks
-pub mod QuietWords
 pub mod ReadyWords
 pub mod UnitWords

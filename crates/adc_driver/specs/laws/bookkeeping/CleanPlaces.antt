@@ -1,25 +1,18 @@
 -- A body comes to a clean place from clean ones alone, by moves that read no register and write nothing.
--- From adc_groups: services.Decisions, adc_groups: services.BodySteps, adc_groups: services.WriteBatchSteps and 3 more.
--- Used by bookkeeping.BodiesRight.
-use Rattle.std.proofs.Common.{◌≡◌, ◌==◌, ◌&&◌, ◌∙◌, if◌then◌else◌}
+-- From adc_groups: services.BodySteps, adc_groups: services.Decisions, adc_groups: services.WriteBatchSteps and 4 more.
+-- Used by bookkeeping.Joined.
+use Rattle.std.proofs.Common.{◌≡◌, ◌&&◌, ◌==◌, ◌∙◌, if◌then◌else◌}
 use Rattle.adc_driver.specs.Terms
-use Terms.{aborted_by, Aborts, AdcBody, AdcTable, after_making, Answer, begins, begins_next, body_takes, body_work}
-use Terms.{BodyTaken, Bool, choose_takes, Chooses, clean_at, clean_in, Cleans, Continuation, Decided, decided, Done}
-use Terms.{Ends, entered, Event, false, Flag, flagged, follows, Front, front_gave, front_left, front_start, given}
-use Terms.{Goes, group_in, group_of, is_full, is_on, is_quiet, is_ready, is_some, KeepsClean, leaves, length, List}
-use Terms.{look_move, look_takes, looking, Looks, Makes, makes, making_event, making_left, making_over, Move, nat_lt}
-use Terms.{None, one_more, opened, Opens, Option, or_owed, order_of, Out, Outside, outside_left, over, owes_at}
-use Terms.{PendingWrites, Pins, Place, place_move, place_takes, Put, put_gave, put_left, put_start, Quits, rank_of}
-use Terms.{ranks_of, Reads, refl, round_seen, rounds_of, RoundSeen, samples_of, seek_takes, Seeks, seen_more, serve}
-use Terms.{serving, Some, sought, step, subst, Surveys, Suspended, suspends, sym, take_by, Taken, trio_of, true}
-use Terms.{unit_named, whether_as, Window, Word, word_at, word_seen, WriteBatch, yields_by, ℕ}
-use Rattle.adc_driver.specs.laws.bookkeeping.Rank.{bodies}
-use Rattle.mcal_base.specs.declared.moves.Event.TheVariants as events
-use Rattle.mcal_base.specs.declared.moves.Move.TheVariants as moves
-use Rattle.word_shapes.specs.declared.put.PutPart.TheVariants as puts
-use Rattle.adc_groups.specs.declared.making.Continuation.TheVariants as thens
-use Rattle.adc_groups.specs.declared.outside.Outside.TheVariants as outsides
-use Rattle.adc_groups.specs.declared.window.Window.TheVariants as windows
+use Terms.{Aborts, AdcBody, AdcTable, after_making, Answer, begins, body_takes, body_work, BodyTaken, Bool}
+use Terms.{choose_takes, Chooses, clean_at, clean_in, Cleans, Continuation, Decided, decided, Done, Ends, entered}
+use Terms.{Event, false, Flag, flagged, follows, Front, front_gave, front_left, given, Goes, group_in, group_of}
+use Terms.{is_on, is_quiet, is_ready, is_some, KeepsClean, length, List, look_move, look_takes, looking, Looks, Makes}
+use Terms.{making_event, making_left, making_over, Move, nat_lt, None, opened, Opens, Option, or_owed, Out, Outside}
+use Terms.{outside_left, owes_at, PendingWrites, Pins, Place, place_move, place_takes, Put, put_gave, put_left, Quits}
+use Terms.{rank_of, Reads, refl, round_seen, RoundSeen, seek_takes, Seeks, seen_more, serve, Some, sought, subst}
+use Terms.{Surveys, Suspended, sym, take_by, Taken, true, whether_as, Window, Word, word_at, word_seen, WriteBatch}
+use Terms.{yields_by, ℕ}
+use Rattle.adc_driver.specs.laws.{bookkeeping.Rank.{bodies}, words.EitherOne.{either}}
 
 -- ---- what was decided
 
@@ -53,58 +46,40 @@ entered_soiled w = whether_as (clean_in w) (λ q. clean_at (if q then Quits 0 el
     (λ e. e)
 
 flagged_soiled : (w : Window) (v : ℕ) → Soils (flagged w v)
-flagged_soiled w v =
-    elim (is_ready w v) as (λ q. Soils (if q then Goes (entered w) else over))
-    [ true ↦ entered_soiled w | false ↦ refl ]
+flagged_soiled w v = either Soils (is_ready w v) _ _ (entered_soiled w) refl
 
 -- windows other than the first one of a call
 yields_soiled : (d : AdcTable) (u c : ℕ) (o : Option ℕ) → clean_at (yields_by d u c o) ≡ false
 yields_soiled d u c None = refl
-yields_soiled d u c (Some g) = whether_as (c == 0) (λ q. clean_at (if q then Seeks (windows.Suspend u g) (front_start (order_of u) (ranks_of d)) else begins_next u) ≡ false)
-    (λ _. refl)
-    (λ _. refl)
+yields_soiled d u c (Some g) = either (λ k. clean_at k ≡ false) (c == 0) _ _ refl refl
 
 begins_soiled : (d : AdcTable) (u r c : ℕ) → Soils (begins d u r c)
-begins_soiled d u r c =
-    elim (r == 0 && c == 0) as (λ q. Soils (if q then Goes (Seeks (windows.Begin u) (front_start (order_of u) (ranks_of d))) else over))
-    [ true ↦ refl | false ↦ refl ]
+begins_soiled d u r c = either Soils (r == 0 && c == 0) _ _ refl refl
 
 take_soiled : (d : AdcTable) (u : ℕ) (o : Option ℕ) → Soils (take_by d u o)
 take_soiled d u None = refl
-take_soiled d u (Some g) =
-    elim (is_on u (group_of d g)) as (λ q. Soils (if q then Goes (Chooses u g (put_start (trio_of (rounds_of d g)) puts.Choose)) else over))
-    [ true ↦ refl | false ↦ refl ]
+take_soiled d u (Some g) = either Soils (is_on u (group_of d g)) _ _ refl refl
 
 serve_soiled : (d : AdcTable) (t : Taken) (x : RoundSeen) → Soils (serve d t x)
-serve_soiled d t x = by (x.running == 0)
-  where
-    by : (q : Bool) → Soils (if q then leaves d t.unit else (let c = one_more x.count (samples_of (group_of d t.group)) in makes (serving d t x c (is_full (group_of d t.group) c))))
-    by true = refl
-    by false = refl
+serve_soiled d t x = either Soils (x.running == 0) _ _ refl refl
 
 decided_soiled : (d : AdcTable) (w : Window) (seen : List ℕ) → clean_in w ≡ false → Soils (decided d w seen)
-decided_soiled d (windows.Yield u) seen e = yields_soiled d u (word_seen seen 1) (group_in (word_seen seen 0))
-decided_soiled d (windows.Suspend u g) seen e = refl
-decided_soiled d (windows.Keep r) seen e = refl
-decided_soiled d (windows.Begin u) seen e = begins_soiled d u (word_seen seen 0) (word_seen seen 1)
-decided_soiled d (windows.Leave u) seen e = refl
-decided_soiled d (windows.Convert u g c) seen e = refl
-decided_soiled d (windows.Take u) seen e = take_soiled d u (group_in (word_seen seen 0))
-decided_soiled d (windows.Claim t) seen e = refl
-decided_soiled d (windows.Serve t) seen e = serve_soiled d t (round_seen seen)
-decided_soiled d (windows.Trigger i g) seen e = refl
+decided_soiled d (Window.Yield u) seen e = yields_soiled d u (word_seen seen 1) (group_in (word_seen seen 0))
+decided_soiled d (Window.Suspend u g) seen e = refl
+decided_soiled d (Window.Keep r) seen e = refl
+decided_soiled d (Window.Begin u) seen e = begins_soiled d u (word_seen seen 0) (word_seen seen 1)
+decided_soiled d (Window.Leave u) seen e = refl
+decided_soiled d (Window.Convert u g c) seen e = refl
+decided_soiled d (Window.Take u) seen e = take_soiled d u (group_in (word_seen seen 0))
+decided_soiled d (Window.Claim t) seen e = refl
+decided_soiled d (Window.Serve t) seen e = serve_soiled d t (round_seen seen)
+decided_soiled d (Window.Trigger i g) seen e = refl
 decided_soiled d _ seen e = absurd (cc)
 
 sought_soiled : (d : AdcTable) (w : Window) (x : ℕ) → Soils (sought d w x)
-sought_soiled d (windows.Suspend u g) x = whether_as (nat_lt x 16 && nat_lt (rank_of d g) (rank_of d x)) (λ q. clean_at (if q then looking (windows.Suspend u g) else begins_next u) ≡ false)
-    (λ _. refl)
-    (λ _. refl)
-sought_soiled d (windows.Begin u) x =
-    elim (nat_lt x 16) as (λ q. Soils (if q then Goes (looking (windows.Convert u x false)) else over))
-    [ true ↦ refl | false ↦ refl ]
-sought_soiled d (windows.Leave u) x =
-    elim (nat_lt x 16) as (λ q. Soils (if q then Goes (looking (windows.Convert u x true)) else Goes (Quits u)))
-    [ true ↦ refl | false ↦ refl ]
+sought_soiled d (Window.Suspend u g) x = either (λ k. clean_at k ≡ false) (nat_lt x 16 && nat_lt (rank_of d g) (rank_of d x)) _ _ refl refl
+sought_soiled d (Window.Begin u) x = either Soils (nat_lt x 16) _ _ refl refl
+sought_soiled d (Window.Leave u) x = either Soils (nat_lt x 16) _ _ refl refl
 sought_soiled d _ x = refl
 
 -- ---- places
@@ -131,29 +106,21 @@ chooses_clean u g made r None = soiled false false made None refl
 chooses_clean u g made r (Some a) = soiled false false made None refl
 
 aborts_clean : (d : AdcTable) (r : Suspended) (x : ℕ) (made : Move) → CleansTo false made (place_takes d (Aborts r) x)
-aborts_clean d r x made = by (x == 1)
-  where
-    by : (q : Bool) → (let t : Option Event × Place = if q then (Some (events.Abort (unit_named r.unit)), Makes (aborted_by r (suspends (group_of d r.group)))) else (None, begins_next r.unit) in KeepsClean false made (clean_at t.1) None)
-    by true = soiled false false made None refl
-    by false = soiled false false made None refl
+aborts_clean d r x made = either (λ (t : Option Event × Place). KeepsClean false made (clean_at t.1) None) (x == 1) _ _ (soiled false false made None refl) (soiled false false made None refl)
 
 makes_clean : (d : AdcTable) (m : WriteBatch) (x : ℕ) (made : Move) → CleansTo false made (place_takes d (Makes m) x)
-makes_clean d m x made = by (making_over (making_left m x))
+makes_clean d m x made = either (λ t. CleansTo false made t) (making_over (making_left m x)) _ _ (over_clean (making_left m x) (making_left m x).after) (soiled false false made None refl)
   where
     over_clean : (n : WriteBatch) (t : Continuation) → CleansTo false made (after_making (making_event m) n t)
-    over_clean n (thens.Ends z) = tt
-    over_clean n (thens.Goes o) = soiled false false made None refl
-
-    by : (q : Bool) → CleansTo false made (if q then after_making (making_event m) (making_left m x) (making_left m x).after else (Makes (making_left m x), step (making_event m)))
-    by true = over_clean (making_left m x) (making_left m x).after
-    by false = soiled false false made None refl
+    over_clean n (Continuation.Ends z) = tt
+    over_clean n (Continuation.Goes o) = soiled false false made None refl
 
 outs_soiled : (d : AdcTable) (o : Outside) (x : ℕ) → clean_at (outside_left d o x) ≡ false
-outs_soiled d (outsides.Closes w) x = entered_soiled w
+outs_soiled d (Outside.Closes w) x = entered_soiled w
 outs_soiled d _ x = refl
 
 opens_soiled : (d : AdcTable) (o : Outside) → clean_at (opened d o) ≡ false
-opens_soiled d (outsides.Copies c a) = refl
+opens_soiled d (Outside.Copies c a) = refl
 opens_soiled d _ = refl
 
 place_cleans : (d : AdcTable) (k : Place) (x : ℕ) → CleansTo (clean_at k) (place_move d k) (place_takes d k x)
@@ -167,7 +134,7 @@ place_cleans d (Reads n) x = let t = place_takes d (Reads n) x in soiled false f
 place_cleans d (Aborts r) x = aborts_clean d r x (place_move d (Aborts r))
 place_cleans d (Makes m) x = makes_clean d m x (place_move d (Makes m))
 place_cleans d (Quits u) x = tt
-place_cleans d (Opens o) x = soiled false (clean_at (opened d o)) moves.Unmask None (opens_soiled d o)
+place_cleans d (Opens o) x = soiled false (clean_at (opened d o)) Move.Unmask None (opens_soiled d o)
 place_cleans d (Out o) x = soiled false (clean_at (outside_left d o x)) (place_move d (Out o)) None (outs_soiled d o x)
 
 -- ---- bodies

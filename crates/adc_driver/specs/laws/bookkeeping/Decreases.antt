@@ -1,33 +1,30 @@
 -- Each step of a body leaves fewer steps, and one inside a window fewer of its moves.
--- From bookkeeping.Rank, adc_groups: services.BodySteps, adc_groups: services.Decisions and 8 more.
--- Used by bookkeeping.MaskShut, bookkeeping.RankDecreases, bookkeeping.MaskDiscipline.
-use Rattle.std.proofs.Common.{◌≡◌, ◌⊎◌, ◌+◌, ◌-◌, ◌*◌, ◌<◌, ◌≤◌, ◌==◌, ◌&&◌, ◌||◌, [], ◌∷◌, ◌++◌, ◌∙◌, if◌then◌else◌}
+-- From bookkeeping.Rank, adc_groups: services.BodySteps, bookkeeping.WindowBounds and 7 more.
+-- Used by bookkeeping.MaskDiscipline, bookkeeping.Joined.
+use Rattle.std.proofs.Common.{◌≡◌, ◌+◌, ◌-◌, ◌*◌, ◌<◌, ◌≤◌, ◌&&◌, ◌||◌, ◌==◌, [], ◌∷◌, ◌++◌, ◌∙◌, ◌⊎◌, if◌then◌else◌}
 use Rattle.adc_driver.specs.Terms
-use Terms.{aborted_by, Aborts, AdcTable, after_by, after_copies, after_making, all_kept, all_rooms, Answer, ap, arith}
-use Terms.{banks_left, begins_next, BodyTaken, Bool, choose_takes, Chooses, Continuation, Copied, copies_on, count_of}
-use Terms.{Decided, decided, Done, drop, Ends, Event, false, Flag, flagged, follows, Front, front-lowers, front_gave}
-use Terms.{front_left, front_room, given, Goes, group_of, has_read, inl, inr, is_first, is_some, Keeps, keeps_some}
-use Terms.{left_by, length, length-append, length-drop, limited, List, look_takes, Looks, LowersTo, Makes}
-use Terms.{making_event, making_left, making_over, nat_le, nat_lt, nat_tests, Newest, None, not, one_made, opened}
-use Terms.{Opens, Option, order_left, Out, Outside, outside_left, Phase, Pins, Place, place_takes, Put, put-lowers}
-use Terms.{put_gave, put_left, put_room, Quits, read_more, Reading, reading, Reads, refl, rooms, rounds_of}
-use Terms.{seek_takes, Seeks, seen_more, shape_lowers, shape_room, ShortensTo, slice_get, Some, some_room}
-use Terms.{some_within, sought, Stage, stage_by, stage_read, step, StructureOp, subst, surveyed, Surveys, Suspended}
-use Terms.{suspends, sym, Take, take-lowers, take_gave, take_left, take_room, taken_by, Tells, true, unit_named}
-use Terms.{whether_as, Window, WindowWrite, Word, word_at, words_of, WriteBatch, ℕ}
+use Terms.{aborted_by, Aborts, AdcBody, AdcTable, after_by, after_copies, after_making, all_kept, all_rooms, Answer}
+use Terms.{ap, arith, banks_left, begins_next, body_takes, BodyTaken, Bool, choose_takes, Chooses, Continuation}
+use Terms.{Copied, copies_on, count_of, Decided, decided, Done, drop, Ends, Event, false, Flag, flagged, follows}
+use Terms.{Front, front-lowers, front_gave, front_left, front_room, given, Goes, group_of, has_read, inl, inr}
+use Terms.{is_first, is_some, Keeps, keeps_some, left_by, length, length-append, length-drop, limited, List}
+use Terms.{look_takes, Looks, LowersTo, Makes, making_event, making_left, making_over, nat_le, nat_lt, nat_tests}
+use Terms.{Newest, None, not, one_made, opened, Opens, Option, or_owed, order_left, Out, Outside, outside_left}
+use Terms.{owed_of, owes_at, PendingWrites, Phase, Pins, Place, place_takes, Put, put-lowers, put_gave, put_left}
+use Terms.{put_room, Quits, read_more, Reading, Reads, refl, rooms, rounds_of, seek_takes, Seeks, seen_more}
+use Terms.{shape_lowers, shape_room, Shortens, ShortensTo, slice_get, Some, some_room, some_within, sought, Stage}
+use Terms.{stage_by, stage_read, step, steps_then, StructureOp, subst, surveyed, Surveys, Suspended, suspends, sym}
+use Terms.{Take, take-lowers, take_gave, take_left, take_room, taken_by, Tells, true, unit_named, whether_as, Window}
+use Terms.{WindowWrite, Word, word_at, words_of, WriteBatch, ℕ}
 use Rattle.adc_driver.specs.laws.bookkeeping.WindowBounds.{Covers, copies_few, decided_covers, entered_few}
 use Rattle.adc_driver.specs.laws.bookkeeping.WindowBounds.{flagged_covers, sought_covers, surveyed_covers}
 use Rattle.adc_driver.specs.laws.bookkeeping.Rank.{begin_cost, claiming, copied_cost, copy_by, cost, decided_cost}
-use Rattle.adc_driver.specs.laws.bookkeeping.Rank.{inputs_at, keeps_after, look_cost, making_cost, open_cost, out_cost}
-use Rattle.adc_driver.specs.laws.bookkeeping.Rank.{seek_cost, stage_cost, then_cost}
-use Rattle.adc_driver.specs.laws.bookkeeping.SizeBounds.{limited_few}
-use Rattle.mcal_base.specs.declared.moves.Event.TheVariants as events
+use Rattle.adc_driver.specs.laws.bookkeeping.Rank.{inputs_at, keeps_after, look_cost, making_cost, open_cost}
+use Rattle.adc_driver.specs.laws.bookkeeping.Rank.{out_cost, seek_cost, stage_cost, then_cost, limited_few, bodies}
+use Rattle.adc_driver.specs.laws.bookkeeping.Rank.{body_fuel}
 use Rattle.adc_stream.specs.declared.copying.Copied as streams
 use Rattle.adc_stream.specs.declared.copying.Copied.TheVariants as copied
-use Rattle.adc_groups.specs.declared.making.Continuation.TheVariants as thens
-use Rattle.adc_groups.specs.declared.outside.Outside.TheVariants as outsides
-use Rattle.adc_groups.specs.declared.service.read.Stage.TheVariants as stages
-use Rattle.adc_groups.specs.declared.window.Window.TheVariants as windows
+use Rattle.mcal_base.specs.facts.Truths.{or_true}
 
 -- the step leaves fewer than this, or is one of them
 abbrev pub Lowers : (steps : Bool) → AdcTable → ℕ → Place × BodyTaken → Type 0
@@ -35,7 +32,7 @@ Lowers q d n t = ShortensTo n (cost q d t.0) t.1.done
 
 -- the places at which a step is one of the window's moves, neither its first nor its last
 abbrev pub is_inner_stage : Stage → Bool
-is_inner_stage (stages.Releases t) = true
+is_inner_stage (Stage.Releases t) = true
 is_inner_stage _ = false
 
 abbrev pub is_inner : Place → Bool
@@ -57,7 +54,7 @@ follows_lower q d k n m (Goes j) le lt = omega (arith, le, lt)
 -- ---- words that are looked at
 
 words_few : (w : Window) → length (words_of w) ≤ 6
-words_few windows.Close = omega arith
+words_few Window.Close = omega arith
 words_few _ = omega arith
 
 seen_length : (seen : List ℕ) (x n : ℕ) → n ≤ 6 → length (seen_more seen x) < n → length (seen_more seen x) ≡ length seen + 1
@@ -93,10 +90,10 @@ chooses_lower q d u g r x = by (put_gave r x).ended (put-lowers r x)
     by None lt = let less = lt in omega (arith, less)
     by (Some a) lt = let less = lt in omega (arith, less)
 
-releases_lower : (q : Bool) (d : AdcTable) (r : Reading) (t : Take) (x : ℕ) → let s = stage_by (take_left t x) (take_gave t x).ended in stage_cost q r s < stage_cost q r (stages.Releases t)
+releases_lower : (q : Bool) (d : AdcTable) (r : Reading) (t : Take) (x : ℕ) → let s = stage_by (take_left t x) (take_gave t x).ended in stage_cost q r s < stage_cost q r (Stage.Releases t)
 releases_lower q d r t x = stage_lowers q (take_gave t x).ended (take-lowers t x)
   where
-    stage_lowers : (q : Bool) (o : Option Answer) → LowersTo (take_room t) (take_room (take_left t x)) o → stage_cost q r (stage_by (take_left t x) o) < stage_cost q r (stages.Releases t)
+    stage_lowers : (q : Bool) (o : Option Answer) → LowersTo (take_room t) (take_room (take_left t x)) o → stage_cost q r (stage_by (take_left t x) o) < stage_cost q r (Stage.Releases t)
     stage_lowers true None lt = let less = lt in omega (arith, less)
     stage_lowers true (Some a) lt = let less = lt in omega (arith, less)
     stage_lowers false None lt = let less = lt in omega (arith, less)
@@ -109,7 +106,7 @@ pins_lower false d g p x = omega arith
 aborts_lower : (q : Bool) (d : AdcTable) (r : Suspended) (x : ℕ) → Lowers q d (cost q d (Aborts r)) (place_takes d (Aborts r) x)
 aborts_lower q d r x = by q (x == 1) (suspends (group_of d r.group))
   where
-    by : (q a s : Bool) → (let t : Option Event × Place = if a then (Some (events.Abort (unit_named r.unit)), Makes (aborted_by r s)) else (None, begins_next r.unit) in cost q d t.1) < cost q d (Aborts r)
+    by : (q a s : Bool) → (let t : Option Event × Place = if a then (Some (Event.Abort (unit_named r.unit)), Makes (aborted_by r s)) else (None, begins_next r.unit) in cost q d t.1) < cost q d (Aborts r)
     by true true true = omega arith
     by false true true = omega arith
     by _ _ _ = omega arith
@@ -171,8 +168,8 @@ makes_lower q d m x = over_or_next (making_over n) refl
     less = made_less m x
 
     over : (t : Continuation) → t ≡ m.after → Lowers q d (making_cost q d m) (after_making (making_event m) n t)
-    over (thens.Ends z) e = omega arith
-    over (thens.Goes o) e = let same : then_cost q d (thens.Goes o) ≡ then_cost q d m.after = ap (then_cost q d) e in omega (arith, same)
+    over (Continuation.Ends z) e = omega arith
+    over (Continuation.Goes o) e = let same : then_cost q d (Continuation.Goes o) ≡ then_cost q d m.after = ap (then_cost q d) e in omega (arith, same)
 
     over_or_next : (b : Bool) → making_over n ≡ b → Lowers q d (making_cost q d m) (if b then after_making (making_event m) n n.after else (Makes n, step (making_event m)))
     over_or_next true e = over n.after less.0
@@ -198,29 +195,29 @@ copied_less d c i (Some y) a x = by (nat_lt (i + 1) (count_of c)) refl
     by false e = let le = over a in omega (arith, le)
 
 kept_less : (d : AdcTable) (r : Suspended) (n : ℕ) → n ≤ inputs_at d r.group → out_cost d (keeps_some d r n) ≤ 2 * inputs_at d r.group + keeps_after d
-kept_less d r n few = copies_few d (copied.Ended (rounds_of d r.group) r.unit n r.kept) (Keeps (all_kept r n)) (outsides.Closes (windows.Keep (all_kept r n))) (inputs_at d r.group) (keeps_after d) (omega (arith, few)) (omega arith) (omega arith)
+kept_less d r n few = copies_few d (copied.Ended (rounds_of d r.group) r.unit n r.kept) (Keeps (all_kept r n)) (Outside.Closes (Window.Keep (all_kept r n))) (inputs_at d r.group) (keeps_after d) (omega (arith, few)) (omega arith) (omega arith)
 
 outs_lower : (d : AdcTable) (o : Outside) (x : ℕ) → cost true d (outside_left d o x) < out_cost d o
-outs_lower d (outsides.Copies c a) x = copied_less d c.what c.done c.value a x
-outs_lower d (outsides.Counts r) x = let k = inputs_at d r.group in let n = k - limited r.kept k in let few = limited_few x n in let le = kept_less d r (limited x n) (omega (arith, few)) in omega (arith, le)
-outs_lower d (outsides.Closes w) x = let le = entered_few true d w in omega (arith, le)
+outs_lower d (Outside.Copies c a) x = copied_less d c.what c.done c.value a x
+outs_lower d (Outside.Counts r) x = let k = inputs_at d r.group in let n = k - limited r.kept k in let few = limited_few x n in let le = kept_less d r (limited x n) (omega (arith, few)) in omega (arith, le)
+outs_lower d (Outside.Closes w) x = let le = entered_few true d w in omega (arith, le)
 outs_lower d _ x = omega arith
 
 opens_lower : (d : AdcTable) (o : Outside) → cost true d (opened d o) < open_cost d o
-opens_lower d (outsides.Copies c a) = omega arith
+opens_lower d (Outside.Copies c a) = omega arith
 opens_lower d _ = omega arith
 
 -- ---- a bank that is read
 
-reads_lower : (d : AdcTable) (r : Reading) (x : ℕ) → stage_cost true (read_more r x) (stage_read (has_read (read_more r x))) < stage_cost true r stages.Reads
+reads_lower : (d : AdcTable) (r : Reading) (x : ℕ) → stage_cost true (read_more r x) (stage_read (has_read (read_more r x))) < stage_cost true r Stage.Reads
 reads_lower d r x = by (nat_lt (length r.values) 32) refl
   where
-    shuts : (s : Reading) → has_read s ≡ true → stage_cost true s (stage_read (has_read s)) < stage_cost true r stages.Reads
-    shuts s e = subst (λ q. stage_cost true s (stage_read q) < stage_cost true r stages.Reads) (sym e) (omega arith)
+    shuts : (s : Reading) → has_read s ≡ true → stage_cost true s (stage_read (has_read s)) < stage_cost true r Stage.Reads
+    shuts s e = subst (λ q. stage_cost true s (stage_read q) < stage_cost true r Stage.Reads) (sym e) (omega arith)
 
-    goes_on : (s : Reading) → s.rounds ≡ r.rounds → length s.values ≡ length r.values + 1 → (q : Bool) → has_read s ≡ q → stage_cost true s (stage_read (has_read s)) < stage_cost true r stages.Reads
+    goes_on : (s : Reading) → s.rounds ≡ r.rounds → length s.values ≡ length r.values + 1 → (q : Bool) → has_read s ≡ q → stage_cost true s (stage_read (has_read s)) < stage_cost true r Stage.Reads
     goes_on s i k true e = shuts s e
-    goes_on s i k false e = subst (λ q. stage_cost true s (stage_read q) < stage_cost true r stages.Reads) (sym e) (let same : s.rounds.inputs ≡ r.rounds.inputs = ap (λ z. z.inputs) i in let more = left s e in omega (arith, same, more, k))
+    goes_on s i k false e = subst (λ q. stage_cost true s (stage_read q) < stage_cost true r Stage.Reads) (sym e) (let same : s.rounds.inputs ≡ r.rounds.inputs = ap (λ z. z.inputs) i in let more = left s e in omega (arith, same, more, k))
       where
         left : (s : Reading) → has_read s ≡ false → length s.values < s.rounds.inputs
         left s e = grind (arith, nat_tests, e)
@@ -232,18 +229,18 @@ reads_lower d r x = by (nat_lt (length r.values) 32) refl
         by true = ap (λ z. not z) e
         by false = refl
 
-    by : (q : Bool) → nat_lt (length r.values) 32 ≡ q → (let s : Reading = if q then record r { values = r.values ++ x ∷ [] } else r in stage_cost true s (stage_read (has_read s)) < stage_cost true r stages.Reads)
+    by : (q : Bool) → nat_lt (length r.values) 32 ≡ q → (let s : Reading = if q then record r { values = r.values ++ x ∷ [] } else r in stage_cost true s (stage_read (has_read s)) < stage_cost true r Stage.Reads)
     by true e = let s : Reading = record r { values = r.values ++ x ∷ [] } in goes_on s refl (length-append r.values (x ∷ [])) (has_read s) refl
     by false e = shuts r (past e)
 
 -- ---- all places
 
 stages_lower : (q : Bool) (d : AdcTable) (r : Newest) (s : Stage) (x : ℕ) → r.stage ≡ s → is_inner_stage s || q ≡ true → Lowers q d (stage_cost q r.reading s) (Reads (left_by r s x), taken_by s)
-stages_lower true d r stages.Reads x e i = reads_lower d r.reading x
-stages_lower true d r stages.Shuts x e i = omega arith
-stages_lower q d r (stages.Releases t) x e i = releases_lower q d r.reading t x
-stages_lower true d r stages.Leaves x e i = omega arith
-stages_lower true d r stages.Over x e i = omega arith
+stages_lower true d r Stage.Reads x e i = reads_lower d r.reading x
+stages_lower true d r Stage.Shuts x e i = omega arith
+stages_lower q d r (Stage.Releases t) x e i = releases_lower q d r.reading t x
+stages_lower true d r Stage.Leaves x e i = omega arith
+stages_lower true d r Stage.Over x e i = omega arith
 stages_lower _ d r _ x e i = absurd (cc)
 
 -- Each step leaves fewer steps, and one inside a window fewer of its moves.
@@ -261,3 +258,57 @@ place_lowers q d (Quits u) x i = omega arith
 place_lowers true d (Opens o) x i = opens_lower d o
 place_lowers true d (Out o) x i = outs_lower d o x
 place_lowers _ d _ x i = absurd (cc)
+
+-- ---- The steps and moves that bodies have left are those of their places, also while they owe moves; and each step leaves fewer.
+
+-- ---- moves that are owed
+
+-- they are as many as those of the making, and what comes after them
+owed_cost : (f : AdcTable → Continuation → ℕ) (x : AdcTable) (o b : Option StructureOp) (ds : List WindowWrite) (t : Continuation) → or_owed (λ (y : PendingWrites). 1 + (all_rooms y.order y.banks y.deeds - 1 + f y.table y.after)) (owed_of x o b ds t) (1 + (all_rooms o b ds - 1 + f x t)) ≡ 1 + (all_rooms o b ds - 1 + f x t)
+owed_cost f x None None (y ∷ ys) t = refl
+owed_cost f x _ _ _ t = refl
+
+making_same : (f g : AdcTable → Continuation → ℕ) (x : AdcTable) (m : WriteBatch) → f x m.after ≡ g x m.after → or_owed (λ (y : PendingWrites). 1 + (all_rooms y.order y.banks y.deeds - 1 + f y.table y.after)) (owes_at x (Makes m)) (1 + (all_rooms m.order m.banks (drop m.made m.deeds) - 1 + g x m.after)) ≡ 1 + (all_rooms m.order m.banks (drop m.made m.deeds) - 1 + g x m.after)
+making_same f g x m e = subst (λ n. or_owed (λ (y : PendingWrites). 1 + (all_rooms y.order y.banks y.deeds - 1 + f y.table y.after)) (owes_at x (Makes m)) (1 + (all_rooms m.order m.banks (drop m.made m.deeds) - 1 + n)) ≡ 1 + (all_rooms m.order m.banks (drop m.made m.deeds) - 1 + n)) e (by (is_some m.event && nat_le m.made m.ahead))
+  where
+    by : (q : Bool) → or_owed (λ (y : PendingWrites). 1 + (all_rooms y.order y.banks y.deeds - 1 + f y.table y.after)) (if q then None else owed_of x m.order m.banks (drop m.made m.deeds) m.after) (1 + (all_rooms m.order m.banks (drop m.made m.deeds) - 1 + f x m.after)) ≡ 1 + (all_rooms m.order m.banks (drop m.made m.deeds) - 1 + f x m.after)
+    by true = refl
+    by false = owed_cost f x m.order m.banks (drop m.made m.deeds) m.after
+
+-- ---- bodies
+
+then_steps : (x : AdcTable) (t : Continuation) → steps_then body_fuel x t ≡ then_cost true x t
+then_steps x (Continuation.Ends n) = refl
+then_steps x (Continuation.Goes o) = refl
+
+then_moves : (x : AdcTable) (t : Continuation) → 0 ≡ then_cost false x t
+then_moves x (Continuation.Ends n) = refl
+then_moves x (Continuation.Goes o) = refl
+
+pub fuel_is : (d : AdcTable) (k : AdcBody) → (bodies d).fuel k ≡ cost true k.table k.place
+fuel_is d k = by k.table k.place
+  where
+    by : (x : AdcTable) (p : Place) → (bodies d).fuel (record { table = x; place = p }) ≡ cost true x p
+    by x (Makes m) = making_same (steps_then body_fuel) (then_cost true) x m (then_steps x m.after)
+    by x _ = refl
+
+pub room_is : (d : AdcTable) (k : AdcBody) → (bodies d).room k ≡ cost false k.table k.place
+room_is d k = by k.table k.place
+  where
+    by : (x : AdcTable) (p : Place) → (bodies d).room (record { table = x; place = p }) ≡ cost false x p
+    by x (Makes m) = making_same (λ y t. 0) (then_cost false) x m (then_moves x m.after)
+    by x _ = refl
+
+-- each step leaves a body fewer steps
+pub shortens : (d : AdcTable) (k : AdcBody) (v : ℕ) → owes_at k.table k.place ≡ None → Shortens (bodies d).fuel k (body_takes k v)
+shortens d k v e =
+    let t = body_takes k v in
+    subst (λ n. ShortensTo n ((bodies d).fuel t.0) t.1.done) (sym (fuel_is d k))
+    (subst (λ n. ShortensTo (cost true k.table k.place) n t.1.done) (sym (fuel_is d t.0)) (place_lowers true k.table k.place v (or_true (is_inner k.place))))
+
+-- and one inside a window fewer of its moves
+pub narrows : (d : AdcTable) (k : AdcBody) (v : ℕ) → is_inner k.place ≡ true → Shortens (bodies d).room k (body_takes k v)
+narrows d k v e =
+    let t = body_takes k v in
+    subst (λ n. ShortensTo n ((bodies d).room t.0) t.1.done) (sym (room_is d k))
+    (subst (λ n. ShortensTo (cost false k.table k.place) n t.1.done) (sym (room_is d t.0)) (place_lowers false k.table k.place v (ap (λ q. q || false) e)))

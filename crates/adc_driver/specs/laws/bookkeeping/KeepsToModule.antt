@@ -1,24 +1,25 @@
 -- The driver keeps to its module: registers, words and lines of others are nothing to it.
--- From bookkeeping.Lawful, adc_groups: words.WordsOfModule, adc_groups: bookkeeping.RefinementRight and 2 more.
+-- From bookkeeping.Lawful, adc_groups: words.Cases, adc_groups: words.WordsOfModule and 3 more.
 -- Used by bookkeeping.Joined.
-use Rattle.std.proofs.Common.{◌≡◌, ◌+◌, ◌*◌, ◌<◌, ◌≤◌, ◌^◌, ◌==◌, ◌&&◌, ◌||◌, [], ◌∷◌, ◌∙◌}
+use Rattle.std.proofs.Common.{◌≡◌, ◌+◌, ◌*◌, ◌^◌, ◌<◌, ◌≤◌, ◌&&◌, ◌||◌, ◌==◌, [], ◌∷◌, ◌∙◌}
 use Rattle.adc_driver.specs.Terms
 use Terms.{Adc, adc_machine, adc_owns, AdcBody, AdcGround, AdcState, AdcTable, all_groups, all_small, AllSmall}
 use Terms.{and_first, and_second, ap, arith, Asked, bare_right, Bool, buffer_number, by_line, Call, Called}
 use Terms.{ConverterAbort, ConverterAck, ConverterDone, ConverterGo, ConverterList, ConverterResult, ConverterState}
-use Terms.{EnableClear, EnableSet, EnablesOthers, EnablesWithin, entering, false, FitsAdc, Group, group_of}
-use Terms.{handled_by, has_bit, has_lines, Init, input_count, inputs_of, is_converter, is_for_lines, is_in_buffer}
-use Terms.{is_line_of, is_own_word, is_result_word, is_some, is_trigger_line, is_unit_line, is_used, is_within}
-use Terms.{is_word, IsSome, KeepsTo, length, List, list_any, Load, LongBodies, may_name, may_write, module_of_line}
-use Terms.{module_of_register, module_of_unit, module_of_word, Move, names_there, NamesOthers, NamesWithin, nat_lt}
-use Terms.{nat_tests, None, not, not-unless, object_count, One, only, Option, owns_written, place_count, Read, refl}
-use Terms.{Reg, ResultBuffer, samples_of, services_driver, Some, Spi0, Spi1, Starts, Store, TriggerClear}
-use Terms.{TriggerFlags, TriggerSet, true, whether, World, Write, WritesOthers, WritesWithin, ℕ}
-use Rattle.mcal_base.specs.{Layout.{start_of}, declared.layout.Array.TheVariants.{Round}}
+use Terms.{EnableClear, EnableSet, EnablesOthers, EnablesWithin, entering, false, FitsAdc, handled_by, has_bit}
+use Terms.{has_lines, Init, input_count, is_converter, is_for_lines, is_in_buffer, is_line_of, is_own_word}
+use Terms.{is_result_word, is_some, is_trigger_line, is_unit_line, is_used, is_within, is_word, IsSome, KeepsTo, List}
+use Terms.{list_any, Load, LongBodies, may_name, may_write, module_of_line, module_of_register, module_of_unit}
+use Terms.{module_of_word, Move, names_there, NamesOthers, NamesWithin, nat_lt, nat_tests, not, not-unless}
+use Terms.{object_count, One, only, Option, owns_written, place_count, places_few, Read, refl, Reg, ResultBuffer}
+use Terms.{services_driver, Spi0, Spi1, Starts, Store, TriggerClear, TriggerFlags, TriggerSet, true, whether}
+use Terms.{whether_as, World, Write, WritesOthers, WritesWithin, ℕ}
+use Rattle.adc_driver.specs.laws.bookkeeping.Lawful.{InitSweep, adc}
+use Rattle.mcal_base.specs.Layout.{start_of}
+use Rattle.mcal_base.specs.declared.layout.Array.TheVariants.{Round}
 use Rattle.run_model.specs.Machine.{Aborts}
 use Rattle.step_runner.specs.Whose.{is_of}
 use Rattle.adc_machine.specs.declared.call.ResultBuffer.TheVariants.{Zero}
-use Rattle.adc_driver.specs.laws.bookkeeping.Lawful.{InitSweep, adc}
 use Rattle.mcal_base.specs.declared.moves.Unit as units
 
 abbrev IsOurs : ℕ → Type 0
@@ -40,52 +41,17 @@ own_register _ e = cc
 -- ---- words
 
 driver_word : (k : ℕ) → 40960 ≤ k → k < 49152 → IsOurs k
-driver_word k low high =
-    let first : nat_lt k 8192 ≡ false = grind (arith, nat_tests) in
-    let second : nat_lt k 16384 ≡ false = grind (arith, nat_tests) in
-    let third : nat_lt k 24576 ≡ false = grind (arith, nat_tests) in
-    let fourth : nat_lt k 32768 ≡ false = grind (arith, nat_tests) in
-    let fifth : nat_lt k 40960 ≡ false = grind (arith, nat_tests) in
-    let last : nat_lt k 49152 ≡ true = grind (arith, nat_tests) in
-    rw (first, second, third, fourth, fifth, last) refl
+driver_word k low high = grind (arith, nat_tests)
 
 users_place : (k : ℕ) → 73728 ≤ k → k < 139264 → IsOurs k
-users_place k low high =
-    let first : nat_lt k 8192 ≡ false = grind (arith, nat_tests) in
-    let second : nat_lt k 16384 ≡ false = grind (arith, nat_tests) in
-    let third : nat_lt k 24576 ≡ false = grind (arith, nat_tests) in
-    let fourth : nat_lt k 32768 ≡ false = grind (arith, nat_tests) in
-    let fifth : nat_lt k 40960 ≡ false = grind (arith, nat_tests) in
-    let sixth : nat_lt k 49152 ≡ false = grind (arith, nat_tests) in
-    let seventh : nat_lt k 57344 ≡ false = grind (arith, nat_tests) in
-    let eighth : nat_lt k 65536 ≡ false = grind (arith, nat_tests) in
-    let users : nat_lt k 73728 ≡ false = grind (arith, nat_tests) in
-    let last : nat_lt k 139264 ≡ true = grind (arith, nat_tests) in
-    rw (first, second, third, fourth, fifth, sixth, seventh, eighth, users, last) refl
+users_place k low high = grind (arith, nat_tests)
 
 within_at : (from n k : ℕ) → is_within from n k ≡ true → (from ≤ k) × (k < from + n)
-within_at from n k e = (low (and_first (not (nat_lt k from)) (nat_lt k (from + n)) e), high (and_second (not (nat_lt k from)) (nat_lt k (from + n)) e))
-  where
-    low : not (nat_lt k from) ≡ true → from ≤ k
-    low i = grind (arith, nat_tests)
-
-    high : nat_lt k (from + n) ≡ true → k < from + n
-    high i = grind (arith, nat_tests)
+within_at from n k e = (grind (arith, nat_tests), grind (arith, nat_tests))
 
 module _ (d : AdcTable) (fits : FitsAdc d) where
   own_word : (k : ℕ) → is_own_word d k ≡ true → IsOurs k
   own_word k e = let p = within_at 40960 (64 + 32 * object_count d + 6 * input_count d) k e in let few = fits.room in driver_word k p.0 (let high = p.1 in omega (arith, few, high))
-
-  -- a buffer has at most 2,048 places
-  places_few : (g : ℕ) → place_count d g ≤ 2048
-  places_few g = by (group_of d g) refl
-    where
-      product : (n m : ℕ) → n ≤ 32 → m ≤ 64 → n * m ≤ 2048
-      product n m few small = grind (arith)
-
-      by : (k : Option Group) → group_of d g ≡ k → length (inputs_of k) * samples_of k ≤ 2048
-      by None e = omega arith
-      by (Some k) e = let fit = fits.groups g k e in product (length k.inputs) k.samples fit.few fit.places.1
 
   number_few : (b : ResultBuffer) → buffer_number b ≤ 1
   number_few Zero = omega arith
@@ -96,28 +62,20 @@ module _ (d : AdcTable) (fits : FitsAdc d) where
       let p = within_at (start_of (Round g (buffer_number b))) (place_count d g) k e in
       let low = p.0 in
       let high = p.1 in
-      let few = places_few g in
+      let few = places_few d fits g in
       let one = number_few b in
       users_place k (omega (arith, low)) (omega (arith, high, few, one, lt))
 
   in_buffers : (k : ℕ) (gs : List ℕ) → AllSmall gs → list_any (λ g. is_in_buffer d k g Zero || is_in_buffer d k g One) gs ≡ true → IsOurs k
   in_buffers k [] small e = absurd (cc)
-  in_buffers k (g ∷ gs) small e = by (is_in_buffer d k g Zero) refl (is_in_buffer d k g One) refl e (in_buffers k gs small.1)
+  in_buffers k (g ∷ gs) small e = whether_as (is_in_buffer d k g Zero) (λ a. (a || is_in_buffer d k g One) || others ≡ true → IsOurs k) (λ f _. in_buffer k g Zero small.0 f)
+      (λ _. whether_as (is_in_buffer d k g One) (λ b. b || others ≡ true → IsOurs k) (λ f _. in_buffer k g One small.0 f) (λ _ rest. in_buffers k gs small.1 rest)) e
     where
       others : Bool
       others = list_any (λ g. is_in_buffer d k g Zero || is_in_buffer d k g One) gs
 
-      by : (a : Bool) → is_in_buffer d k g Zero ≡ a → (b : Bool) → is_in_buffer d k g One ≡ b → (a || b) || others ≡ true → (others ≡ true → IsOurs k) → IsOurs k
-      by true f b h there rest = in_buffer k g Zero small.0 f
-      by false f true h there rest = in_buffer k g One small.0 h
-      by false f false h there rest = rest there
-
   own_place : (k : ℕ) → is_word d k ≡ true → IsOurs k
-  own_place k e = by (is_own_word d k) (is_result_word d k) e (own_word k) (in_buffers k all_groups all_small)
-    where
-      by : (a b : Bool) → a || b ≡ true → (a ≡ true → IsOurs k) → (b ≡ true → IsOurs k) → IsOurs k
-      by true b e f g = f refl
-      by false b e f g = g e
+  own_place k = whether_as (is_own_word d k) (λ q. q || is_result_word d k ≡ true → IsOurs k) (λ own _. own_word k own) (λ _ e. in_buffers k all_groups all_small e)
 
   -- ---- lines
 
@@ -180,11 +138,7 @@ module _ (d : AdcTable) (fits : FitsAdc d) where
   -- ---- handlers and units
 
   line_of : (l : ℕ) → is_some (entering {Asked = Asked} (handled_by d l (is_used d l))) ≡ true → is_line_of (only Adc) l ≡ true
-  line_of l h = by (is_used d l) refl h
-    where
-      by : (q : Bool) → is_used d l ≡ q → is_some (entering {Asked = Asked} (handled_by d l q)) ≡ true → is_line_of (only Adc) l ≡ true
-      by true e i = own_line l ((bare_right d fits).used_lines l e)
-      by false e i = absurd (cc)
+  line_of l h = whether_as (is_used d l) (λ q. is_some (entering {Asked = Asked} (handled_by d l q)) ≡ true → is_line_of (only Adc) l ≡ true) (λ e _. own_line l ((bare_right d fits).used_lines l e)) (λ _ i. absurd (cc)) h
 
   starts : (w : World) (s : AdcState) (u : units.Unit) (made_by : Option Call) (r : ℕ) → IsSome ((adc_machine d).happens w s (Starts u made_by r)) → only Adc (module_of_unit u) ≡ true
   starts w s Spi0 by r some = cc

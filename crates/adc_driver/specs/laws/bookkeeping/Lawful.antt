@@ -1,22 +1,28 @@
--- The driver, as the outline and the runner see it. It is lawful where its bodies are right, and where calls and handlers begin.
--- From adc_groups: services.LookSteps, bookkeeping.RefinementRight, adc_groups: services.BodySteps and 5 more.
+-- What the driver stands on is a basis, and its bodies are right where they are at the places that owe moves and at the others.
+-- From adc_groups: services.LookSteps, adc_groups: bookkeeping.PendingWritesRight and 7 more.
 -- Used by bookkeeping.Joined, bookkeeping.KeepsToModule, bookkeeping.NoneWaitsPlaces, services.BeginSteps.
 use Rattle.std.proofs.Common.{◌≡◌, ◌+◌, ◌-◌, ◌≤◌, ◌&&◌}
 use Rattle.adc_driver.specs.Terms
-use Terms.{adc_bodies, adc_looked, adc_setting, adc_windows, AdcBody, AdcGround, AdcRepresents, AdcState, AdcTable}
-use Terms.{and_first, any_ends, AnyBody, ap, AreEnding, AreEndingServices, AreFree, AreLong, AreWindows, arith, Asked}
-use Terms.{Beside, body_ends, Bool, both, both_ending, Call, Called, CanBegin, CaptureCountHigh, CaptureTimeHigh, Chip}
-use Terms.{Decides, ending_gave, Entered, false, first_words, FitsAdc}
-use Terms.{free_windows, Group, group_of, GroupCall, handled_by, InitBody}
-use Terms.{is_some, is_used, is_windowed, IsLawful, Load, LongBodies, MakesStarts, may_name, Move, names_there}
-use Terms.{no_duties, None, Option, owes_at, Plain, PulseCommit, PulseIdle, Read, refl}
-use Terms.{Reservations, Services, services_driver, services_lawful, Setup, short_left, short_move}
-use Terms.{Some, StartGroupConversion, STATE, steps_of, Sweep, TimerHigh, true, word_of, World}
-use Terms.{Write, ℕ}
+use Terms.{adc_basis_right, adc_bodies, adc_looked, adc_setting, adc_windows, AdcBody, AdcGround, AdcRepresents}
+use Terms.{AdcState, AdcTable, alike_chips, and_first, any_ends, AnyBody, ap, AreEnding, AreEndingServices, AreFree}
+use Terms.{AreLong, AreWindows, arith, Asked, bare, Beside, body_ends, Bool, both, both_ending, Call, Called}
+use Terms.{CanBegin, CaptureCountHigh, CaptureTimeHigh, Chip, Decides, ending_gave, Entered, false, first_words}
+use Terms.{FitsAdc, free_windows, Group, group_of, GroupCall, handled_by, InitBody, is_some, is_used, is_windowed}
+use Terms.{IsBasis, IsLawful, Load, LongBodies, MakesStarts, making_owed, may_name, Move, names_there, no_duties}
+use Terms.{None, Option, owed_right, owes_at, Plain, PulseCommit, PulseIdle, Read, refl, Reservations, Services}
+use Terms.{services_driver, services_lawful, Setup, short_left, short_move, Some, StartGroupConversion, STATE}
+use Terms.{steps_of, Sweep, TimerHigh, true, windows_right, word_of, World, Write, ℕ}
 use Rattle.mcal_base.specs.declared.register.Reg.TheVariants.{SerialWait}
-use Rattle.adc_driver.specs.laws.bookkeeping.RefinementRight.{bodies_right, ground_right}
 use Rattle.adc_machine.specs.Bounds as bounds
-use Rattle.adc_machine.specs.declared.call.Call.TheVariants as calls
+
+module _ (d : AdcTable) (fits : FitsAdc d) where
+  pub ground_right : IsBasis (AdcGround d)
+  ground_right = adc_basis_right d fits
+
+  pub bodies_right : (f r : AdcBody → ℕ) → AreWindows (adc_windows d f r) body_ends → AreFree (AdcGround d) (adc_bodies d f r) (λ k. owes_at k.table k.place) body_ends → AreEnding (AdcGround d) (adc_bodies d f r) body_ends
+  bodies_right f r wins free = windows_right (bare d) (making_owed d) (alike_chips d) (owed_right d fits) (adc_windows d f r) body_ends wins free
+
+-- ---- The driver, as the outline and the runner see it. It is lawful where its bodies are right, and where calls and handlers begin.
 
 abbrev pub InitSweep : Type 0
 InitSweep = Sweep Setup InitBody
@@ -76,7 +82,7 @@ module _ (d : AdcTable) (fuel room : AdcBody → ℕ) (inits : LongBodies (AdcGr
     group_steps _ _ = omega arith
 
     call_steps : (call : Call) → 7 + (steps_of d (Called call) - 7) ≤ steps_of d (Called call)
-    call_steps (calls.Group g c) = let most = group_steps c (group_of d g) in omega (arith, most)
+    call_steps (Call.Group g c) = let most = group_steps c (group_of d g) in omega (arith, most)
     call_steps _ = omega arith
 
     pub adc_right : AreEndingServices adc any_ends

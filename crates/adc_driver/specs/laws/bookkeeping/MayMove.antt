@@ -1,7 +1,7 @@
 -- The move of each place that owes nothing is one that a frame of the module may make: it names a word of the module, or a register
 -- of the converters that is there, or the mask or a notice.
--- From adc_groups: words.WordsOfModule, adc_groups: services.Decisions, adc_turns: services.WriteBatchRight and 7 more.
--- Used by bookkeeping.BodiesRight.
+-- From adc_groups: words.WordsOfModule, adc_groups: services.Decisions, adc_turns: services.WriteBatchRight and 8 more.
+-- Used by bookkeeping.Joined.
 use Rattle.std.proofs.Common.{◌≡◌, ◌+◌, ◌-◌, ◌*◌, ◌<◌, ◌≤◌, ◌&&◌, ◌||◌, [], ◌∷◌, ◌∙◌, ◌⊎◌, if◌then◌else◌}
 use Rattle.adc_driver.specs.Terms
 use Terms.{Aborts, adc_bodies, adc_windows, AdcBody, AdcGround, AdcState, AdcTable, Agrees, and_from, ap, arith}
@@ -14,28 +14,18 @@ use Terms.{IsDealing, IsReleasing, IsSeeking, IsStarting, KeepsThem, kept_word, 
 use Terms.{list_at, list_deed, lists_for, Load, look_move, Looks, low_words, lt_from, Makes, making_move, may}
 use Terms.{MayCopy, MayPin, MaySeek, MayServe, Move, move_by, moves_ahead, NamesOwn, nat_lt, Newest, None}
 use Terms.{nothing_more, Notifies, number_of, of_driver, on_there, Opens, Option, order_of, order_words, order_work}
-use Terms.{Orders, Origin, Out, OutPlace, outside_move, owes_at, Pins, Place, place_at, place_move, place_out}
-use Terms.{place_sum, place_within, place_words, PointAssertion, Points, Prepares, Pulses, put_move, Quits, Read}
-use Terms.{read_spot, ReadsPlace, refl, Reservations, Round, round_at, Rounds, rounds_of, running_at, running_words}
-use Terms.{samples_of, Seeks, Serves, Sets_up, shape_move, slice_get, Some, sought_unit, spot_at, spot_making}
-use Terms.{spot_or, spot_start, Stage, stage_move, start_deeds, start_of, STATE, Stops, Stops_turn, Store}
-use Terms.{StructureOp, subst, suc, Surveys, sym, Take, take_move, Tells, trio_of, true, unit_in, unit_named}
-use Terms.{unit_within, whether_as, Window, WindowWrite, with_holds, Within, Word, word_number, word_there, WORDS}
-use Terms.{words_of, World, Write, WriteBatch, Zero, zero, ℕ}
+use Terms.{Orders, Origin, Out, OutPlace, Outside, outside_move, owes_at, Pins, Place, place_at, place_move}
+use Terms.{place_out, place_sum, place_within, place_words, PointAssertion, Points, Prepares, Pulses, put_move, Quits}
+use Terms.{Read, read_spot, ReadsPlace, refl, Reservations, Round, round_at, Rounds, rounds_of, running_at}
+use Terms.{running_words, samples_of, Seeks, Serves, Sets_up, shape_move, slice_get, Some, some_ahead, sought_unit}
+use Terms.{spot_at, spot_making, spot_or, spot_start, Stage, stage_move, start_deeds, start_of, STATE, Stops}
+use Terms.{Stops_turn, Store, StructureOp, subst, suc, Surveys, sym, Take, take_move, Tells, trio_of, true, unit_in}
+use Terms.{unit_named, unit_within, whether_as, Window, WindowWrite, with_holds, Within, Word, word_number}
+use Terms.{word_there, WORDS, words_of, World, WriteBatch, Zero, zero, ℕ}
+use Rattle.adc_driver.specs.laws.words.EitherOne.{either}
 use Rattle.word_shapes.specs.PriorityQueue.{own_of}
-use Rattle.mcal_base.specs.declared.moves.Event.TheVariants as events
-use Rattle.word_shapes.specs.declared.take.Take.TheVariants as takes
 use Rattle.adc_stream.specs.declared.copying.Copied as streams
 use Rattle.adc_stream.specs.declared.copying.Copied.TheVariants as copied
-use Rattle.adc_groups.specs.declared.making.WindowWrite.TheVariants as deeds
-use Rattle.adc_groups.specs.declared.making.StructureOp.TheVariants as shapes
-use Rattle.adc_groups.specs.declared.outside.Outside.TheVariants as outsides
-use Rattle.adc_groups.specs.declared.service.read.Stage.TheVariants as stages
-use Rattle.adc_groups.specs.declared.window.Window.TheVariants as windows
-use Rattle.adc_groups.specs.declared.words.Word.TheVariants as words
-
-which : (m n : ℕ) → (m < n) ⊎ ((m ≡ n) ⊎ (n < m))
-which m n = grind arith
 
 module _ (d : AdcTable) (fits : FitsAdc d) where
   -- a frame may make the move
@@ -94,41 +84,41 @@ module _ (d : AdcTable) (fits : FitsAdc d) where
     -- ---- windows that look at words
 
     window_words : (win : Window) → InWindow d win below w s o p → Agrees d (with_holds o p.acted (hold_in win) below) chip w s → AllOwn (words_of win)
-    window_words windows.Close is h = tt
-    window_words (windows.Setup g b) is h = (low g 0 is.1.there (omega arith), tt)
-    window_words (windows.Status g) is h = (low g 0 is.1.there (omega arith), tt)
-    window_words (windows.Point g) is h = (low g 0 is.1.there (omega arith), (low g 4 is.1.there (omega arith), (low g 5 is.1.there (omega arith), tt)))
-    window_words (windows.Read g) is h = (low g 0 is.0.1.there (omega arith), tt)
-    window_words (windows.Start g) is h = (low g 1 is.1.there (omega arith), (low g 0 is.1.there (omega arith), tt))
-    window_words (windows.Enable g) is h = (low g 1 is.1.there (omega arith), (low g 0 is.1.there (omega arith), tt))
-    window_words (windows.Stop u g) is h =
+    window_words Window.Close is h = tt
+    window_words (Window.Setup g b) is h = (low g 0 is.1.there (omega arith), tt)
+    window_words (Window.Status g) is h = (low g 0 is.1.there (omega arith), tt)
+    window_words (Window.Point g) is h = (low g 0 is.1.there (omega arith), (low g 4 is.1.there (omega arith), (low g 5 is.1.there (omega arith), tt)))
+    window_words (Window.Read g) is h = (low g 0 is.0.1.there (omega arith), tt)
+    window_words (Window.Start g) is h = (low g 1 is.1.there (omega arith), (low g 0 is.1.there (omega arith), tt))
+    window_words (Window.Enable g) is h = (low g 1 is.1.there (omega arith), (low g 0 is.1.there (omega arith), tt))
+    window_words (Window.Stop u g) is h =
         let there = on_there u (group_of d g) is.0 in
         let few = unit_within d fits u g is.0 in
         (low g 0 there (omega arith), (low g 3 there (omega arith), (running_words d u few, (claim_words d u few, tt))))
-    window_words (windows.Yield u) is h = (running_words d u is.1, (claim_words d u is.1, tt))
-    window_words (windows.Suspend u g) (done, few, on, free, is, first) h = (low g 6 (runs_there (with_holds o p.acted (hold_in (windows.Suspend u g)) below) u g is.round h is.is is.group) (omega arith), tt)
-    window_words (windows.Keep r) is h = (claim_words d r.unit is.1, tt)
-    window_words (windows.Begin u) is h = (running_words d u is.1, (claim_words d u is.1, tt))
-    window_words (windows.Leave u) is h = tt
-    window_words (windows.Convert u g false) (done, few, on, free, first) h = (low g 6 (on_there u (group_of d g) first.1) (omega arith), tt)
-    window_words (windows.Convert u g true) (done, few, on, alone, first) h = (low g 6 (on_there u (group_of d g) first.1) (omega arith), tt)
-    window_words (windows.Take u) is h = (running_words d u is.1, tt)
-    window_words (windows.Claim t) (done, few, alone, is) h = (low t.group 6 (runs_there (with_holds o p.acted (hold_in (windows.Claim t)) below) t.unit t.group is.round h is.is is.group) (omega arith), tt)
-    window_words (windows.Serve t) is h =
+    window_words (Window.Yield u) is h = (running_words d u is.1, (claim_words d u is.1, tt))
+    window_words (Window.Suspend u g) (done, few, on, free, is, first) h = (low g 6 (runs_there (with_holds o p.acted (hold_in (Window.Suspend u g)) below) u g is.round h is.is is.group) (omega arith), tt)
+    window_words (Window.Keep r) is h = (claim_words d r.unit is.1, tt)
+    window_words (Window.Begin u) is h = (running_words d u is.1, (claim_words d u is.1, tt))
+    window_words (Window.Leave u) is h = tt
+    window_words (Window.Convert u g false) (done, few, on, free, first) h = (low g 6 (on_there u (group_of d g) first.1) (omega arith), tt)
+    window_words (Window.Convert u g true) (done, few, on, alone, first) h = (low g 6 (on_there u (group_of d g) first.1) (omega arith), tt)
+    window_words (Window.Take u) is h = (running_words d u is.1, tt)
+    window_words (Window.Claim t) (done, few, alone, is) h = (low t.group 6 (runs_there (with_holds o p.acted (hold_in (Window.Claim t)) below) t.unit t.group is.round h is.is is.group) (omega arith), tt)
+    window_words (Window.Serve t) is h =
         let there = on_there t.unit (group_of d t.group) h.right.0.2 in
         let few = is.1 in
         (running_words d t.unit few, (low t.group 0 there (omega arith), (low t.group 4 there (omega arith), (low t.group 5 there (omega arith), (low t.group 1 there (omega arith), (low t.group 2 there (omega arith), tt))))))
-    window_words (windows.Trigger i g) (is, few, has, marked) h = (low g 3 (input_there i (group_of d g) has) (omega arith), tt)
+    window_words (Window.Trigger i g) (is, few, has, marked) h = (low g 3 (input_there i (group_of d g) has) (omega arith), tt)
 
     flag_own : (win : Window) → InFlag d win below o p → Mine (place_move d (Flag win))
-    flag_own (windows.Take u) is = lt_from u 2 is.1
-    flag_own (windows.Trigger i g) is = refl
+    flag_own (Window.Take u) is = lt_from u 2 is.1
+    flag_own (Window.Trigger i g) is = refl
     flag_own _ is = absurd is
 
     sought_small : (win : Window) → MaySeek d win below w s o p → sought_unit win < 2
-    sought_small (windows.Suspend u g) is = is.1
-    sought_small (windows.Begin u) is = is.1
-    sought_small (windows.Leave u) is = is.1
+    sought_small (Window.Suspend u g) is = is.1
+    sought_small (Window.Begin u) is = is.1
+    sought_small (Window.Leave u) is = is.1
     sought_small _ is = absurd is
 
     seek_own : (win : Window) (r : Front) → MaySeek d win below w s o p → IsSeeking d (foot_of chip) win r → Mine (place_move d (Seeks win r))
@@ -138,18 +128,18 @@ module _ (d : AdcTable) (fits : FitsAdc d) where
     -- ---- a bank that is read
 
     release_own : (g : ℕ) (t : Take) → is_some (group_of d g) ≡ true → IsReleasing d g (foot_of chip).word t → Mine (take_move t)
-    release_own g (takes.Release c) there e = load_mine c (subst (λ k. is_word d k ≡ true) (sym e) (control_mine g there))
-    release_own g (takes.Free c v) there e = store_mine c v (subst (λ k. is_word d k ≡ true) (sym e.0) (control_mine g there))
+    release_own g (Take.Release c) there e = load_mine c (subst (λ k. is_word d k ≡ true) (sym e) (control_mine g there))
+    release_own g (Take.Free c v) there e = store_mine c v (subst (λ k. is_word d k ≡ true) (sym e.0) (control_mine g there))
     release_own g _ there e = absurd e
 
     read_own : (n : Newest) (z : Stage) → StandsAs (read_spot d n z) → Mine (stage_move n.reading z)
-    read_own n stages.Reads h =
+    read_own n Stage.Reads h =
         let there = h.0.right.0.2 in
         let bank = n.reading.bank in
         let j = length n.reading.values in
         subst (λ (x : Rounds). j < x.inputs → Mine (Load (bank_word x bank j))) (sym h.1.0) (λ lt. load_mine (bank_word (rounds_of d n.group) bank j) (bank_words d fits n.group bank j there lt)) h.1.1
-    read_own n (stages.Releases t) h = release_own n.group t h.0.right.0.2 h.1.3
-    read_own n stages.Over h = absurd h.1
+    read_own n (Stage.Releases t) h = release_own n.group t h.0.right.0.2 h.1.3
+    read_own n Stage.Over h = absurd h.1
     read_own n _ h = refl
 
     -- ---- moves before which an event stands
@@ -173,36 +163,19 @@ module _ (d : AdcTable) (fits : FitsAdc d) where
 
     banks_own : (m : WriteBatch) (q : Option StructureOp) → StandsAs (banks_spot d m q) → Mine (making_move d m)
     banks_own m None h = dealing_own m h.1
-    banks_own m (Some (shapes.Put q)) h = serve_own m h.1
+    banks_own m (Some (StructureOp.Put q)) h = serve_own m h.1
     banks_own m (Some q) h = pin_own m h.1
 
     -- ---- a start
 
-    some_ahead : (left : ℕ) (c : Bool) → 0 < moves_ahead left c
-    some_ahead left true = omega arith
-    some_ahead left false = omega arith
-
-    begins_known : (u g : ℕ) (c : Bool) → InWindow d (windows.Convert u g c) below w s o p → (u < 2) × (is_some (group_of d g) ≡ true)
+    begins_known : (u g : ℕ) (c : Bool) → InWindow d (Window.Convert u g c) below w s o p → (u < 2) × (is_some (group_of d g) ≡ true)
     begins_known u g false (done, few, on, free, first) = (few, on_there u (group_of d g) first.1)
     begins_known u g true (done, few, on, alone, first) = (few, on_there u (group_of d g) first.1)
 
     -- the moves ahead of a start, and the start
     among : (left made : ℕ) (c : Bool) → made ≤ moves_ahead left c → (made < lists_for left) ⊎ ((made ≡ lists_for left) ⊎ (((c ≡ true) × (made ≡ lists_for left + 1)) ⊎ (made ≡ moves_ahead left c)))
-    among left made c le = by (which made (lists_for left))
-      where
-        last : (c : Bool) → made ≤ moves_ahead left c → lists_for left < made → ((c ≡ true) × (made ≡ lists_for left + 1)) ⊎ (made ≡ moves_ahead left c)
-        last true le lt = after (which made (lists_for left + 1))
-          where
-            after : (made < lists_for left + 1) ⊎ ((made ≡ lists_for left + 1) ⊎ (lists_for left + 1 < made)) → ((true ≡ true) × (made ≡ lists_for left + 1)) ⊎ (made ≡ lists_for left + 2)
-            after (inl less) = absurd (omega (arith, less, lt))
-            after (inr (inl e)) = inl (refl, e)
-            after (inr (inr more)) = inr (omega (arith, le, more))
-        last false le lt = inr (omega (arith, le, lt))
-
-        by : (made < lists_for left) ⊎ ((made ≡ lists_for left) ⊎ (lists_for left < made)) → (made < lists_for left) ⊎ ((made ≡ lists_for left) ⊎ (((c ≡ true) × (made ≡ lists_for left + 1)) ⊎ (made ≡ moves_ahead left c)))
-        by (inl less) = inl less
-        by (inr (inl e)) = inr (inl e)
-        by (inr (inr more)) = inr (inr (last c le more))
+    among left made true le = grind (arith, le)
+    among left made false le = grind (arith, le)
 
     lists_few : (e left n i : ℕ) → n ≤ 32 → e + left ≡ n → i < lists_for left → i < 8
     lists_few e left n i few all lt = omega (arith, few, all, lt)
@@ -212,26 +185,26 @@ module _ (d : AdcTable) (fits : FitsAdc d) where
       where
         which_write : (made < lists_for left) ⊎ ((made ≡ lists_for left) ⊎ (((c ≡ true) × (made ≡ lists_for left + 1)) ⊎ (made ≡ moves_ahead left c))) → (x : WindowWrite) × (slice_get (start_deeds d u g e left c) made ≡ Some x) × Mine (deed_move d x)
         which_write (inl lt) = (list_deed d u g e made, list_at d u g e left c made lt, and_from (nat_lt u 2) (nat_lt made 8) (lt_from u 2 few) (lt_from made 8 (lists_few e left (length (inputs_of (group_of d g))) made (few_inputs d fits g there) all lt)))
-        which_write (inr (inl e1)) = (deeds.Set (words.Running u) (1 + g), ap (λ n. slice_get (start_deeds d u g e left c) n) e1 ∙ running_at d u g e left c, store_mine (word_number d (words.Running u)) (1 + g) (running_words d u few))
-        which_write (inr (inr (inl (e1, e2)))) = (deeds.Set (words.Claim u) 0, ap (λ n. slice_get (start_deeds d u g e left c) n) e2 ∙ (ap (λ q. slice_get (start_deeds d u g e left q) (lists_for left + 1)) e1 ∙ claim_at d u g e left), store_mine (word_number d (words.Claim u)) 0 (claim_words d u few))
-        which_write (inr (inr (inr e1))) = (deeds.Write (ConverterGo u) left, ap (λ n. slice_get (start_deeds d u g e left c) n) e1 ∙ go_at d u g e left c, lt_from u 2 few)
+        which_write (inr (inl e1)) = (WindowWrite.Set (Word.Running u) (1 + g), ap (λ n. slice_get (start_deeds d u g e left c) n) e1 ∙ running_at d u g e left c, store_mine (word_number d (Word.Running u)) (1 + g) (running_words d u few))
+        which_write (inr (inr (inl (e1, e2)))) = (WindowWrite.Set (Word.Claim u) 0, ap (λ n. slice_get (start_deeds d u g e left c) n) e2 ∙ (ap (λ q. slice_get (start_deeds d u g e left q) (lists_for left + 1)) e1 ∙ claim_at d u g e left), store_mine (word_number d (Word.Claim u)) 0 (claim_words d u few))
+        which_write (inr (inr (inr e1))) = (WindowWrite.Write (ConverterGo u) left, ap (λ n. slice_get (start_deeds d u g e left c) n) e1 ∙ go_at d u g e left c, lt_from u 2 few)
 
     starting_own : (u : ℕ) (m : WriteBatch) → IsStarting d below (foot_of chip) w s o p u m → Mine (making_move d m)
     starting_own u _ (Orders g e left c zero r xs is order first ends made) = absurd ends
     starting_own u _ (Orders g e left c (suc n) r xs is order first ends made) =
-        subst (λ z. Mine z) (sym (order_work d (events.Start (unit_named u)) (start_deeds d u g e left c) (moves_ahead left c) nothing_more (some_ahead left c) (shapes.Next r) 0))
-        (named_mine (own_of (order_of u)) (λ k own. order_words d u k (begins_known u g c is.window).0 own) (shape_move (shapes.Next r)) ends.0)
+        subst (λ z. Mine z) (sym (order_work d (Event.Start (unit_named u)) (start_deeds d u g e left c) (moves_ahead left c) nothing_more (some_ahead left c) (StructureOp.Next r) 0))
+        (named_mine (own_of (order_of u)) (λ k own. order_words d u k (begins_known u g c is.window).0 own) (shape_move (StructureOp.Next r)) ends.0)
     starting_own u _ (Prepares g e left c made xs is few order holds done) =
         let known = begins_known u g c is.window in
         let x = deed_own u g e left made c known.0 known.1 is.all few in
-        subst (λ z. Mine z) (sym (deed_work d (events.Start (unit_named u)) (start_deeds d u g e left c) (moves_ahead left c) nothing_more (some_ahead left c) made x.0 x.1)) x.2
+        subst (λ z. Mine z) (sym (deed_work d (Event.Start (unit_named u)) (start_deeds d u g e left c) (moves_ahead left c) nothing_more (some_ahead left c) made x.0 x.1)) x.2
 
     start_own : (m : WriteBatch) (q : Option ℕ) (c : Bool) → StandsAs (spot_start d m q c) → Mine (making_move d m)
     start_own m (Some u) c h = starting_own u m h.1
     start_own m None c h = absurd h.1
 
     making_own : (m : WriteBatch) (e : Option Event) → StandsAs (spot_making d m e) → Mine (making_move d m)
-    making_own m (Some (events.Start x)) h = start_own m (number_of x) (list_any ends_claim m.deeds) h
+    making_own m (Some (Event.Start x)) h = start_own m (number_of x) (list_any ends_claim m.deeds) h
     making_own m e h = banks_own m m.banks h
 
     -- ---- with the mask open
@@ -251,11 +224,7 @@ module _ (d : AdcTable) (fits : FitsAdc d) where
 
     ended_own : (u g n e j : ℕ) (v : Option ℕ) → u < 2 → is_some (group_of d g) ≡ true → e + n ≤ length (inputs_of (group_of d g)) → j < n → Mine (move_by (copied.Ended (rounds_of d g) u n e) j v)
     ended_own u g n e j None few there le lt = let most = few_inputs d fits g there in result_mine u j few (omega (arith, le, lt, most))
-    ended_own u g n e j (Some x) few there le lt = store_mine (kept_word (rounds_of d g) (place_sum e j)) x (kept_words d fits g (place_sum e j) there (by (nat_lt e 128 && nat_lt j 128)))
-      where
-        by : (q : Bool) → (if q then e + j else 0) < length (inputs_of (group_of d g))
-        by true = omega (arith, le, lt)
-        by false = omega (arith, le, lt)
+    ended_own u g n e j (Some x) few there le lt = store_mine (kept_word (rounds_of d g) (place_sum e j)) x (kept_words d fits g (place_sum e j) there (either (λ z. z < length (inputs_of (group_of d g))) (nat_lt e 128 && nat_lt j 128) _ _ (omega (arith, le, lt)) (omega (arith, le, lt))))
 
     copies_own : (what : streams.Copied) (a : Copied) (j : ℕ) (v : Option ℕ) → IsCopy d what a → j < count_of what → MayCopy d below a o p → Mine (move_by what j v)
     copies_own (copied.Round r u e b) (Serves t) j v (is, unit, bank, few) lt (line, alone, small, on) =
@@ -267,9 +236,9 @@ module _ (d : AdcTable) (fits : FitsAdc d) where
     copies_own _ _ j v is lt h = absurd is
 
     out_own : (x : OutPlace) → place_out d x below o p → Mine (outside_move x)
-    out_own (outsides.Copies c a) h = copies_own c.what a c.done c.value h.0 h.1 h.2
-    out_own (outsides.Counts r) h = lt_from r.unit 2 h.1
-    out_own (outsides.Reads g b) h = load_mine STATE (first_words d 0 (omega arith))
+    out_own (Outside.Copies c a) h = copies_own c.what a c.done c.value h.0 h.1 h.2
+    out_own (Outside.Counts r) h = lt_from r.unit 2 h.1
+    out_own (Outside.Reads g b) h = load_mine STATE (first_words d 0 (omega arith))
     out_own _ h = refl
 
     -- ---- all of them
@@ -281,16 +250,13 @@ module _ (d : AdcTable) (fits : FitsAdc d) where
     own_at (Seeks win r) h = seek_own win r h.1.0 h.1.1
     own_at (Chooses u g r) h = subst (λ z. Mine (put_move z)) (sym h.1.1) (load_mine (trio_of (rounds_of d g)).control (control_mine g (claim_there u g h.1.0 h.0)))
       where
-        claim_there : (u g : ℕ) → InWindow d (windows.Claim (record { unit = u; group = g; bank = Zero })) below w s o p → Agrees d below chip w s → is_some (group_of d g) ≡ true
+        claim_there : (u g : ℕ) → InWindow d (Window.Claim (record { unit = u; group = g; bank = Zero })) below w s o p → Agrees d below chip w s → is_some (group_of d g) ≡ true
         claim_there u g (done, few, alone, is) at = runs_there below u g is.round at is.is is.group
     own_at (Pins g y) h = load_mine (trio_of (rounds_of d g)).control (control_mine g h.1.0.1.there)
     own_at (ReadsPlace n) h = read_own n n.stage h
-    own_at (Aborts r) h = abort_small r.unit r.group h.1.0
-      where
-        abort_small : (u g : ℕ) → InWindow d (windows.Suspend u g) below w s o p → nat_lt u 2 ≡ true
-        abort_small u g is = lt_from u 2 is.1
+    own_at (Aborts r) h = lt_from r.unit 2 h.1.0.1
     own_at (Makes m) h = making_own m m.event h
-    own_at (Quits u) h = store_mine (word_number d (words.Claim u)) 0 (claim_words d u h.1.0.1)
+    own_at (Quits u) h = store_mine (word_number d (Word.Claim u)) 0 (claim_words d u h.1.0.1)
     own_at (Opens x) h = refl
     own_at (Out x) h = out_own x h.1
 

@@ -1,16 +1,18 @@
 -- A window that owes moves makes them: after each one it owes the others, and after the last one it ends or opens the mask.
 -- From adc_groups: services.WriteBatchSteps, adc_groups: services.BodySteps, adc_groups: words.Cases.
--- Used by bookkeeping.NoneWaitsPlaces, bookkeeping.EndPlaces.
-use Rattle.std.proofs.Common.{◌≡◌, ◌+◌, ◌<◌, ◌≤◌, ◌==◌, ◌&&◌, [], ◌∷◌, ◌∙◌, if◌then◌else◌}
+-- Used by bookkeeping.NoneWaitsPlaces, bookkeeping.Joined.
+use Rattle.std.proofs.Common.{◌≡◌, ◌+◌, ◌<◌, ◌≤◌, ◌&&◌, ◌==◌, [], ◌∷◌, ◌∙◌, if◌then◌else◌}
 use Rattle.adc_driver.specs.Terms
-use Terms.{adc_windows, AdcBody, AdcTable, after_making, ap, arith, bare, body_ends, body_takes, body_work, BodyTaken}
-use Terms.{Bool, Continuation, deed_or_open, drop, either_shape, Event, false, GoesFree, GoesOwing, is_first, is_some}
-use Terms.{length, List, Makes, making_by, making_event, making_left, making_move, making_over, making_owed, nat_le}
-use Terms.{nat_lt, nat_tests, None, not, one_made, Opens, Option, order_left, Outside, owed_of, owes_at, owes_making}
-use Terms.{PendingWrites, Place, place_ends, refl, slice_get, Some, some_same, step, StructureOp, subst, suc, sym}
-use Terms.{true, whether_as, Windows, WindowWrite, WriteBatch, zero, ℕ}
+use Terms.{adc_bodies, adc_windows, AdcBody, AdcGround, AdcState, AdcTable, after_making, Agrees, and_first, ap}
+use Terms.{AreWindows, arith, bare, body_ends, body_takes, body_work, BodyTaken, Bool, Call, Called, Chip}
+use Terms.{Continuation, Continues, deed_or_open, Done, drop, either_shape, Event, false, FrameHistory, fresh_history}
+use Terms.{GoesFree, GoesOwing, hold_then, is_first, is_owed, is_some, Is_this_frame, Leaves_acted, length, List}
+use Terms.{Makes, making_by, making_event, making_left, making_move, making_over, making_owed, may, MayLeave, MayStop}
+use Terms.{Move, nat_le, nat_lt, nat_tests, None, not, one_made, Opens, Option, order_left, Origin, Outside, owed_of}
+use Terms.{owes_at, owes_making, PendingWrites, Place, place_ends, place_then, refl, Reservations, slice_get, Some}
+use Terms.{some_same, step, StructureOp, subst, suc, sym, true, whether_as, Windows, WindowWrite, with_holds, World}
+use Terms.{WriteBatch, zero, ℕ}
 use Rattle.adc_groups.specs.PendingWrites.{move_by, left_by}
-use Rattle.adc_groups.specs.declared.making.Continuation.TheVariants as thens
 
 -- ---- the deeds that are left
 
@@ -105,11 +107,7 @@ making_owes d m = owed_over d m.order m.banks (drop m.made m.deeds) m.after (nat
 
 -- a making that owes this is past its event
 pub past_by : (d : AdcTable) (m : WriteBatch) (x : PendingWrites) → owes_making d m ≡ Some x → (is_before m ≡ false) × (owed_by d m ≡ Some x)
-past_by d m x h = by (is_before m) refl h
-  where
-    by : (q : Bool) → is_before m ≡ q → (if q then None else owed_by d m) ≡ Some x → (is_before m ≡ false) × (owed_by d m ≡ Some x)
-    by true e h = absurd (cc)
-    by false e h = (e, h)
+past_by d m x h = whether_as (is_before m) (λ q. (if q then None else owed_by d m) ≡ Some x → (q ≡ false) × (owed_by d m ≡ Some x)) (λ _ h. absurd (cc)) (λ _ h. (refl, h)) h
 
 module _ (d : AdcTable) (ds : List WindowWrite) (made : ℕ) (e : Option Event) (ahead : ℕ) (t : Continuation) (past : is_some e && nat_le made ahead ≡ false) where
   abbrev at : Option StructureOp → Option StructureOp → WriteBatch
@@ -154,6 +152,11 @@ module _ (d : AdcTable) (ds : List WindowWrite) (made : ℕ) (e : Option Event) 
       by None None h = after_one (drop made ds) refl h
 
 -- ---- the bodies
+
+-- a frame that has acted, and owes nothing, may end
+pub leave_stop : (d : AdcTable) (o : Origin Call) (p : FrameHistory) (missed : ℕ → Bool) (n : Done) → MayLeave o p n → MayStop (AdcGround d) o p missed n
+leave_stop d _ _ missed n (Leaves_acted c Is_this_frame none) =
+    subst (λ z. MayStop (AdcGround d) (Called c) (record fresh_history { acted = Some n.answer }) missed (record { answer = n.answer; owed = z })) (sym none) (record { may = (refl, refl); served = false; owed = refl; shown = λ i. absurd (cc); report = refl })
 
 module _ (d : AdcTable) (f r : AdcBody → ℕ) (opens : (t : AdcTable) (o : Outside) → r (record { table = t; place = Opens o }) ≡ 0) where
   abbrev V : Windows (bare d) PendingWrites (AdcTable × Continuation) AdcBody (making_owed d)
@@ -204,9 +207,9 @@ module _ (d : AdcTable) (f r : AdcBody → ℕ) (opens : (t : AdcTable) (o : Out
   over k x v h l = by k.place h
     where
       free : (c : AdcTable) (t : Continuation) (m : WriteBatch) (e : Option Event) → e ≡ None → x.table ≡ c → x.after ≡ t → Over x (let z : Place × BodyTaken = after_making e m t in (record { table = c; place = z.0 }, z.1))
-      free c (thens.Ends n) m e none same is = (none, tt)
-      free c (thens.Goes o) m e none same is =
-          let fuel : f (record { table = c; place = Opens o }) ≤ V.steps_after (c, thens.Goes o) = omega arith in
+      free c (Continuation.Ends n) m e none same is = (none, tt)
+      free c (Continuation.Goes o) m e none same is =
+          let fuel : f (record { table = c; place = Opens o }) ≤ V.steps_after (c, Continuation.Goes o) = omega arith in
           let least = opens c o in
           (none, (refl, refl, refl, subst (λ a. f (record { table = c; place = Opens o }) ≤ V.steps_after a) (sym (ap (λ z. (z, x.after)) same ∙ ap (λ z. (c, z)) is)) fuel, omega (arith, least)))
 
@@ -228,8 +231,8 @@ module _ (d : AdcTable) (f r : AdcBody → ℕ) (opens : (t : AdcTable) (o : Out
   unended k x v h = by k.place h
     where
       ended : (e : Option Event) (m : WriteBatch) (t : Continuation) → place_ends (after_making e m t).0 ≡ None
-      ended e m (thens.Ends n) = refl
-      ended e m (thens.Goes o) = refl
+      ended e m (Continuation.Ends n) = refl
+      ended e m (Continuation.Goes o) = refl
 
       going : (e : Option Event) (m : WriteBatch) (q : Bool) → place_ends (let z : Place × BodyTaken = if q then after_making e m m.after else (Makes m, step e) in z.0) ≡ None
       going e m true = ended e m m.after
@@ -238,3 +241,48 @@ module _ (d : AdcTable) (f r : AdcBody → ℕ) (opens : (t : AdcTable) (o : Out
       by : (q : Place) → owes_at k.table q ≡ Some x → place_ends (body_takes (record { table = k.table; place = q }) v).0.place ≡ None
       by (Makes m) h = going (making_event m) (making_left m v) (making_over (making_left m v))
       by _ h = absurd (cc)
+
+  -- ---- what a frame may do while moves are owed, and how it stands after the last one: it may end, or opens the mask next
+
+  -- its frame may make what it owes
+  pub may_owed : (a : AdcTable × Continuation) (below : Reservations) (o : Origin Call) (p : FrameHistory) (made : Move) → V.place a below o p → (making_owed d).own made ≡ true → may d made ≡ true
+  may_owed a below o p made h e = and_first (may d made) (is_owed made) e
+
+  -- ---- after the last one
+
+  module _ (below : Reservations) (chip : Chip) (w : World) (s : AdcState) (o : Origin Call) (p : FrameHistory) (missed : ℕ → Bool) where
+    abbrev GoesOn : AdcBody × BodyTaken → Type 0
+    GoesOn z = Continues (AdcGround d) (adc_bodies d f r) below chip w s o p missed z.0 z.1.done
+
+    abbrev after_at : AdcTable → Option Event → WriteBatch → Continuation → AdcBody × BodyTaken
+    after_at c e m t = let z : Place × BodyTaken = after_making e m t in (record { table = c; place = z.0 }, z.1)
+
+    last_stands : (c : AdcTable) (t : Continuation) (m : WriteBatch) (e : Option Event) → c ≡ d → place_then d t below o p → Agrees d (with_holds o p.acted (hold_then t) below) chip w s → GoesOn (after_at c e m t)
+    last_stands c (Continuation.Ends n) m e same place h = (h, leave_stop d o p missed n place)
+    last_stands c (Continuation.Goes x) m e same place h = (h, (same, place))
+
+    stands_at : (c : AdcTable) (q : Place) (x : PendingWrites) (v : ℕ) → owes_at c q ≡ Some x → (making_owed d).left x v ≡ None → (x.table ≡ d) × place_then d x.after below o p → Agrees d (with_holds o p.acted (hold_then x.after) below) chip w s → GoesOn (body_takes (record { table = c; place = q }) v)
+    stands_at c (Makes m) x v owed none place h =
+        let left = left_of c m x v owed in
+        let about = owed_about c m.order m.banks (drop m.made m.deeds) m.after x (past_by c m x owed).1 in
+        let last : making_over (making_left m v) ≡ true = making_owes c (making_left m v) ∙ ap (λ q. not (is_some q)) (left.0 ∙ none) in
+        let after : x.after ≡ (making_left m v).after = about.1 ∙ sym left.1 in
+        subst (λ q. GoesOn (let z : Place × BodyTaken = if q then after_making (making_event m) (making_left m v) (making_left m v).after else (Makes (making_left m v), step (making_event m)) in (record { table = c; place = z.0 }, z.1))) (sym last)
+        (last_stands c (making_left m v).after (making_left m v) (making_event m) (sym about.0 ∙ place.0) (subst (λ t. place_then d t below o p) after place.1) (subst (λ t. Agrees d (with_holds o p.acted (hold_then t) below) chip w s) after h))
+    stands_at c _ x v owed none place h = absurd (cc)
+
+  pub stands_after : (k : AdcBody) (x : PendingWrites) (v : ℕ) (below : Reservations) (chip : Chip) (w : World) (s : AdcState) (o : Origin Call) (p : FrameHistory) (missed : ℕ → Bool) → V.owes k ≡ Some x → (making_owed d).left x v ≡ None → V.place (V.about x) below o p → Agrees d (with_holds o p.acted (V.hold (V.about x)) below) chip w s
+      → Continues (AdcGround d) (adc_bodies d f r) below chip w s o p missed (V.bodies.takes k v).0 (V.bodies.takes k v).1.done
+  stands_after k x v below chip w s o p missed owed none place h = stands_at below chip w s o p missed k.table k.place x v owed none place h
+
+  -- ---- the places where moves are owed
+
+  pub windows_are : AreWindows (adc_windows d f r) body_ends
+  windows_are = record {
+    makes = makes;
+    on = on;
+    over = over;
+    unended = unended;
+    may = may_owed;
+    stands = stands_after;
+  }

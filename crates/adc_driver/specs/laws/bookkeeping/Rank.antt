@@ -1,17 +1,15 @@
 -- The steps that a body of the driver has left, and the moves of its window, at most, at any place, reached or not.
--- From adc_groups: services.Decisions, adc_groups: words.WindowWords.
--- Used by bookkeeping.WindowBounds, bookkeeping.Decreases, bookkeeping.CallBounds, bookkeeping.BodiesRight and 8 more.
-use Rattle.std.proofs.Common.{◌+◌, ◌-◌, ◌*◌, if◌then◌else◌}
+-- From adc_groups: words.Cases, adc_groups: services.Decisions, adc_groups: words.WindowWords and 1 more.
+-- Used by bookkeeping.WindowBounds, bookkeeping.Decreases, bookkeeping.CallBounds, bookkeeping.Joined and 3 more.
+use Rattle.std.proofs.Common.{◌≡◌, ◌+◌, ◌-◌, ◌*◌, ◌<◌, ◌≤◌, ◌==◌, [], ◌∷◌, if◌then◌else◌}
 use Rattle.adc_driver.specs.Terms
-use Terms.{Aborts, adc_bodies, adc_windows, AdcBody, AdcGround, AdcTable, all_rooms, bare, Bool, Chooses, Continuation}
-use Terms.{Copied, Copying, count_of, drop, false, Flag, front_room, group_of, inputs_of, Keeps, length, lists_for}
-use Terms.{LongBodies, Looks, Makes, making_owed, max, most_inputs, None, Opens, Option, Out, Outside, PendingWrites}
-use Terms.{Pins, Place, put_room, Quits, Reading, Reads, Seeks, Serves, Some, Stage, suc, Surveys, take_room, takes_one}
-use Terms.{Tells, true, Window, Windows, words_of, WriteBatch, zero, ℕ}
-use Rattle.adc_groups.specs.declared.making.Continuation.TheVariants as thens
-use Rattle.adc_groups.specs.declared.outside.Outside.TheVariants as outsides
-use Rattle.adc_groups.specs.declared.service.read.Stage.TheVariants as stages
-use Rattle.adc_groups.specs.declared.window.Window.TheVariants as windows
+use Terms.{Aborts, adc_bodies, adc_windows, AdcBody, AdcGround, AdcTable, all_rooms, ap, arith, bare, Bool, Chooses}
+use Terms.{cond, Continuation, Copied, Copying, count_of, drop, false, FitsAdc, Flag, front_room, Group, group_of}
+use Terms.{inputs_of, inputs_on, is_on, is_some, Keeps, length, limited, List, lists_for, LongBodies, Looks, Makes}
+use Terms.{making_owed, max, most_inputs, most_inputs_in, nat_lt, nat_tests, None, Opens, Option, Out, Outside}
+use Terms.{PendingWrites, Pins, Place, put_room, Quits, Reading, Reads, refl, Seeks, Serves, slice_index_or, Some}
+use Terms.{some_or_none, Stage, subst, suc, Surveys, sym, take_room, takes_one, Tells, true, whether, whether_as}
+use Terms.{Window, Windows, within, words_of, WriteBatch, zero, ℕ}
 
 -- ---- inputs
 
@@ -78,8 +76,8 @@ reads_after n = 8 + n
 
 -- the moves of what a window goes on with that surveys the groups
 abbrev pub begin_cost : (steps : Bool) → AdcTable → Window → ℕ
-begin_cost q d (windows.Start g) = 9 + and_then q (requests_after d)
-begin_cost q d (windows.Enable g) = 4
+begin_cost q d (Window.Start g) = 9 + and_then q (requests_after d)
+begin_cost q d (Window.Enable g) = 4
 begin_cost q d w = 2
 
 -- a survey of all groups, where there is one
@@ -92,7 +90,7 @@ aborting q d n = 5 + and_then q (counts_after d n)
 
 -- what a search ends with
 abbrev pub seek_cost : (steps : Bool) → AdcTable → Window → ℕ
-seek_cost q d (windows.Suspend u g) = 1 + aborting q d (inputs_at d g)
+seek_cost q d (Window.Suspend u g) = 1 + aborting q d (inputs_at d g)
 seek_cost q d w = converting (largest d)
 
 -- a claim that looks at its word
@@ -101,24 +99,24 @@ claiming q d n = 2 + and_then q (claims_after d n)
 
 -- what a window decides by the words that it has looked at
 abbrev pub decided_cost : (steps : Bool) → AdcTable → Window → ℕ
-decided_cost q d windows.Close = 0
-decided_cost q d (windows.Setup g b) = 1
-decided_cost q d (windows.Status g) = 0
-decided_cost q d (windows.Point g) = 1
-decided_cost q d (windows.Read g) = 3 + and_then q (reads_after (inputs_at d g))
-decided_cost q d (windows.Start g) = looks_on q d (windows.Start g)
-decided_cost q d (windows.Enable g) = looks_on q d (windows.Enable g)
-decided_cost q d (windows.Stop u g) = 15 + and_then q (begins_after d)
-decided_cost q d (windows.Yield u) = 4 + aborting q d (largest d)
-decided_cost q d (windows.Suspend u g) = aborting q d (inputs_at d g)
-decided_cost q d (windows.Keep r) = 2 + and_then q (begins_after d)
-decided_cost q d (windows.Begin u) = 3 + converting (largest d)
-decided_cost q d (windows.Leave u) = 0
-decided_cost q d (windows.Convert u g c) = 7 + lists_for (inputs_at d g)
-decided_cost q d (windows.Take u) = 1 + claiming q d (most_inputs d u)
-decided_cost q d (windows.Claim t) = 1 + and_then q (claims_after d (inputs_at d t.group))
-decided_cost q d (windows.Serve t) = serves q d (inputs_at d t.group)
-decided_cost q d (windows.Trigger i g) = 7 + and_then q (requests_after d)
+decided_cost q d Window.Close = 0
+decided_cost q d (Window.Setup g b) = 1
+decided_cost q d (Window.Status g) = 0
+decided_cost q d (Window.Point g) = 1
+decided_cost q d (Window.Read g) = 3 + and_then q (reads_after (inputs_at d g))
+decided_cost q d (Window.Start g) = looks_on q d (Window.Start g)
+decided_cost q d (Window.Enable g) = looks_on q d (Window.Enable g)
+decided_cost q d (Window.Stop u g) = 15 + and_then q (begins_after d)
+decided_cost q d (Window.Yield u) = 4 + aborting q d (largest d)
+decided_cost q d (Window.Suspend u g) = aborting q d (inputs_at d g)
+decided_cost q d (Window.Keep r) = 2 + and_then q (begins_after d)
+decided_cost q d (Window.Begin u) = 3 + converting (largest d)
+decided_cost q d (Window.Leave u) = 0
+decided_cost q d (Window.Convert u g c) = 7 + lists_for (inputs_at d g)
+decided_cost q d (Window.Take u) = 1 + claiming q d (most_inputs d u)
+decided_cost q d (Window.Claim t) = 1 + and_then q (claims_after d (inputs_at d t.group))
+decided_cost q d (Window.Serve t) = serves q d (inputs_at d t.group)
+decided_cost q d (Window.Trigger i g) = 7 + and_then q (requests_after d)
 
 -- one that has looked at so many of its words
 abbrev pub look_cost : (steps : Bool) → AdcTable → Window → (seen : ℕ) → ℕ
@@ -139,24 +137,24 @@ abbrev pub closes_cost : AdcTable → Window → ℕ
 closes_cost d w = 1 + look_cost true d w 0
 
 abbrev pub copied_cost : AdcTable → Copied → ℕ
-copied_cost d (Serves t) = closes_cost d (windows.Serve t)
-copied_cost d (Tells u g on) = 1 + closes_cost d (windows.Begin u)
-copied_cost d (Keeps r) = closes_cost d (windows.Keep r)
+copied_cost d (Serves t) = closes_cost d (Window.Serve t)
+copied_cost d (Tells u g on) = 1 + closes_cost d (Window.Begin u)
+copied_cost d (Keeps r) = closes_cost d (Window.Keep r)
 
 -- a pinned bank
 abbrev pub stage_cost : (steps : Bool) → Reading → Stage → ℕ
-stage_cost q r stages.Reads = and_then q (6 + (r.rounds.inputs - (length r.values + 1)))
-stage_cost q r stages.Shuts = and_then q 5
-stage_cost q r (stages.Releases t) = take_room t + and_then q 2
-stage_cost q r stages.Leaves = and_then q 2
-stage_cost q r stages.Over = and_then q 1
+stage_cost q r Stage.Reads = and_then q (6 + (r.rounds.inputs - (length r.values + 1)))
+stage_cost q r Stage.Shuts = and_then q 5
+stage_cost q r (Stage.Releases t) = take_room t + and_then q 2
+stage_cost q r Stage.Leaves = and_then q 2
+stage_cost q r Stage.Over = and_then q 1
 
 abbrev pub out_cost : AdcTable → Outside → ℕ
-out_cost d (outsides.Copies c a) = copy_cost c + copied_cost d a
-out_cost d (outsides.Counts r) = 1 + (2 * inputs_at d r.group + keeps_after d)
-out_cost d (outsides.Reads g b) = 7 + (inputs_at d g - 1)
-out_cost d (outsides.Notes g u) = 1 + closes_cost d (windows.Begin u)
-out_cost d (outsides.Closes w) = closes_cost d w
+out_cost d (Outside.Copies c a) = copy_cost c + copied_cost d a
+out_cost d (Outside.Counts r) = 1 + (2 * inputs_at d r.group + keeps_after d)
+out_cost d (Outside.Reads g b) = 7 + (inputs_at d g - 1)
+out_cost d (Outside.Notes g u) = 1 + closes_cost d (Window.Begin u)
+out_cost d (Outside.Closes w) = closes_cost d w
 
 -- ---- places
 
@@ -165,8 +163,8 @@ abbrev pub open_cost : AdcTable → Outside → ℕ
 open_cost d o = 1 + out_cost d o
 
 abbrev pub then_cost : (steps : Bool) → AdcTable → Continuation → ℕ
-then_cost q d (thens.Ends n) = 0
-then_cost q d (thens.Goes o) = and_then q (open_cost d o)
+then_cost q d (Continuation.Ends n) = 0
+then_cost q d (Continuation.Goes o) = and_then q (open_cost d o)
 
 abbrev pub making_cost : (steps : Bool) → AdcTable → WriteBatch → ℕ
 making_cost q d m = 1 + (all_rooms m.order m.banks (drop m.made m.deeds) - 1 + then_cost q d m.after)
@@ -200,3 +198,58 @@ V d = adc_windows d body_fuel body_room
 
 abbrev pub bodies : (d : AdcTable) → LongBodies (AdcGround d) AdcBody
 bodies d = adc_bodies d body_fuel body_room
+
+-- ---- What bounds the steps of places: the inputs of groups, and numbers that grow with them.
+
+-- ---- numbers
+
+pub limited_few : (v m : ℕ) → limited v m ≤ m
+limited_few v m = whether_as (nat_lt v m) (λ q. (if q then v else m) ≤ m)
+    (λ e. grind (arith, nat_tests))
+    (λ e. omega arith)
+
+pub lists_more : (m n : ℕ) → m ≤ n → lists_for m ≤ lists_for n
+lists_more m n le = omega (arith, le)
+
+pub and_then_more : (q : Bool) (m n : ℕ) → m ≤ n → and_then q m ≤ and_then q n
+and_then_more true m n le = le
+and_then_more false m n le = omega arith
+
+-- ---- inputs
+
+pub below_largest : (d : AdcTable) (n g : ℕ) → g < n → inputs_at d g ≤ largest_below d n
+below_largest d zero g lt = absurd (omega (arith, lt))
+below_largest d (suc n) g lt = whether (g == n)
+    (λ e. let same : g ≡ n = grind (arith, nat_tests) in subst (λ z. inputs_at d z ≤ max (inputs_at d n) (largest_below d n)) (sym same) (omega arith))
+    (λ e. let less : g < n = grind (arith, nat_tests, lt) in let le = below_largest d n g less in omega (arith, le))
+
+-- no group has more than the largest
+pub in_largest : (d : AdcTable) (g : ℕ) → inputs_at d g ≤ largest d
+in_largest d g = some_or_none (group_of d g)
+    (λ k e. below_largest d 16 g (within d g (ap (λ k. is_some k) e)))
+    (λ e. let none : inputs_at d g ≡ 0 = ap (λ k. length (inputs_of k)) e in omega (arith, none))
+
+-- no group of a unit has more than the largest of the unit
+on_most : (ks : List (Option Group)) (u g : ℕ) → is_on u (slice_index_or ks g None) ≡ true → length (inputs_of (slice_index_or ks g None)) ≤ most_inputs_in ks u
+on_most [] u g e = absurd (cc)
+on_most (k ∷ ks) u zero e = let same : length (inputs_of k) ≡ inputs_on u k = ap (λ q. cond q (length (inputs_of k)) 0) (sym e) in omega (arith, same)
+on_most (k ∷ ks) u (suc g) e = let le = on_most ks u g e in omega (arith, le)
+
+pub in_most : (d : AdcTable) (u g : ℕ) → is_on u (group_of d g) ≡ true → inputs_at d g ≤ most_inputs d u
+in_most d u g = whether_as (nat_lt g 16) (λ q. is_on u (if q then slice_index_or d.groups g None else None) ≡ true → length (inputs_of (if q then slice_index_or d.groups g None else None)) ≤ most_inputs d u)
+    (λ _ e. on_most d.groups u g e) (λ _ e. absurd (cc))
+
+-- in a configuration that fits no group has more than 32
+few_at : (d : AdcTable) → FitsAdc d → (g : ℕ) → inputs_at d g ≤ 32
+few_at d fits g = by (group_of d g) refl
+  where
+    by : (k : Option Group) → group_of d g ≡ k → length (inputs_of k) ≤ 32
+    by None e = omega arith
+    by (Some k) e = (fits.groups g k e).few
+
+few_below : (d : AdcTable) → FitsAdc d → (n : ℕ) → largest_below d n ≤ 32
+few_below d fits zero = omega arith
+few_below d fits (suc n) = let few = few_at d fits n in let le = few_below d fits n in omega (arith, few, le)
+
+pub few_inputs : (d : AdcTable) → FitsAdc d → largest d ≤ 32
+few_inputs d fits = few_below d fits 16

@@ -1,29 +1,24 @@
 -- What is known in windows stays so while the hardware moves: it leaves the module's state but for marks, which it drops none of,
 -- the module's words, and the list registers; and time goes on.
 -- From adc_groups: hardware.HardwareCommutes, service_outline: Owing, service_outline: SimpleMoves.
--- Used by bookkeeping.NoneWaits, bookkeeping.BodiesRight.
+-- Used by bookkeeping.NoneWaits, bookkeeping.Joined.
 use Rattle.std.proofs.Common.{◌≡◌, ◌<◌, ◌≤◌, ◌==◌, [], ◌∷◌, ◌∙◌, if◌then◌else◌}
 use Rattle.adc_driver.specs.Terms
-use Terms.{Aborts, adc_bodies, adc_setting, adc_windows, AdcBody, AdcGround, AdcState, AdcTable, ap, arith, AssertedAt}
-use Terms.{banks_spot, Begins_stream, block_after, Bool, Call, Chip, Chooses, Closes_module, cond, Converter}
-use Terms.{Converters, EnableHardwareTrigger, Enables_trigger, ends_claim, Entry, Event, false, finish_of, Flag}
-use Terms.{foot_of, Footprint, FrameHistory, GetGroupStatus, GetStreamLastPointer, Group, group_of, GroupCall, happened}
-use Terms.{happened_block, HasLooked, holds_at, InWindow, is_closed, is_done, is_fill, is_finished, is_masked, is_some}
-use Terms.{IsCalling, IsDealing, IsFree, IsOrder, IsOutranked, IsPinning, IsStart, IsStarting, IsTaken, level_leaves}
-use Terms.{List, list_any, listener, Looking, Looks, Makes, map, mark_at, MayCome, MayPulse, MaySeek, MayStart, moved}
-use Terms.{nat_le, nat_tests, Newest, None, not_filled, Notification, Notifies, number_of, of_driver, Opens, Option}
-use Terms.{Order, Orders, Origin, Out, owes_at, Phase, Pins, Place, place_at, PointAssertion, Points, Prepares, Pulses}
-use Terms.{Quits, read_spot, ReadGroup, ReadsPlace, refl, Reservations, Round, round_at, Seeks, Sets_up}
-use Terms.{SetupResultBuffer, slice_index, slice_index_or, Some, spot_at, spot_making, spot_or, spot_start, Stage}
-use Terms.{StartGroupConversion, Stops, Stops_turn, StructureOp, subst, suc, Surveys, sym, true, Window, with_holds}
-use Terms.{with_mark, Within, words_happened, World, world_after, WriteBatch, Zero, zero, ℕ}
+use Terms.{Aborts, adc_bodies, adc_setting, adc_windows, AdcBody, AdcGround, AdcState, AdcTable, ap, arith}
+use Terms.{AssertedAt, banks_spot, Begins_stream, block_after, Bool, Call, Chip, Chooses, Closes_module, cond}
+use Terms.{Converter, Converters, EnableHardwareTrigger, Enables_trigger, ends_claim, Entry, Event, false, finish_of}
+use Terms.{foot_of, Footprint, FrameHistory, GetGroupStatus, GetStreamLastPointer, Group, group_of, GroupCall}
+use Terms.{happened, happened_block, HasLooked, holds_at, InWindow, is_closed, is_done, is_fill, is_finished}
+use Terms.{is_masked, is_some, IsCalling, IsDealing, IsFree, IsOrder, IsOutranked, IsPinning, IsStart, IsStarting}
+use Terms.{IsTaken, level_leaves, List, list_any, listener, Looking, Looks, Makes, map, mark_at, MayCome, MayPulse}
+use Terms.{MaySeek, MayStart, moved, nat_le, nat_tests, Newest, None, not_filled, Notification, Notifies, number_of}
+use Terms.{of_driver, Option, Order, Orders, Origin, owes_at, Phase, Pins, Place, place_at, PointAssertion, Points}
+use Terms.{Prepares, Pulses, Quits, read_spot, ReadGroup, ReadsPlace, refl, Reservations, Round, round_at, Seeks}
+use Terms.{Sets_up, SetupResultBuffer, slice_index, slice_index_or, Some, spot_at, spot_making, spot_or, spot_start}
+use Terms.{Stage, StartGroupConversion, Stops, Stops_turn, StructureOp, subst, suc, Surveys, sym, true, Window}
+use Terms.{with_holds, with_mark, Within, words_happened, World, world_after, WriteBatch, Zero, zero, ℕ}
 use Rattle.service_outline.specs.Services.{Outside}
 use Rattle.chip_converter.specs.Converters as chips
-use Rattle.mcal_base.specs.declared.directive.Order.TheVariants as orders
-use Rattle.mcal_base.specs.declared.moves.Event.TheVariants as events
-use Rattle.adc_groups.specs.declared.making.StructureOp.TheVariants as shapes
-use Rattle.adc_groups.specs.declared.service.read.Stage.TheVariants as stages
-use Rattle.adc_groups.specs.declared.window.Window.TheVariants as windows
 
 -- ---- what the hardware leaves
 
@@ -49,11 +44,11 @@ pulse_marks s i true = record { marks = (with_mark s i true).marks; is = refl; k
 pulse_marks s i false = record { marks = s.marks; is = refl; kept = λ k lt e. e }
 
 pub marks_later : (d : AdcTable) (s : AdcState) (order : Order) → Marked s (moved d s order)
-marks_later d s (orders.Trigger i) = pulse_marks s i (is_some (listener d s i))
+marks_later d s (Order.Trigger i) = pulse_marks s i (is_some (listener d s i))
 marks_later d s _ = record { marks = s.marks; is = refl; kept = λ k lt e. e }
 
 pub time_later : (w : World) (rate : ℕ) (order : Order) → w.now ≤ (world_after w rate order).now
-time_later w rate (orders.Tick n) = omega arith
+time_later w rate (Order.Tick n) = omega arith
 time_later w rate _ = omega arith
 
 abbrev lists_of : Converters → List (List ℕ)
@@ -68,14 +63,14 @@ lists_pulsed b true n = refl
 lists_pulsed b false n = refl
 
 lists_later : (b : Converters) (rate : ℕ) (order : Order) → lists_of (block_after order rate b) ≡ lists_of b
-lists_later b rate (orders.Analog i v) = lists_settled (chips.settled b.levels b.time) (λ a. refl) b.units
-lists_later b rate (orders.Trigger i) = lists_pulsed b _ _
+lists_later b rate (Order.Analog i v) = lists_settled (chips.settled b.levels b.time) (λ a. refl) b.units
+lists_later b rate (Order.Trigger i) = lists_pulsed b _ _
 lists_later b rate _ = refl
 
 -- the words, the list registers and the enabled lines, unless an array is filled
 enabled_later : (chip : Chip) (order : Order) → is_fill order ≡ false → (happened chip order).control.enabled ≡ chip.control.enabled
-enabled_later chip (orders.Level p v) none = level_leaves (λ c. c.control.enabled) chip p v refl
-enabled_later chip (orders.Fill c ws) none = absurd (cc)
+enabled_later chip (Order.Level p v) none = level_leaves (λ c. c.control.enabled) chip p v refl
+enabled_later chip (Order.Fill c ws) none = absurd (cc)
 enabled_later chip _ none = refl
 
 pub foot_later : (chip : Chip) (order : Order) → is_fill order ≡ false → foot_of (happened chip order) ≡ foot_of chip
@@ -110,34 +105,27 @@ module _ (d : AdcTable) (w x : World) (le : w.now ≤ x.now) (s : AdcState) (ms 
   taken_later u g h = record { round = h.round; is = h.is; group = h.group; finished = finished_on (group_of d g) h.round h.finished }
 
   window_later : (win : Window) (below : Reservations) (o : Origin Call) (p : FrameHistory) → InWindow d win below w s o p → InWindow d win below x t o p
-  window_later windows.Close below o p h = h
-  window_later (windows.Setup g b) below o p h = calling_later g (SetupResultBuffer (Some b)) o p h
-  window_later (windows.Status g) below o p h = calling_later g GetGroupStatus o p h
-  window_later (windows.Point g) below o p h = calling_later g GetStreamLastPointer o p h
-  window_later (windows.Read g) below o p h = (calling_later g ReadGroup o p h.0, h.1)
-  window_later (windows.Start g) below o p h = calling_later g StartGroupConversion o p h
-  window_later (windows.Enable g) below o p h = calling_later g EnableHardwareTrigger o p h
-  window_later (windows.Stop u g) below o p h = (h.0, (h.1.0, h.1.1, calling_later g h.1.0 o p h.1.2))
-  window_later (windows.Yield u) below o p h = h
-  window_later (windows.Suspend u g) below o p (done, few, on, free, is, first) = (done, few, on, free, outranked_later u g is, first)
-  window_later (windows.Keep r) below o p h = h
-  window_later (windows.Begin u) below o p h = h
-  window_later (windows.Leave u) below o p h = h
-  window_later (windows.Convert u g false) below o p h = h
-  window_later (windows.Convert u g true) below o p h = h
-  window_later (windows.Take u) below o p (is, few, alone, done) = (is, few, alone, done_later (round_at s u) done)
-  window_later (windows.Claim y) below o p (is, few, alone, taken) = (is, few, alone, taken_later y.unit y.group taken)
-  window_later (windows.Serve y) below o p h = h
-  window_later (windows.Trigger i g) below o p (is, few, has, marked) = (is, few, has, kept i few marked)
+  window_later (Window.Setup g b) below o p h = calling_later g (SetupResultBuffer (Some b)) o p h
+  window_later (Window.Status g) below o p h = calling_later g GetGroupStatus o p h
+  window_later (Window.Point g) below o p h = calling_later g GetStreamLastPointer o p h
+  window_later (Window.Read g) below o p h = (calling_later g ReadGroup o p h.0, h.1)
+  window_later (Window.Start g) below o p h = calling_later g StartGroupConversion o p h
+  window_later (Window.Enable g) below o p h = calling_later g EnableHardwareTrigger o p h
+  window_later (Window.Stop u g) below o p h = (h.0, (h.1.0, h.1.1, calling_later g h.1.0 o p h.1.2))
+  window_later (Window.Suspend u g) below o p (done, few, on, free, is, first) = (done, few, on, free, outranked_later u g is, first)
+  window_later (Window.Convert u g false) below o p h = h
+  window_later (Window.Convert u g true) below o p h = h
+  window_later (Window.Take u) below o p (is, few, alone, done) = (is, few, alone, done_later (round_at s u) done)
+  window_later (Window.Claim y) below o p (is, few, alone, taken) = (is, few, alone, taken_later y.unit y.group taken)
+  window_later (Window.Trigger i g) below o p (is, few, has, marked) = (is, few, has, kept i few marked)
+  window_later _ below o p h = h
 
   pub looked_later : (win : Window) → HasLooked d win s → HasLooked d win t
-  looked_later windows.Close h = h
+  looked_later Window.Close h = h
   looked_later _ h = h
 
   seek_later : (win : Window) (below : Reservations) (o : Origin Call) (p : FrameHistory) → MaySeek d win below w s o p → MaySeek d win below x t o p
-  seek_later (windows.Suspend u g) below o p (done, few, on, free, is) = (done, few, on, free, outranked_later u g is)
-  seek_later (windows.Begin u) below o p h = h
-  seek_later (windows.Leave u) below o p h = h
+  seek_later (Window.Suspend u g) below o p (done, few, on, free, is) = (done, few, on, free, outranked_later u g is)
   seek_later _ below o p h = h
 
   pinning_later : (g : ℕ) (y : Phase) → IsPinning d s g y → IsPinning d t g y
@@ -164,7 +152,7 @@ module _ (d : AdcTable) (w x : World) (le : w.now ≤ x.now) (s : AdcState) (ms 
   dealing_later below f o p _ (Pulses i g turned is may turn) = Pulses i g turned is (pulse_later i g may) turn
 
   begins_later : (below : Reservations) (o : Origin Call) (p : FrameHistory) (u g e left : ℕ) (claimed : Bool) → IsStart d below w s o p u g e left claimed → IsStart d below x t o p u g e left claimed
-  begins_later below o p u g e left claimed h = record { window = window_later (windows.Convert u g claimed) below o p h.window; kept = h.kept; all = h.all }
+  begins_later below o p u g e left claimed h = record { window = window_later (Window.Convert u g claimed) below o p h.window; kept = h.kept; all = h.all }
 
   starting_later : (below : Reservations) (f : Footprint) (o : Origin Call) (p : FrameHistory) (u : ℕ) (m : WriteBatch) → IsStarting d below f w s o p u m → IsStarting d below f x t o p u m
   starting_later below f o p u _ (Orders g e left claimed n r xs is order first ends made) = Orders g e left claimed n r xs (begins_later below o p u g e left claimed is) (order_later u xs order) first ends made
@@ -177,13 +165,13 @@ module _ (d : AdcTable) (w x : World) (le : w.now ≤ x.now) (s : AdcState) (ms 
   StaysKnown z = (below : Reservations) (f : Footprint) (o : Origin Call) (p : FrameHistory) → place_at z below f w s o p → place_at z below f x t o p
 
   read_stays : (n : Newest) (z : Stage) → StaysKnown (read_spot d n z)
-  read_stays n stages.Reads below f o p h = h
+  read_stays n Stage.Reads below f o p h = h
   read_stays n _ below f o p h = h
 
   banks_stays : (m : WriteBatch) (q : Option StructureOp) → StaysKnown (banks_spot d m q)
   banks_stays m None below f o p h = dealing_later below f o p m h
-  banks_stays m (Some (shapes.Put q)) below f o p h = h
-  banks_stays m (Some (shapes.Take q)) below f o p (g, y, is, alone, pins, e) = (g, y, calling_later g ReadGroup o p is, alone, pinning_later g y pins, e)
+  banks_stays m (Some (StructureOp.Put q)) below f o p h = h
+  banks_stays m (Some (StructureOp.Take q)) below f o p (g, y, is, alone, pins, e) = (g, y, calling_later g ReadGroup o p is, alone, pinning_later g y pins, e)
   banks_stays m (Some q) below f o p (g, y, is, alone, pins, e) = (g, y, calling_later g ReadGroup o p is, alone, pinning_later g y pins, e)
 
   start_stays : (m : WriteBatch) (q : Option ℕ) (c : Bool) → StaysKnown (spot_start d m q c)
@@ -191,22 +179,20 @@ module _ (d : AdcTable) (w x : World) (le : w.now ≤ x.now) (s : AdcState) (ms 
   start_stays m None c below f o p h = h
 
   making_stays : (m : WriteBatch) (e : Option Event) → StaysKnown (spot_making d m e)
-  making_stays m (Some (events.Start u)) = start_stays m (number_of u) (list_any ends_claim m.deeds)
+  making_stays m (Some (Event.Start u)) = start_stays m (number_of u) (list_any ends_claim m.deeds)
   making_stays m e = banks_stays m m.banks
 
   pub stays_at : (k : Place) → StaysKnown (spot_at d k)
-  stays_at (Flag win) below f o p h = h
   stays_at (Looks win seen) below f o p (is, seen_so) = (window_later win below o p is, seen_so)
   stays_at (Surveys win g) below f o p (is, looked, surveyed) = (window_later win below o p is, looked_later win looked, surveyed)
   stays_at (Seeks win r) below f o p (is, seeking) = (seek_later win below o p is, seeking)
-  stays_at (Chooses u g r) below f o p (is, at) = (window_later (windows.Claim (record { unit = u; group = g; bank = Zero })) below o p is, at)
+  stays_at (Chooses u g r) below f o p (is, at) = (window_later (Window.Claim (record { unit = u; group = g; bank = Zero })) below o p is, at)
   stays_at (Pins g y) below f o p (is, alone, pins) = (calling_later g ReadGroup o p is, alone, pinning_later g y pins)
   stays_at (ReadsPlace n) below f o p h = read_stays n n.stage below f o p h
-  stays_at (Aborts r) below f o p (is, kept) = (window_later (windows.Suspend r.unit r.group) below o p is, kept)
+  stays_at (Aborts r) below f o p (is, kept) = (window_later (Window.Suspend r.unit r.group) below o p is, kept)
   stays_at (Makes m) below f o p h = making_stays m m.event below f o p h
-  stays_at (Quits u) below f o p (is, none) = (seek_later (windows.Leave u) below o p is, none)
-  stays_at (Opens o1) below f o p h = h
-  stays_at (Out o1) below f o p h = h
+  stays_at (Quits u) below f o p (is, none) = (seek_later (Window.Leave u) below o p is, none)
+  stays_at _ below f o p h = h
 
   driver_stays : (P : Type 0) (z : PointAssertion (AdcGround d)) → StaysKnown z → StaysKnown (of_driver P z)
   driver_stays P (Within gap hs place) stays below f o p h = (h.0, stays below f o p h.1)

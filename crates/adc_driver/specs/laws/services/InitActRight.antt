@@ -1,19 +1,17 @@
 -- The move at which Adc_Init acts: the words that it has cleared stand for the machine's fresh state.
--- From adc_groups: services.InitSteps, adc_groups: words.WordsAtRest, services.InitWords and 5 more.
+-- From adc_groups: services.InitSteps, adc_groups: hardware.AfterReset, services.InitWords and 4 more.
 -- Used by services.InitRight.
-use Rattle.std.proofs.Common.{◌≡◌, ◌≢◌, ◌+◌, ◌-◌, ◌*◌, ◌/◌, ◌%◌, ◌<◌, ◌||◌, ◌==◌, [], ◌∷◌, ◌∙◌}
-use Rattle.std.proofs.Common.{if◌then◌else◌}
+use Rattle.std.proofs.Common.{◌≡◌, ◌≢◌, ◌+◌, ◌-◌, ◌*◌, ◌/◌, ◌%◌, ◌<◌, ◌||◌, ◌==◌, [], ◌∷◌, ◌∙◌, if◌then◌else◌}
 use Rattle.adc_driver.specs.Terms
 use Terms.{AdcState, AdcTable, Agrees, all_groups, ap, arith, Bool, Chip, chip_after, clear_at, clear_count}
 use Terms.{cleared_group, cleared_word, cond, empty, false, first_of, FitsAdc, fresh, group_clear, group_of}
 use Terms.{GroupAgrees, has_bit, is_on, is_some, is_trigger_line, is_unit_line, IsCleared, IsOrder, IsSound, IsZero}
 use Terms.{List, Load, many_from, nat_lt, nat_tests, next_among, None, nth_from, order_of, Promised, refl}
 use Terms.{rests_agree, result_past, result_word, rounds_of, Settled, Some, stands-move, start_from, STATE, Store}
-use Terms.{stored_other, stored_same, subst, suc, sym, trio_past, true, unit_word, UnitAgrees, waits_for, within}
-use Terms.{word_number, word_of, World, zero, ℕ}
-use Rattle.adc_groups.specs.laws.hardware.AfterReset.{untouched_sound}
+use Terms.{stored_other, stored_same, subst, suc, sym, trio_past, true, unit_word, UnitAgrees, waits_for, whether_as}
+use Terms.{within, Word, word_number, word_of, World, zero, ℕ}
 use Rattle.adc_driver.specs.laws.services.InitWords.{clearing, off_quiet}
-use Rattle.adc_groups.specs.declared.words.Word.TheVariants as words
+use Rattle.adc_groups.specs.laws.hardware.AfterReset.{untouched_sound}
 use Rattle.mcal_base.specs.facts.Truths.{and_false}
 
 -- all lines of the module are enabled
@@ -49,26 +47,15 @@ module _ (d : AdcTable) (w : World) (s : AdcState) where
 -- fewer come before a configured group than are configured
 before_less : (d : AdcTable) (n from h g : ℕ) → g ≡ from + h → h < n → is_some (group_of d g) ≡ true → many_from d h from < many_from d n from
 before_less d zero from h g is lt there = absurd (omega (arith, lt))
-before_less d (suc n) from zero g is lt there = let same : g ≡ from = omega (arith, is) in by (is_some (group_of d from)) (subst (λ z. is_some (group_of d z) ≡ true) same there)
-  where
-    by : (q : Bool) → q ≡ true → 0 < (if q then 1 + many_from d n (from + 1) else many_from d n (from + 1))
-    by true e = omega arith
-    by false e = absurd (cc)
-before_less d (suc n) from (suc h) g is lt there = by (is_some (group_of d from)) (before_less d n (from + 1) h g (omega (arith, is)) (omega (arith, lt)) there)
-  where
-    by : (q : Bool) → many_from d h (from + 1) < many_from d n (from + 1)
-        → (if q then 1 + many_from d h (from + 1) else many_from d h (from + 1)) < (if q then 1 + many_from d n (from + 1) else many_from d n (from + 1))
-    by true less = omega (arith, less)
-    by false less = less
+before_less d (suc n) from zero g is lt there = let same : g ≡ from = omega (arith, is) in subst (λ q. 0 < (if q then 1 + many_from d n (from + 1) else many_from d n (from + 1))) (sym (subst (λ z. is_some (group_of d z) ≡ true) same there)) (omega arith)
+before_less d (suc n) from (suc h) g is lt there =
+    let less = before_less d n (from + 1) h g (omega (arith, is)) (omega (arith, lt)) there in
+    whether_as (is_some (group_of d from)) (λ q. (if q then 1 + many_from d h (from + 1) else many_from d h (from + 1)) < (if q then 1 + many_from d n (from + 1) else many_from d n (from + 1))) (λ _. omega (arith, less)) (λ _. less)
 
 -- and it is found at that place
 nth_is : (d : AdcTable) (n from h g : ℕ) → g ≡ from + h → h < n → is_some (group_of d g) ≡ true → nth_from d n from (many_from d h from) ≡ g
 nth_is d zero from h g is lt there = absurd (omega (arith, lt))
-nth_is d (suc n) from zero g is lt there = let same : g ≡ from = omega (arith, is) in by (is_some (group_of d from)) (subst (λ z. is_some (group_of d z) ≡ true) same there) (sym same)
-  where
-    by : (q : Bool) → q ≡ true → from ≡ g → (if q then (if 0 == 0 then from else nth_from d n (from + 1) (0 - 1)) else nth_from d n (from + 1) 0) ≡ g
-    by true e same = same
-    by false e same = absurd (cc)
+nth_is d (suc n) from zero g is lt there = let same : g ≡ from = omega (arith, is) in ap (λ q. if q then from else nth_from d n (from + 1) 0) (subst (λ z. is_some (group_of d z) ≡ true) same there) ∙ sym same
 nth_is d (suc n) from (suc h) g is lt there = by (is_some (group_of d from)) (nth_is d n (from + 1) h g (omega (arith, is)) (omega (arith, lt)) there)
   where
     many : ℕ
@@ -94,12 +81,12 @@ module _ (d : AdcTable) (chip : Chip) (all : (i : ℕ) → i < clear_count d →
   unit_zero : (i : ℕ) → i < 6 → IsZero chip (clear_at d i)
   unit_zero i lt = all i (omega (arith, lt))
 
-  running_zero : (u : ℕ) → u < 2 → word_of chip (word_number d (words.Running u)) ≡ 0
+  running_zero : (u : ℕ) → u < 2 → word_of chip (word_number d (Word.Running u)) ≡ 0
   running_zero zero lt = unit_zero 0 (omega arith)
   running_zero (suc zero) lt = unit_zero 3 (omega arith)
   running_zero (suc (suc u)) lt = absurd (omega (arith, lt))
 
-  claim_zero : (u : ℕ) → u < 2 → word_of chip (word_number d (words.Claim u)) ≡ 0
+  claim_zero : (u : ℕ) → u < 2 → word_of chip (word_number d (Word.Claim u)) ≡ 0
   claim_zero zero lt = unit_zero 1 (omega arith)
   claim_zero (suc zero) lt = unit_zero 4 (omega arith)
   claim_zero (suc (suc u)) lt = absurd (omega (arith, lt))
@@ -167,7 +154,7 @@ module _ (d : AdcTable) (fits : FitsAdc d) (chip : Chip) (w : World) (s : AdcSta
 
   unit : (u : ℕ) → u < 2 → UnitAgrees d (word_of acted) (fresh s) u
   unit u lt = record {
-    running = word (word_number d (words.Running u)) (λ e. omega (arith, e)) ∙ running_zero d chip zeros u lt;
+    running = word (word_number d (Word.Running u)) (λ e. omega (arith, e)) ∙ running_zero d chip zeros u lt;
     order = ([], empty (order_of u) (word_of acted) (word ((order_of u).at + 2) (λ e. omega (arith, e)) ∙ order_zero d chip zeros u lt), order u);
   }
 
@@ -175,7 +162,7 @@ module _ (d : AdcTable) (fits : FitsAdc d) (chip : Chip) (w : World) (s : AdcSta
   settled = record {
     groups = group;
     units = unit;
-    claims = λ u lt. ap (λ v. v == 0) (word (word_number d (words.Claim u)) (λ e. omega (arith, e)) ∙ claim_zero d chip zeros u lt);
+    claims = λ u lt. ap (λ v. v == 0) (word (word_number d (Word.Claim u)) (λ e. omega (arith, e)) ∙ claim_zero d chip zeros u lt);
     lines = on;
     promised = λ u. none_promised d w s u;
   }

@@ -1,5 +1,5 @@
 -- Adc_Init: it clears words with the mask open, and in its last window it enables the lines and acts.
--- From adc_groups: services.InitSteps, services.InitWords, services.InitActRight and 7 more.
+-- From adc_groups: services.InitSteps, services.InitWords, services.InitActRight, words.EitherOne and 7 more.
 -- Used by bookkeeping.NoneWaitsPlaces, bookkeeping.Joined, services.BeginSteps.
 use Rattle.std.proofs.Common.{◌≡◌, ◌+◌, ◌-◌, ◌*◌, ◌<◌, ◌≤◌, ◌&&◌, ◌||◌, [], ◌∷◌, ◌∙◌, if◌then◌else◌}
 use Rattle.adc_driver.specs.Terms
@@ -10,32 +10,30 @@ use Terms.{FrameHistory, fresh, fresh_history, from_found, Group, group_of, happ
 use Terms.{init_work, InitBody, is_shared, is_some, Is_this_frame, IsSweeping, IsThisFrame, Level, level_leaves}
 use Terms.{LINES, List, LongBodies, many_from, may, moved, nat_lt, nat_tests, never_clean, next_of, None, not}
 use Terms.{object_count, Option, Order, Origin, past_wrote, place_at, PointAssertion, refl, Reservations, resets_chip}
-use Terms.{rests_agree, Right, Setup, setup_after, setup_count, setup_move, Shortens, slice_index_or, Some}
-use Terms.{stands-move, STATE, steps_of, Store, subst, suc, Sweep, sweep, sweep_right, Sweeping, sym, tells_nothing}
-use Terms.{true, TurnsTo, Under, value_of, with_holds, Within, World, world_after, Write, zero, ℕ}
+use Terms.{Right, Service, Setup, setup_after, setup_count, setup_move, Shortens, slice_index_or, Some, stands-move}
+use Terms.{STATE, steps_of, Store, subst, suc, Sweep, sweep, sweep_right, Sweeping, sym, tells_nothing, true, TurnsTo}
+use Terms.{Under, value_of, whether_as, with_holds, Within, World, world_after, Write, zero, ℕ}
+use Rattle.adc_driver.specs.laws.services.InitWords.{clearing, clears_calm, clears_may, clears_past, clears_step}
+use Rattle.adc_driver.specs.laws.{services.InitWords.{off_agrees}, services.InitActRight.{AreOn, renewed}}
+use Rattle.adc_driver.specs.laws.words.EitherOne.{either}
 use Rattle.service_outline.specs.declared.sweep.SweepStage.TheVariants.{Opens}
-use Rattle.adc_driver.specs.laws.{services.InitWords.{clearing, clears_calm, clears_may, clears_past, clears_step}}
-use Rattle.adc_driver.specs.laws.{services.InitWords.{off_quiet}, services.InitActRight.{AreOn, renewed}}
-use Rattle.mcal_base.specs.declared.service.Service.TheVariants as services
-use Rattle.adc_machine.specs.declared.call.Call.TheVariants as calls
-use Rattle.adc_groups.specs.declared.service.module.InitBody.TheVariants as inits
 use Rattle.std.proofs.lemmas.Bool.{or_right}
 
 -- ---- the frame
 
 -- no frame of the module is below, since the call is alone in it
 abbrev pub IsInit : Reservations → Origin Call → FrameHistory → Type 0
-IsInit below o p = IsThisFrame (Called calls.Init) fresh_history o p × (below ≡ [])
+IsInit below o p = IsThisFrame (Called Call.Init) fresh_history o p × (below ≡ [])
 
 -- ---- its last window
 
 abbrev pub init_fuel : InitBody → ℕ
-init_fuel inits.Enable = 2
-init_fuel inits.Store = 1
+init_fuel InitBody.Enable = 2
+init_fuel InitBody.Store = 1
 
 abbrev pub init_spot : (d : AdcTable) → InitBody → PointAssertion (AdcGround d)
-init_spot d inits.Enable = Within (Under None) (Clears (clear_count d) ∷ []) (λ below f w s o p. IsInit below o p)
-init_spot d inits.Store = Within (Under None) (Clears (clear_count d) ∷ []) (λ below f w s o p. IsInit below o p × AreOn f.enabled)
+init_spot d InitBody.Enable = Within (Under None) (Clears (clear_count d) ∷ []) (λ below f w s o p. IsInit below o p)
+init_spot d InitBody.Store = Within (Under None) (Clears (clear_count d) ∷ []) (λ below f w s o p. IsInit below o p × AreOn f.enabled)
 
 abbrev pub last_bodies : (d : AdcTable) → LongBodies (AdcGround d) InitBody
 last_bodies d = record { work_of = init_work; takes = init_takes; fuel = init_fuel; room = init_fuel; clean = λ k. false; assertion = init_spot d }
@@ -67,77 +65,54 @@ control_later chip _ = refl
 
 module _ (d : AdcTable) (fits : FitsAdc d) where
   enables_agrees : (chip : Chip) (w : World) (s : AdcState) → Agrees d (clearing (clear_count d)) chip w s → Agrees d (clearing (clear_count d)) (chip_after chip (Write EnableSet LINES) 0) w s
-  enables_agrees chip w s h = rests_agree d (clearing (clear_count d)) (clearing (clear_count d)) chip (chip_after chip (Write EnableSet LINES) 0) w s s h (record {
-    was = off_quiet d w s h.sound off;
-    idle = λ g. (h.sound.rest off g).0;
-    free = λ u lt. (h.sound.rest off 0).1 u;
-    sound = h.sound;
-    results = λ g n p. refl;
-    outside = stands-move chip w (Write EnableSet LINES) 0 h.outside;
-    block = refl;
-    state = h.state;
-    banks = λ g j there of. refl;
-    places = λ g n p. refl;
-    puts = λ g. refl;
-    takes = λ g. refl;
-    owed = λ g n p. refl;
-    right = h.right;
-    backed = h.backed;
-    settled = λ e. absurd (let no = off in cc);
-    left = λ e none. absurd (cc);
-  })
-    where
-      off : s.initialised ≡ false
-      off = h.right.0.1
+  enables_agrees chip w s h =
+      off_agrees d (clearing (clear_count d)) (clear_count d) chip (chip_after chip (Write EnableSet LINES) 0) w s h.right.0.1 (λ g. refl, λ g. refl, λ g n p. refl) (stands-move chip w (Write EnableSet LINES) 0 h.outside) refl refl
+      (λ g j there of. refl) (λ g n p. refl) h.right h
 
-  none_error : (s : AdcState) → s.initialised ≡ false → error_by d calls.Init (circumstances d s calls.Init) ≡ None
-  none_error s off = ap (λ q. first_error services.AdcInit (not (not q) ∷ false ∷ false ∷ false ∷ false ∷ false ∷ [])) off
+  none_error : (s : AdcState) → s.initialised ≡ false → error_by d Call.Init (circumstances d s Call.Init) ≡ None
+  none_error s off = ap (λ q. first_error Service.AdcInit (not (not q) ∷ false ∷ false ∷ false ∷ false ∷ false ∷ [])) off
+
+  abbrev clears : Reservations → Reservations
+  clears hs = record { by = Called Call.Init; what = Clears (clear_count d); acted = None } ∷ hs
 
   last_steps : (below : Reservations) (chip : Chip) (w : World) (s : AdcState) (k : InitBody) (o : Origin Call) (y : ℕ) (p : FrameHistory) (m : ℕ → Bool) → AssertedAt (AdcGround d) (last_bodies d) below chip w s k o p → Right (AdcGround d) (last_bodies d) below chip w s k o y p m
-  last_steps below chip w s inits.Enable o y p m (h, (Is_this_frame, e)) = (alone below e h, ((Is_this_frame, e), lines_set chip.control.enabled))
-    where
-      alone : (hs : Reservations) → hs ≡ [] → Agrees d (record { by = Called calls.Init; what = Clears (clear_count d); acted = None } ∷ hs) chip w s → Agrees d (record { by = Called calls.Init; what = Clears (clear_count d); acted = None } ∷ hs) (chip_after chip (Write EnableSet LINES) 0) w s
-      alone [] e h = enables_agrees chip w s h
-      alone (x ∷ xs) e h = absurd (cc)
-  last_steps below chip w s inits.Store o y p m (h, ((Is_this_frame, e), on)) = record {
+  last_steps below chip w s InitBody.Enable o y p m (h, (Is_this_frame, e)) =
+      (subst (λ hs. Agrees d (clears hs) chip w s → Agrees d (clears hs) (chip_after chip (Write EnableSet LINES) 0) w s) (sym e) (enables_agrees chip w s) h, ((Is_this_frame, e), lines_set chip.control.enabled))
+  last_steps below chip w s InitBody.Store o y p m (h, ((Is_this_frame, e), on)) = record {
     may = refl;
     stands = tt;
     state = fresh s;
     told = tells_nothing;
     begins = None;
-    is = ap (λ x. Some (acts_by d s calls.Init x)) (none_error s h.right.0.1);
+    is = ap (λ x. Some (acts_by d s Call.Init x)) (none_error s h.right.0.1);
     sends = tt;
     acts = tt;
     reset = refl;
-    next = (alone below e h, record { may = (refl, refl); served = false; owed = refl; shown = λ i. absurd (cc); report = refl });
+    next = (subst (λ hs. Agrees d (clears hs) chip w s → Agrees d hs (chip_after chip (Store STATE 1) 0) w (fresh s)) (sym e) (λ a. renewed d fits chip w s a on) h, record { may = (refl, refl); served = false; owed = refl; shown = λ i. absurd (cc); report = refl });
   }
-    where
-      alone : (hs : Reservations) → hs ≡ [] → Agrees d (record { by = Called calls.Init; what = Clears (clear_count d); acted = None } ∷ hs) chip w s → Agrees d hs (chip_after chip (Store STATE 1) 0) w (fresh s)
-      alone [] e h = renewed d fits chip w s h on
-      alone (x ∷ xs) e h = absurd (cc)
 
   may_act : may d (Store STATE 1) ≡ true
   may_act = ap (λ q. q && true) (first_words d 0 (omega arith))
 
   last_own : (k : InitBody) → is_shared (init_work k) || may d (init_work k) ≡ true
-  last_own inits.Enable = refl
-  last_own inits.Store = may_act
+  last_own InitBody.Enable = refl
+  last_own InitBody.Store = may_act
 
   last_turns : (k : InitBody) (v : ℕ) → TurnsTo (last_bodies d) 32 k (init_takes k v)
-  last_turns inits.Enable v = (refl, omega arith)
-  last_turns inits.Store v = omega arith
+  last_turns InitBody.Enable v = (refl, omega arith)
+  last_turns InitBody.Store v = omega arith
 
   last_later : (below : Reservations) (chip : Chip) (w : World) (s : AdcState) (order : Order) (k : InitBody) (o : Origin Call) (p : FrameHistory) → place_at (init_spot d k) below ((AdcGround d).foot chip) w s o p → place_at (init_spot d k) below ((AdcGround d).foot (happened chip order)) (world_after w chip.clock.rate order) (moved d s order) o p
-  last_later below chip w s order inits.Enable o p h = h
-  last_later below chip w s order inits.Store o p h = (h.0, λ l at. ap (λ c. has_bit c.enabled l) (control_later chip order) ∙ h.1 l at)
+  last_later below chip w s order InitBody.Enable o p h = h
+  last_later below chip w s order InitBody.Store o p h = (h.0, λ l at. ap (λ c. has_bit c.enabled l) (control_later chip order) ∙ h.1 l at)
 
   last_calm : (k : InitBody) (v : ℕ) → (init_takes k v).1.event ≡ None → (resets_chip (init_work k) ≡ false) × (begins_word (init_work k) ≡ false)
-  last_calm inits.Enable v e = (refl, refl)
-  last_calm inits.Store v e = (refl, refl)
+  last_calm InitBody.Enable v e = (refl, refl)
+  last_calm InitBody.Store v e = (refl, refl)
 
   last_shortens : (k : InitBody) (v : ℕ) → Shortens init_fuel k (init_takes k v)
-  last_shortens inits.Enable v = omega arith
-  last_shortens inits.Store v = omega arith
+  last_shortens InitBody.Enable v = omega arith
+  last_shortens InitBody.Store v = omega arith
 
   last_right : AreLong (AdcGround d) (last_bodies d)
   last_right = record {
@@ -155,18 +130,14 @@ module _ (d : AdcTable) (fits : FitsAdc d) where
   -- at most so many groups are configured
   many_most : (n from : ℕ) → many_from d n from ≤ n
   many_most zero from = omega arith
-  many_most (suc n) from = by (is_some (group_of d from)) (many_most n (from + 1))
-    where
-      by : (q : Bool) → many_from d n (from + 1) ≤ n → (if q then 1 + many_from d n (from + 1) else many_from d n (from + 1)) ≤ suc n
-      by true le = omega (arith, le)
-      by false le = omega (arith, le)
+  many_most (suc n) from = let le = many_most n (from + 1) in either (λ z. z ≤ suc n) (is_some (group_of d from)) _ _ (omega (arith, le)) (omega (arith, le))
 
   -- its places are those of the words that it clears
   few_same : (i : ℕ) → i < clear_count d → few i ≡ i
   few_same i lt = let on : nat_lt i 70 ≡ true = let most = many_most 16 0 in grind (arith, nat_tests) in ap (λ q. if q then i else 70) on
 
-  one_more : (a : Setup) (i : ℕ) (below : Reservations) (chip : Chip) (w : World) (s : AdcState) → a.table ≡ d → below ≡ [] → i < setup_count a → Agrees d (record { by = Called calls.Init; what = Clears i; acted = None } ∷ below) chip w s
-      → Agrees d (record { by = Called calls.Init; what = Clears (i + 1); acted = None } ∷ below) (chip_after chip (setup_move a i) 0) w s
+  one_more : (a : Setup) (i : ℕ) (below : Reservations) (chip : Chip) (w : World) (s : AdcState) → a.table ≡ d → below ≡ [] → i < setup_count a → Agrees d (record { by = Called Call.Init; what = Clears i; acted = None } ∷ below) chip w s
+      → Agrees d (record { by = Called Call.Init; what = Clears (i + 1); acted = None } ∷ below) (chip_after chip (setup_move a i) 0) w s
   one_more a i [] chip w s same e lt h = subst (λ x. Agrees d (clearing (i + 1)) (chip_after chip (clear_at x (few i)) 0) w s) (sym same) (subst (λ n. Agrees d (clearing (i + 1)) (chip_after chip (clear_at d n) 0) w s) (sym (few_same i (subst (λ x. i < clear_count x) same lt))) (clears_step d fits chip w s i h))
   one_more a i (x ∷ xs) chip w s same e lt h = absurd (cc)
 
@@ -186,9 +157,9 @@ module _ (d : AdcTable) (fits : FitsAdc d) where
       step a i below chip w s _ _ lt ((Is_this_frame, e), same) h = one_more a i below chip w s same e lt h
 
       stays : (a : Setup) (i : ℕ) (below : Reservations) (w : World) (o : Origin Call) (p : FrameHistory) → IsInit below o p × (a.table ≡ d) → IsInit below o (past_wrote w (setup_move a i) p) × (a.table ≡ d)
-      stays a i below w _ _ ((Is_this_frame, e), same) = (subst (λ p. IsInit below (Called calls.Init) p) (sym (clears_past a.table w (few i))) (Is_this_frame, e), same)
+      stays a i below w _ _ ((Is_this_frame, e), same) = (subst (λ p. IsInit below (Called Call.Init) p) (sym (clears_past a.table w (few i))) (Is_this_frame, e), same)
 
-      follows : (a : Setup) (below : Reservations) (chip : Chip) (w : World) (s : AdcState) (o : Origin Call) (p : FrameHistory) → IsInit below o p × (a.table ≡ d) → Agrees d (with_holds o p.acted (Clears (setup_count a) ∷ []) below) chip w s → AssertedAt (AdcGround d) (last_bodies d) below chip w s inits.Enable o p
+      follows : (a : Setup) (below : Reservations) (chip : Chip) (w : World) (s : AdcState) (o : Origin Call) (p : FrameHistory) → IsInit below o p × (a.table ≡ d) → Agrees d (with_holds o p.acted (Clears (setup_count a) ∷ []) below) chip w s → AssertedAt (AdcGround d) (last_bodies d) below chip w s InitBody.Enable o p
       follows a below chip w s o p (at, same) h = (subst (λ x. Agrees d (with_holds o p.acted (Clears (clear_count x) ∷ []) below) chip w s) same h, at)
 
   pub init_right : AreLong (AdcGround d) (init_bodies d)
@@ -237,18 +208,15 @@ module _ (d : AdcTable) (fits : FitsAdc d) where
           two_of : (m n : ℕ) → 1 + 0 ≤ m → 1 + 0 ≤ n → 2 ≤ m + n
           two_of m n p q = omega (arith, p, q)
 
-  pub init_within : (init_bodies d).fuel init_first ≤ steps_of d (Called calls.Init) - 7
+  pub init_within : (init_bodies d).fuel init_first ≤ steps_of d (Called Call.Init) - 7
   init_within = by (next_of d None 0) refl
     where
       -- none is found where none is configured
       none_many : (n from : ℕ) → first_from d None n from ≡ None → many_from d n from ≡ 0
       none_many zero from e = refl
-      none_many (suc n) from e = of_first (is_some (group_of d from)) e (λ rest. none_many n (from + 1) rest)
-        where
-          of_first : (q : Bool) → (if q then Some from else first_from d None n (from + 1)) ≡ None → (first_from d None n (from + 1) ≡ None → many_from d n (from + 1) ≡ 0)
-              → (if q then 1 + many_from d n (from + 1) else many_from d n (from + 1)) ≡ 0
-          of_first true e rest = absurd (cc)
-          of_first false e rest = rest e
+      none_many (suc n) from e =
+          whether_as (is_some (group_of d from)) (λ q. (if q then Some from else first_from d None n (from + 1)) ≡ None → (if q then 1 + many_from d n (from + 1) else many_from d n (from + 1)) ≡ 0)
+          (λ _ e. absurd (cc)) (λ _ e. none_many n (from + 1) e) e
 
       by : (o : Option ℕ) → next_of d None 0 ≡ o → 3 + (clear_count d + 2) ≤ 64 + 48 * object_count d - 7
       by None e = let none = none_many 16 0 e in omega (arith, none)

@@ -1,18 +1,18 @@
 -- What Adc_Init clears with the mask open, a word after the other, of a module that is uninitialised.
--- From adc_groups: services.InitSteps, adc_groups: words.WordsAtRest, adc_groups: words.WordsOfModule and 3 more.
+-- From adc_groups: services.InitSteps, adc_groups: hardware.AfterReset, adc_groups: words.WordsOfModule and 4 more.
 -- Used by services.InitRight, services.InitActRight, services.BeginSteps.
 use Rattle.std.proofs.Common.{◌≡◌, ◌≢◌, ◌+◌, ◌-◌, ◌/◌, ◌%◌, ◌<◌, ◌==◌, [], ◌∷◌, ◌∙◌, if◌then◌else◌}
 use Rattle.adc_driver.specs.Terms
-use Terms.{AdcState, AdcTable, Agrees, and_from, ap, arith, begins_word, Bool, Called, cases, Chip, chip_after}
-use Terms.{Chosen, clear_at, clear_words, cleared_group, cleared_word, Clears, false, first_words, FitsAdc}
+use Terms.{AdcState, AdcTable, Agrees, AllRight, and_from, ap, arith, begins_word, Bool, Call, Called, cases, Chip}
+use Terms.{chip_after, clear_at, clear_words, cleared_group, cleared_word, Clears, false, first_words, FitsAdc}
 use Terms.{fresh_history, group_clear, group_of, group_word, inl, inr, is_some, is_word, IsCleared, IsOwnStore}
-use Terms.{IsQuiet, IsSound, IsZero, Load, may, Move, nat_lt, nat_tests, None, Notified, own_of, past_wrote}
-use Terms.{place_apart, refl, Reservations, resets_chip, rests_agree, result_past, result_word, ResultBuffer}
-use Terms.{rounds_of, same_or_other, stands-move, start_from, STATE, Store, stored_other, stored_same, subst, sym}
-use Terms.{trio_apart, trio_of, trio_past, true, Turn, unit_word, whether_as, word_number, word_of, WORDS}
-use Terms.{words_below, World, ℕ}
-use Rattle.adc_groups.specs.declared.words.Word.TheVariants.{Phase}
-use Rattle.adc_machine.specs.declared.call.Call.TheVariants as calls
+use Terms.{IsQuiet, IsSound, IsZero, Load, may, Move, nat_lt, nat_tests, None, own_of, past_wrote, place_apart, refl}
+use Terms.{Reservations, resets_chip, rests_agree, result_past, result_word, ResultBuffer, rounds_of, same_or_other}
+use Terms.{some_hold, stands-move, start_from, STATE, Store, stored_other, stored_same, subst, sym, trio_apart}
+use Terms.{trio_of, trio_past, true, unit_word, whether_as, Word, word_number, word_of, WORDS, words_below, World, ℕ}
+use Rattle.adc_driver.specs.laws.words.EitherOne.{either}
+use Rattle.adc_groups.specs.Refinement.{first_held, is_owed, put_of, take_of}
+use Rattle.run_model.specs.Outside.{StandsIn}
 use Rattle.mcal_base.specs.facts.Numbers.{lt_from}
 
 -- ---- the moves
@@ -21,11 +21,7 @@ use Rattle.mcal_base.specs.facts.Numbers.{lt_from}
 pub each_clear : (d : AdcTable) (P : Move → Type 0) → ((k : ℕ) → P (Store k 0)) → P (Load STATE) → (i : ℕ) → P (clear_at d i)
 each_clear d P stores loads i =
     elim (nat_lt i 6) as (λ q. P (if q then Store (unit_word d (i / 3) (i % 3)) 0 else group_clear d (cleared_group d ((i - 6) / 4)) ((i - 6) % 4)))
-    [ true ↦ stores (unit_word d (i / 3) (i % 3)) | false ↦ of_group (is_some (group_of d (cleared_group d ((i - 6) / 4)))) ]
-  where
-    of_group : (q : Bool) → P (if q then Store (word_number d (cleared_word (cleared_group d ((i - 6) / 4)) ((i - 6) % 4))) 0 else Load STATE)
-    of_group true = stores (word_number d (cleared_word (cleared_group d ((i - 6) / 4)) ((i - 6) % 4)))
-    of_group false = loads
+    [ true ↦ stores (unit_word d (i / 3) (i % 3)) | false ↦ either P (is_some (group_of d (cleared_group d ((i - 6) / 4)))) _ _ (stores (word_number d (cleared_word (cleared_group d ((i - 6) / 4)) ((i - 6) % 4)))) loads ]
 
 -- it resets nothing, begins no serial word, and is no commit
 pub clears_calm : (d : AdcTable) (i : ℕ) → (resets_chip (clear_at d i) ≡ false) × (begins_word (clear_at d i) ≡ false)
@@ -71,21 +67,15 @@ module _ (d : AdcTable) (fits : FitsAdc d) where
     places = λ h n p e. place_apart d fits g i h n p there (omega (arith, lt)) e;
   }
 
-  either : (P : ℕ → Type 0) (q : Bool) (x y : ℕ) → P x → P y → P (if q then x else y)
-  either P true x y p q = p
-  either P false x y p q = q
-
   unit_spare : (u at : ℕ) → u < 2 → IsSpare d (unit_word d u at)
   unit_spare u at lt = either (IsSpare d) (at == 0) _ _ (first_spare _ (omega arith) (omega (arith, lt))) (either (IsSpare d) (at == 1) _ _ (first_spare _ (omega arith) (omega (arith, lt))) (first_spare _ (omega arith) (omega (arith, lt))))
 
   low_spare : (g at : ℕ) → is_some (group_of d g) ≡ true → IsSpare d (word_number d (cleared_word g at))
-  low_spare g at there = each_spare (at == 0) (at == 1) (at == 2)
+  low_spare g at there = either Spared (at == 0) _ _ (group_spare g 0 there (omega arith)) (either Spared (at == 1) _ _ (group_spare g 1 there (omega arith))
+      (either Spared (at == 2) _ _ (group_spare g 2 there (omega arith)) (group_spare g 3 there (omega arith))))
     where
-      each_spare : (a b c : Bool) → IsSpare d (word_number d (if a then Phase g else (if b then Chosen g else (if c then Notified g else Turn g))))
-      each_spare true b c = group_spare g 0 there (omega arith)
-      each_spare false true c = group_spare g 1 there (omega arith)
-      each_spare false false true = group_spare g 2 there (omega arith)
-      each_spare false false false = group_spare g 3 there (omega arith)
+      Spared : Word → Type 0
+      Spared x = IsSpare d (word_number d x)
 
   pub spared : (i : ℕ) → IsSpared d (clear_at d i)
   spared i = whether_as (nat_lt i 6) (λ q. IsSpared d (if q then Store (unit_word d (i / 3) (i % 3)) 0 else group_clear d (cleared_group d ((i - 6) / 4)) ((i - 6) % 4)))
@@ -115,11 +105,39 @@ module _ (d : AdcTable) (fits : FitsAdc d) where
 -- ---- what is held
 
 abbrev pub clearing : ℕ → Reservations
-clearing n = record { by = Called calls.Init; what = Clears n; acted = None } ∷ []
+clearing n = record { by = Called Call.Init; what = Clears n; acted = None } ∷ []
 
 -- nothing is under way in a module that is uninitialised
 pub off_quiet : (d : AdcTable) (w : World) (s : AdcState) → IsSound d w s → s.initialised ≡ false → IsQuiet s
 off_quiet d w s sound off = record { rounds = λ u lt. (sound.rest off 0).1 u; triggers = λ g. (sound.groups g).trigger (sound.rest off g).0 }
+
+-- what frames hold is nothing of banks and places
+abbrev pub HoldsNone : AdcTable → Reservations → Type 0
+HoldsNone d hs = ((g : ℕ) → None ≡ first_held (put_of d g) hs) × ((g : ℕ) → None ≡ first_held (take_of g) hs) × ((g : ℕ) (n : ResultBuffer) (p : ℕ) → some_hold (is_owed g n p) hs ≡ false)
+
+-- such a module agrees still, whatever was cleared, where the word of its state, the banks and the places stay
+pub off_agrees : (d : AdcTable) (before : Reservations) (n : ℕ) (a b : Chip) (w : World) (s : AdcState) → s.initialised ≡ false → HoldsNone d before → StandsIn b w → b.converters ≡ a.converters → word_of b STATE ≡ word_of a STATE
+    → ((g j : ℕ) → is_some (group_of d g) ≡ true → own_of (trio_of (rounds_of d g)) j ≡ true → word_of b j ≡ word_of a j) → ((g : ℕ) (n : ResultBuffer) (p : ℕ) → word_of b (result_word g n p) ≡ word_of a (result_word g n p))
+    → AllRight d b w s (clearing n) → Agrees d before a w s → Agrees d (clearing n) b w s
+off_agrees d before n a b w s off none outside block state banks places right h = rests_agree d before (clearing n) a b w s s h (record {
+  was = off_quiet d w s h.sound off;
+  idle = λ g. (h.sound.rest off g).0;
+  free = λ u lt. (h.sound.rest off 0).1 u;
+  sound = h.sound;
+  results = λ g n p. refl;
+  outside = outside;
+  block = block;
+  state = state ∙ h.state;
+  banks = banks;
+  places = places;
+  puts = none.0;
+  takes = none.1;
+  owed = none.2;
+  right = right;
+  backed = (λ u e. absurd (cc), tt);
+  settled = λ e. absurd (let no = off in cc);
+  left = λ e none. absurd (cc);
+})
 
 module _ (d : AdcTable) (fits : FitsAdc d) (chip : Chip) (w : World) (s : AdcState) (i : ℕ) (h : Agrees d (clearing i) chip w s) where
   off : s.initialised ≡ false
@@ -148,47 +166,13 @@ module _ (d : AdcTable) (fits : FitsAdc d) (chip : Chip) (w : World) (s : AdcSta
         (λ ne. zero_stays (clear_at d j) (spared d fits j) (h.right.0.2 j (omega (arith, lt, ne))))
 
     clears_word : Agrees d (clearing (i + 1)) stored w s
-    clears_word = rests_agree d (clearing i) (clearing (i + 1)) chip stored w s s h (record {
-      was = off_quiet d w s h.sound off;
-      idle = λ g. (h.sound.rest off g).0;
-      free = λ u lt. (h.sound.rest off 0).1 u;
-      sound = h.sound;
-      results = λ g n p. refl;
-      outside = stands-move chip w (Store k 0) 0 h.outside;
-      block = refl;
-      state = word STATE (λ e. spare.other (sym e)) ∙ h.state;
-      banks = λ g j there of. word j (spare.banks g j there of);
-      places = λ g n p. word (result_word g n p) (spare.places g n p);
-      puts = λ g. refl;
-      takes = λ g. refl;
-      owed = λ g n p. refl;
-      right = ((refl, off, zeros), tt);
-      backed = h.backed;
-      settled = λ e. absurd (let no = off in cc);
-      left = λ e none. absurd (cc);
-    })
+    clears_word =
+        off_agrees d (clearing i) (i + 1) chip stored w s off (λ g. refl, λ g. refl, λ g n p. refl) (stands-move chip w (Store k 0) 0 h.outside) refl (word STATE (λ e. spare.other (sym e)))
+        (λ g j there of. word j (spare.banks g j there of)) (λ g n p. word (result_word g n p) (spare.places g n p)) ((refl, off, zeros), tt) h
 
   -- nothing is cleared
   clears_none : (k : ℕ) → clear_at d i ≡ Load k → Agrees d (clearing (i + 1)) chip w s
-  clears_none k is = rests_agree d (clearing i) (clearing (i + 1)) chip chip w s s h (record {
-    was = off_quiet d w s h.sound off;
-    idle = λ g. (h.sound.rest off g).0;
-    free = λ u lt. (h.sound.rest off 0).1 u;
-    sound = h.sound;
-    results = λ g n p. refl;
-    outside = h.outside;
-    block = refl;
-    state = h.state;
-    banks = λ g j there of. refl;
-    places = λ g n p. refl;
-    puts = λ g. refl;
-    takes = λ g. refl;
-    owed = λ g n p. refl;
-    right = ((refl, off, zeros), tt);
-    backed = h.backed;
-    settled = λ e. absurd (let no = off in cc);
-    left = λ e none. absurd (cc);
-  })
+  clears_none k is = off_agrees d (clearing i) (i + 1) chip chip w s off (λ g. refl, λ g. refl, λ g n p. refl) h.outside refl refl (λ g j there of. refl) (λ g n p. refl) ((refl, off, zeros), tt) h
     where
       zeros : (j : ℕ) → j < i + 1 → IsCleared d chip j
       zeros j lt = cases (same_or_other j i)
@@ -206,22 +190,4 @@ module _ (d : AdcTable) (fits : FitsAdc d) (chip : Chip) (w : World) (s : AdcSta
 
 -- before the first one nothing is cleared
 pub clearing_begins : (d : AdcTable) (chip : Chip) (w : World) (s : AdcState) → s.initialised ≡ false → Agrees d [] chip w s → Agrees d (clearing 0) chip w s
-clearing_begins d chip w s off h = rests_agree d [] (clearing 0) chip chip w s s h (record {
-  was = off_quiet d w s h.sound off;
-  idle = λ g. (h.sound.rest off g).0;
-  free = λ u lt. (h.sound.rest off 0).1 u;
-  sound = h.sound;
-  results = λ g n p. refl;
-  outside = h.outside;
-  block = refl;
-  state = h.state;
-  banks = λ g j there of. refl;
-  places = λ g n p. refl;
-  puts = λ g. refl;
-  takes = λ g. refl;
-  owed = λ g n p. refl;
-  right = ((refl, off, λ i lt. absurd (omega (arith, lt))), tt);
-  backed = (λ u e. absurd (cc), tt);
-  settled = λ e. absurd (let no = off in cc);
-  left = λ e none. absurd (cc);
-})
+clearing_begins d chip w s off h = off_agrees d [] 0 chip chip w s off (λ g. refl, λ g. refl, λ g n p. refl) h.outside refl refl (λ g j there of. refl) (λ g n p. refl) ((refl, off, λ i lt. absurd (omega (arith, lt))), tt) h

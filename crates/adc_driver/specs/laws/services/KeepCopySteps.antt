@@ -1,21 +1,85 @@
--- Each step of a frame that copies the values of an aborted round behind those that were kept, with the mask open.
--- From adc_groups: services.BodySteps, bookkeeping.KeptReservations, words.KeptWords and 2 more.
--- Used by services.OutsideSteps.
-use Rattle.std.proofs.Common.{◌≡◌, ◌+◌, ◌<◌, ◌≤◌, ◌&&◌, ◌∙◌, if◌then◌else◌}
+-- How many inputs of an aborted round have ended is read, with the mask open; their values are copied next.
+-- From words.KeptWords, adc_groups: services.BodySteps, adc_groups: words.WordsOfModule and 3 more.
+-- Used by services.AllSteps.
+use Rattle.std.proofs.Common.{◌≡◌, ◌+◌, ◌-◌, ◌<◌, ◌≤◌, ◌&&◌, ◌==◌, ◌∙◌, if◌then◌else◌}
 use Rattle.adc_driver.specs.Terms
-use Terms.{adc_bodies, AdcBody, AdcGround, AdcState, AdcTable, Agrees, ap, arith, AssertedAt, body_ends, body_work}
-use Terms.{Bool, Call, Chip, chip_after, copies_on, ended_at, false, few_inputs, FitsAdc, FrameHistory, got, group_of}
-use Terms.{HasDone, inputs_of, is_on, Keeps, KeepsRight, kept_in, kept_word, length, lt_is, lt_isnt, nat_lt, nat_tests}
-use Terms.{None, on_there, Option, Origin, Out, place_sum, refl, Reservations, result_of, RightOr, rounds_of}
-use Terms.{slice_get_within, Some, Store, subst, Suspended, sym, true, value_of, WholeRight, World, ℕ}
-use Rattle.adc_driver.specs.laws.bookkeeping.KeptReservations.{keeps_more, keeps_all}
-use Rattle.adc_driver.specs.laws.words.KeptWords.{keeper, kept_agrees}
+use Terms.{adc_bodies, AdcBody, AdcGround, AdcState, AdcTable, Agrees, all_kept, ap, arith, AssertedAt, body_ends}
+use Terms.{body_work, Bool, Call, Chip, chip_after, Copied, copies_on, copies_or, ended_at, false, few_inputs}
+use Terms.{FitsAdc, FrameHistory, got, group_of, HasDone, inputs_of, is_on, is_some, Keeps, KeepsRight, kept_in}
+use Terms.{kept_within, kept_word, length, limited, lt_is, lt_isnt, nat_lt, nat_tests, None, on_there, Option, Origin}
+use Terms.{Out, Outside, place_sum, positive, refl, Reservations, result_of, RightOr, rounds_of, slice_get_within}
+use Terms.{Some, Store, subst, Suspended, sym, true, value_of, WholeRight, Window, World, ℕ}
+use Rattle.adc_driver.specs.laws.words.KeptWords.{limited_is, limited_most, few_places, keeps_more, keeps_all, keeper}
+use Rattle.adc_driver.specs.laws.words.KeptWords.{kept_agrees}
 use Rattle.chip_converter.specs.Converters as chips
 use Rattle.chip_converter.specs.Rounds as rounds
-use Rattle.adc_stream.specs.declared.copying.Copied as streams
 use Rattle.adc_stream.specs.declared.copying.Copied.TheVariants as copied
+use Rattle.adc_stream.specs.declared.copying.Copied as streams
 use Rattle.adc_groups.specs.Refinement as ground
-use Rattle.adc_groups.specs.declared.outside.Outside.TheVariants as outsides
+
+is_none : (n : ℕ) → (n == 0) ≡ true → n ≡ 0
+is_none n e = grind (arith, nat_tests)
+
+module _ (d : AdcTable) (fits : FitsAdc d) (f r : AdcBody → ℕ) (below : Reservations) (chip : Chip) (w : World) (s : AdcState) (m : ℕ → Bool) (y : ℕ) where
+  abbrev count_body : Suspended → AdcBody
+  count_body q = record { table = d; place = Out (Outside.Counts q) }
+
+  module _ (q : Suspended) (o : Origin Call) (p : FrameHistory) (has : HasDone q.unit below o p) (few : q.unit < 2) (at : is_on q.unit (group_of d q.group) ≡ true) (least : q.kept ≤ length (inputs_of (group_of d q.group))) (h : Agrees d (keeper o p.acted q.unit (ground.Keeps q.unit q.group q.kept None 0 None) below) chip w s) where
+    abbrev inputs : ℕ
+    inputs = length (inputs_of (group_of d q.group))
+
+    abbrev all_ended : ℕ
+    all_ended = rounds.ended (chips.unit_at chip.converters q.unit).round chip.converters.time
+
+    abbrev n : ℕ
+    n = limited all_ended (inputs - limited q.kept inputs)
+
+    there : is_some (group_of d q.group) ≡ true
+    there = on_there q.unit (group_of d q.group) at
+
+    within_inputs : q.kept + limited all_ended (inputs - limited q.kept inputs) ≤ inputs
+    within_inputs = let is = limited_is q.kept inputs least in let most = limited_most all_ended (inputs - limited q.kept inputs) in omega (arith, is, most, least)
+
+    all_is : limited (q.kept + limited all_ended (inputs - limited q.kept inputs)) 32 ≡ q.kept + limited all_ended (inputs - limited q.kept inputs)
+    all_is = limited_is (q.kept + n) 32 (let le = within_inputs in let most = few_inputs d fits q.group there in omega (arith, le, most))
+
+    -- while the claim keeps the group's values none is left out
+    count_is : KeepsRight d chip s q.unit q.group q.kept None 0 None → limited all_ended (inputs - limited q.kept inputs) ≡ all_ended
+    count_is k =
+        let is = limited_is q.kept inputs least in
+        let count = k.count in
+        let le = few_places (kept_in d s q.group) inputs (λ j v e. kept_within d w s h.sound q.group j v e) in
+        limited_is all_ended (inputs - limited q.kept inputs) (omega (arith, is, count, le))
+
+    told : KeepsRight d chip s q.unit q.group q.kept None 0 None → KeepsRight d chip s q.unit q.group q.kept (Some n) 0 None
+    told k = record { waits = k.waits; count = k.count; told = λ j e. (let same : n ≡ j = cc in sym same ∙ count_is k); word = k.word; kept = k.kept; results = k.results; next = λ v e. absurd (cc) }
+
+    whole_kept : n ≡ 0 → KeepsRight d chip s q.unit q.group q.kept None 0 None → WholeRight d chip s q.unit q.group (limited (q.kept + n) 32)
+    whole_kept none k =
+        let all = all_is in
+        let no : all_ended ≡ 0 = sym (count_is k) ∙ none in
+        let count = k.count in
+        let long : length (kept_in d s q.group) ≡ q.kept = omega (arith, count, no) in
+        record {
+          waits = k.waits;
+          count = omega (arith, long, all, none);
+          kept = λ j v e. k.kept j v (let lt = slice_get_within (kept_in d s q.group) j v e in omega (arith, lt, long)) e;
+        }
+
+    abbrev next_at : Bool → AdcBody
+    next_at z = record { table = d; place = Out (copies_or (if z then None else Some (record { what = copied.Ended (rounds_of d q.group) q.unit n q.kept; done = 0; value = None })) (Copied.Keeps (all_kept q n)) (Outside.Closes (Window.Keep (all_kept q n)))) }
+
+    stands_at : (z : Bool) → (n == 0) ≡ z → AssertedAt (AdcGround d) (adc_bodies d f r) below chip w s (next_at z) o p
+    stands_at true e = (keeps_all d below chip w s o p.acted q.unit q.group q.kept None 0 None h (limited (q.kept + n) 32) (λ claimed k. whole_kept (is_none n e) k), (refl, (has, few, at)))
+    stands_at false e = (keeps_more d below chip w s o p.acted q.unit q.group q.kept None 0 None h (Some n) 0 None (λ claimed k. told k), (refl, ((refl, refl, all_is, within_inputs), positive n e, (has, few, at))))
+
+    pub counts_right : RightOr (AdcGround d) (adc_bodies d f r) below chip w s (count_body q) o y p m (ended_at (adc_bodies d f r) body_ends (count_body q) (value_of chip (body_work (count_body q))))
+    counts_right = stands_at (n == 0) refl
+
+  pub counts_step : (q : Suspended) (o : Origin Call) (p : FrameHistory) → AssertedAt (AdcGround d) (adc_bodies d f r) below chip w s (count_body q) o p → RightOr (AdcGround d) (adc_bodies d f r) below chip w s (count_body q) o y p m (ended_at (adc_bodies d f r) body_ends (count_body q) (value_of chip (body_work (count_body q))))
+  counts_step q o p (h, (same, (has, few, at, least))) = counts_right q o p has few at least h
+
+-- ---- Each step of a frame that copies the values of an aborted round behind those that were kept, with the mask open.
 
 -- the sum of two places, of which there are few
 small_both : (e i : ℕ) → e ≤ 32 → i ≤ 32 → nat_lt e 128 && nat_lt i 128 ≡ true
@@ -45,7 +109,7 @@ ended_last e n t l i j told count last lt = omega (arith, told, count, last, lt)
 
 module _ (d : AdcTable) (fits : FitsAdc d) (f r : AdcBody → ℕ) (below : Reservations) (chip : Chip) (w : World) (s : AdcState) (m : ℕ → Bool) (y : ℕ) where
   abbrev body : streams.Copied → ℕ → Option ℕ → Suspended → AdcBody
-  body what i v q = record { table = d; place = Out (outsides.Copies (record { what = what; done = i; value = v }) (Keeps q)) }
+  body what i v q = record { table = d; place = Out (Outside.Copies (record { what = what; done = i; value = v }) (Keeps q)) }
 
   abbrev StepAt : streams.Copied → ℕ → Option ℕ → Suspended → Origin Call → FrameHistory → Type 0
   StepAt what i v q o p = RightOr (AdcGround d) (adc_bodies d f r) below chip w s (body what i v q) o y p m (ended_at (adc_bodies d f r) body_ends (body what i v q) (value_of chip (body_work (body what i v q))))

@@ -1,20 +1,19 @@
 -- A value of an aborted round is stored in a word of its group that keeps it: all else agrees as before.
--- From adc_groups: words.WordsChange, adc_groups: words.WordsOfModule and 5 more.
--- Used by services.KeepCopySteps, bookkeeping.KeptReservations, services.AbortCountSteps.
-use Rattle.std.proofs.Common.{◌≡◌, ◌≢◌, ◌+◌, ◌*◌, ◌/◌, ◌%◌, ◌<◌, ◌≤◌, ◌||◌, ◌==◌, [], ◌∷◌, ◌∙◌, ◌⊎◌}
+-- From adc_groups: words.WordsChange, adc_groups: words.WordsOfModule, adc_groups: bookkeeping.FrameRule and 5 more.
+-- Used by services.KeepCopySteps.
+use Rattle.std.proofs.Common.{◌≡◌, ◌≢◌, ◌+◌, ◌*◌, ◌/◌, ◌%◌, ◌<◌, ◌≤◌, ◌||◌, ◌==◌, [], ◌∷◌, ◌∙◌, if◌then◌else◌}
 use Rattle.adc_driver.specs.Terms
 use Terms.{AdcState, AdcTable, Agrees, all_stay, AllRight, AllStay, Answer, ap, arith, Bank, bank_below, bank_number}
 use Terms.{bank_word, banks_stay, BankStays, Call, cases, Chip, chip_after, claim_right, claim_tells, claims_on}
 use Terms.{Copies, CoreStays, eq_self, false, Fills, FitsAdc, Full, group_of, group_word, HasWords, HeldRight}
-use Terms.{HoldStays, inl, inputs_of, inr, is_on, is_some, KeepsRight, kept_in, kept_within, kept_word, kept_words}
-use Terms.{KeptStays, length, length-set, None, on_there, Option, or_parts, order_of, order_own, order_within, Origin}
-use Terms.{own-control, own-word, own_of, ranges_apart, refl, Reservation, Reservations, ReservedBy, result_word}
-use Terms.{ResultBuffer, rounds_of, same_or_other, slice_get, Some, some_hold, start_from, start_of, STATE}
-use Terms.{stays_agree, Store, stored_other, stored_same, subst, sym, trio_of, trio_place, true, unit_is, unit_of}
-use Terms.{unit_small, unit_within, Whole, word_number, word_of, word_there, World, ℕ}
+use Terms.{holds_anew, HoldStays, inputs_of, is_on, is_some, KeepsRight, kept_in, kept_within, kept_word, kept_words}
+use Terms.{KeptStays, length, length-set, limited, List, nat_lt, nat_tests, None, on_there, Option, or_parts}
+use Terms.{order_of, order_own, order_within, Origin, own-control, own-word, own_of, ranges_apart, refl, Reservation}
+use Terms.{Reservations, ReservedBy, result_word, ResultBuffer, rounds_of, same_or_other, slice_get, Some, some_hold}
+use Terms.{start_from, start_of, STATE, stays_agree, Store, stored_other, stored_same, subst, suc, sym, trio_of}
+use Terms.{trio_place, true, unit_is, unit_of, unit_small, unit_within, whether_as, Whole, WholeRight, Word}
+use Terms.{word_number, word_of, word_there, World, zero, ℕ}
 use Rattle.adc_groups.specs.Refinement.{Starts, Keeps, Reads}
-use Rattle.adc_machine.specs.declared.call.ResultBuffer.TheVariants as buffers
-use Rattle.adc_groups.specs.declared.words.Word.TheVariants as words
 
 -- what a frame holds that keeps values of an aborted round
 abbrev pub keeper : Origin Call → Option Answer → (unit : ℕ) → Reservation → Reservations → Reservations
@@ -66,11 +65,11 @@ module _ (d : AdcTable) (fits : FitsAdc d) (g m x : ℕ) (here : is_some (group_
   pub unit_kept : (j : ℕ) → j < 64 → word_of kept_stored (STATE + j) ≡ word_of chip (STATE + j)
   unit_kept j less = word_stays (STATE + j) (λ e. (let l = low in omega (arith, e, l, less)))
 
-  pub claim_kept : (u : ℕ) → u < 2 → word_of kept_stored (word_number d (words.Claim u)) ≡ word_of chip (word_number d (words.Claim u))
-  claim_kept u few = word_stays (word_number d (words.Claim u)) (λ e. (let l = low in omega (arith, e, l, few)))
+  pub claim_kept : (u : ℕ) → u < 2 → word_of kept_stored (word_number d (Word.Claim u)) ≡ word_of chip (word_number d (Word.Claim u))
+  claim_kept u few = word_stays (word_number d (Word.Claim u)) (λ e. (let l = low in omega (arith, e, l, few)))
 
-  pub running_kept : (u : ℕ) → u < 2 → word_of kept_stored (word_number d (words.Running u)) ≡ word_of chip (word_number d (words.Running u))
-  running_kept u few = word_stays (word_number d (words.Running u)) (λ e. (let l = low in omega (arith, e, l, few)))
+  pub running_kept : (u : ℕ) → u < 2 → word_of kept_stored (word_number d (Word.Running u)) ≡ word_of chip (word_number d (Word.Running u))
+  running_kept u few = word_stays (word_number d (Word.Running u)) (λ e. (let l = low in omega (arith, e, l, few)))
 
   pub order_kept : (u k : ℕ) → u < 2 → order_own (order_of u) k ≡ true → word_of kept_stored k ≡ word_of chip k
   order_kept u k few own = word_stays k (λ e. (let l = low in let both = order_within k (STATE + 10 + 8 * u) own in let high = both.1 in omega (arith, e, l, high, few)))
@@ -79,8 +78,8 @@ module _ (d : AdcTable) (fits : FitsAdc d) (g m x : ℕ) (here : is_some (group_
   result_kept k n p = word_stays (result_word k n p) (λ e. far n e)
     where
       far : (n : ResultBuffer) → result_word k n p ≢ at
-      far buffers.Zero e = let high = (start_from d fits g here).1 in omega (arith, e, high, lt)
-      far buffers.One e = let high = (start_from d fits g here).1 in omega (arith, e, high, lt)
+      far ResultBuffer.Zero e = let high = (start_from d fits g here).1 in omega (arith, e, high, lt)
+      far ResultBuffer.One e = let high = (start_from d fits g here).1 in omega (arith, e, high, lt)
 
   -- other values that are kept
   pub other_kept : (k j : ℕ) → is_some (group_of d k) ≡ true → k ≢ g → j < length (inputs_of (group_of d k)) → word_of kept_stored (kept_word (rounds_of d k) j) ≡ word_of chip (kept_word (rounds_of d k) j)
@@ -108,7 +107,7 @@ module _ (d : AdcTable) (fits : FitsAdc d) (u g m x : ℕ) (here : is_on u (grou
       let unit : v ≡ u = sym (unit_is d fits v (group_of d k) at) ∙ (ap (λ n. unit_of (group_of d n)) e ∙ unit_is d fits u (group_of d g) here) in
       absurd (let same : (u == v) ≡ true = ap (λ n. u == n) unit ∙ eq_self u in cc)
 
-  claim : (v k : ℕ) → is_on v (group_of d k) ≡ true → word_of b (word_number d (words.Claim v)) ≡ word_of chip (word_number d (words.Claim v))
+  claim : (v k : ℕ) → is_on v (group_of d k) ≡ true → word_of b (word_number d (Word.Claim v)) ≡ word_of chip (word_number d (Word.Claim v))
   claim v k at = claim_kept d fits g m x there lt chip v (unit_within d fits v k at)
 
   bank : (k : ℕ) (n : Bank) → is_some (group_of d k) ≡ true → BankStays d chip b k n
@@ -134,7 +133,7 @@ module _ (d : AdcTable) (fits : FitsAdc d) (u g m x : ℕ) (here : is_on u (grou
 
 module _ (d : AdcTable) (fits : FitsAdc d) (below : Reservations) (chip : Chip) (w : World) (s : AdcState) (o : Origin Call) (a : Option Answer) (u g e : ℕ) (n : Option ℕ) (i x : ℕ) (h : Agrees d (keeper o a u (Keeps u g e n i (Some x)) below) chip w s) (lt : e + i < length (inputs_of (group_of d g))) where
   abbrev claimed : ℕ
-  claimed = word_of chip (word_number d (words.Claim u))
+  claimed = word_of chip (word_number d (Word.Claim u))
 
   abbrev before : Reservations
   before = keeper o a u (Keeps u g e n i (Some x)) below
@@ -160,20 +159,17 @@ module _ (d : AdcTable) (fits : FitsAdc d) (below : Reservations) (chip : Chip) 
   few : u < 2
   few = unit_within d fits u g on_unit
 
-  claim_same : (v : ℕ) → v < 2 → word_of c (word_number d (words.Claim v)) ≡ word_of chip (word_number d (words.Claim v))
+  claim_same : (v : ℕ) → v < 2 → word_of c (word_number d (Word.Claim v)) ≡ word_of chip (word_number d (Word.Claim v))
   claim_same = claim_kept d fits g (e + i) x some lt chip
 
   none_below : some_hold (claims_on u) below ≡ false
   none_below = (claim_tells u ((claimed == 2 + g) || (claimed == 1)) (claim_right below u claimed) below ((h.settled on).claims u few)).1
 
   kept_by_now : KeepsRight d chip s u g e n i (Some x) → (j v : ℕ) → j < e + (i + 1) → slice_get (kept_in d s g) j ≡ Some v → word_of c (kept_word (rounds_of d g) j) ≡ v
-  kept_by_now q j v less is = now_or_before (same_or_other j (e + i))
-    where
-      now_or_before : (j ≡ e + i) ⊎ (j ≢ e + i) → word_of c (kept_word (rounds_of d g) j) ≡ v
-      now_or_before (inl f) =
-          subst (λ k. word_of c (kept_word (rounds_of d g) k) ≡ v) (sym f)
-          (value_stored d fits g (e + i) x some lt chip whole ∙ (let both : Some x ≡ Some v = sym (q.next x refl) ∙ (ap (λ k. slice_get (kept_in d s g) k) (sym f) ∙ is) in cc))
-      now_or_before (inr ne) = value_kept d fits g (e + i) x some lt chip j ne ∙ q.kept j v (omega (arith, less, ne)) is
+  kept_by_now q j v less is = cases (same_or_other j (e + i))
+      (λ f. subst (λ k. word_of c (kept_word (rounds_of d g) k) ≡ v) (sym f)
+      (value_stored d fits g (e + i) x some lt chip whole ∙ (let both : Some x ≡ Some v = sym (q.next x refl) ∙ (ap (λ k. slice_get (kept_in d s g) k) (sym f) ∙ is) in cc)))
+      (λ ne. value_kept d fits g (e + i) x some lt chip j ne ∙ q.kept j v (omega (arith, less, ne)) is)
 
   top_right : HeldRight d c w s (record { by = o; what = Keeps u g e n (i + 1) None; acted = a }) (Keeps u g e n (i + 1) None)
   top_right = (
@@ -204,10 +200,10 @@ module _ (d : AdcTable) (fits : FitsAdc d) (below : Reservations) (chip : Chip) 
   }
 
   -- where the claim was lost, a new turn of the group has kept nothing
-  kept_same : (k : ℕ) → is_some (group_of d k) ≡ true → word_of chip (word_number d (words.Claim (unit_of (group_of d k)))) ≢ 2 + k → (j v : ℕ) → slice_get (kept_in d s k) j ≡ Some v → word_of c (kept_word (rounds_of d k) j) ≡ word_of chip (kept_word (rounds_of d k) j)
+  kept_same : (k : ℕ) → is_some (group_of d k) ≡ true → word_of chip (word_number d (Word.Claim (unit_of (group_of d k)))) ≢ 2 + k → (j v : ℕ) → slice_get (kept_in d s k) j ≡ Some v → word_of c (kept_word (rounds_of d k) j) ≡ word_of chip (kept_word (rounds_of d k) j)
   kept_same k there ne j v is = cases (same_or_other k g)
       (λ f.
-      let lost : kept_in d s g ≡ [] = h.right.0.4 (λ q. ne (subst (λ z. word_of chip (word_number d (words.Claim (unit_of (group_of d z)))) ≡ 2 + z) (sym f) (ap (λ z. word_of chip (word_number d (words.Claim z))) (unit_is d fits u (group_of d g) on_unit) ∙ q))) in
+      let lost : kept_in d s g ≡ [] = h.right.0.4 (λ q. ne (subst (λ z. word_of chip (word_number d (Word.Claim (unit_of (group_of d z)))) ≡ 2 + z) (sym f) (ap (λ z. word_of chip (word_number d (Word.Claim z))) (unit_is d fits u (group_of d g) on_unit) ∙ q))) in
       absurd (let none : None ≡ Some v = sym (ap (λ xs. slice_get xs j) lost) ∙ (ap (λ z. slice_get (kept_in d s z) j) (sym f) ∙ is) in cc))
       (λ off. other_kept d fits g (e + i) x some lt chip k j there off (kept_within d w s h.sound k j v is))
 
@@ -222,3 +218,31 @@ module _ (d : AdcTable) (fits : FitsAdc d) (below : Reservations) (chip : Chip) 
     promised = λ v. (let z = (h.settled on).promised v in record { starts = z.starts; yields = z.yields });
     kept = kept_same;
   })
+
+-- ---- What a frame holds that keeps values of an aborted round becomes more, or all, while words and registers stay.
+
+-- a number that is at most a limit is left by it, and any one is at most the limit then
+pub limited_is : (v m : ℕ) → v ≤ m → limited v m ≡ v
+limited_is v m le = whether_as (nat_lt v m) (λ q. (if q then v else m) ≡ v) (λ e. refl) (λ e. grind (arith, nat_tests))
+
+pub limited_most : (v m : ℕ) → limited v m ≤ m
+limited_most v m = whether_as (nat_lt v m) (λ q. (if q then v else m) ≤ m)
+    (λ e. grind (arith, nat_tests))
+    (λ e. omega arith)
+
+-- a list has as many members as its places are below
+pub few_places : {A : Type 0} (xs : List A) (m : ℕ) → ((j : ℕ) (v : A) → slice_get xs j ≡ Some v → j < m) → length xs ≤ m
+few_places [] m within = omega arith
+few_places (x ∷ xs) zero within = absurd (let lt = within 0 x refl in omega (arith, lt))
+few_places (x ∷ xs) (suc m) within = let le = few_places xs m (λ j v e. (let lt = within (suc j) v e in omega (arith, lt))) in omega (arith, le)
+
+module _ (d : AdcTable) (below : Reservations) (chip : Chip) (w : World) (s : AdcState) (o : Origin Call) (a : Option Answer) (u g e : ℕ) (n : Option ℕ) (i : ℕ) (v : Option ℕ) (h : Agrees d (keeper o a u (Keeps u g e n i v) below) chip w s) where
+  -- more is known
+  pub keeps_more : (k : Option ℕ) (j : ℕ) (x : Option ℕ) → (word_of chip (word_number d (Word.Claim u)) ≡ 2 + g → KeepsRight d chip s u g e n i v → KeepsRight d chip s u g e k j x) → Agrees d (keeper o a u (Keeps u g e k j x) below) chip w s
+  keeps_more k j x more = holds_anew h (record { puts = λ k. refl; takes = λ k. refl; owed = λ k n p lt free. free; claims = λ n v e. e; clears = λ e. e })
+      ((h.right.0.0, h.right.0.1, h.right.0.2, λ f. more f (h.right.0.3 f), h.right.0.4), h.right.1) (h.backed.0, h.backed.1) (λ n z. record { starts = z.starts; yields = z.yields })
+
+  -- all are kept
+  pub keeps_all : (k : ℕ) → (word_of chip (word_number d (Word.Claim u)) ≡ 2 + g → KeepsRight d chip s u g e n i v → WholeRight d chip s u g k) → Agrees d (keeper o a u (Whole u g k) below) chip w s
+  keeps_all k all = holds_anew h (record { puts = λ k. refl; takes = λ k. refl; owed = λ k n p lt free. free; claims = λ n v e. e; clears = λ e. e })
+      ((h.right.0.0, h.right.0.1, h.right.0.2, λ f. all f (h.right.0.3 f)), h.right.1) (h.backed.0, h.backed.1) (λ n z. record { starts = z.starts; yields = z.yields })

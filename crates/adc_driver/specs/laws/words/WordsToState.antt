@@ -1,13 +1,13 @@
 -- Which buffer of a group was set up last, as the words have it, is the machine's.
 -- From adc_groups: words.WordsOfModule, adc_groups: words.Cases.
 -- Used by proofs/driver/AdcDriver/chosen/Answers, src/told.rt.
-use Rattle.std.proofs.Common.{◌≡◌, ◌<◌, ◌==◌, ◌&&◌, [], ◌∙◌, if◌then◌else◌}
+use Rattle.std.proofs.Common.{◌≡◌, ◌<◌, ◌&&◌, ◌==◌, [], ◌∙◌, if◌then◌else◌}
 use Rattle.adc_driver.specs.Terms
 use Terms.{AdcRepresents, AdcState, AdcTable, ap, arith, Bool, Chip, chosen_of, false, FitsAdc, Group, group_at}
 use Terms.{group_of, is_some, low_words, Memory, nat_lt, nat_tests, None, One, Option, refl, ResultBuffer}
-use Terms.{slice_index_or, Some, SOURCES, sym, true, whether, word_number, word_of, WORDS, words_below, World, ℕ}
+use Terms.{slice_index_or, Some, SOURCES, sym, true, whether, Word, word_number, word_of, WORDS, words_below, World}
+use Terms.{ℕ}
 use Rattle.adc_machine.specs.declared.call.ResultBuffer.TheVariants.{Zero}
-use Rattle.adc_groups.specs.declared.words.Word.TheVariants as words
 
 -- ---- what is told
 
@@ -20,7 +20,7 @@ buffer_in v = if v == 1 then Some Zero else if v == 2 then Some One else None
 
 -- that of a configured group
 abbrev pub chosen_told : AdcTable → Memory → (group : ℕ) → Option ResultBuffer
-chosen_told d m g = if nat_lt g 16 && is_some (group_of d g) then buffer_in (word_or m (word_number d (words.Chosen g))) else None
+chosen_told d m g = if nat_lt g 16 && is_some (group_of d g) then buffer_in (word_or m (word_number d (Word.Chosen g))) else None
 
 -- ---- it is the machine's
 
@@ -37,11 +37,11 @@ module _ (d : AdcTable) (fits : FitsAdc d) (chip : Chip) (w : World) (s : AdcSta
       by None f e = ap (λ x. x.chosen) (sym ((h.sound.groups g).configured f))
       by (Some k) f e = absurd (cc)
 
-  word_is : is_some (group_of d g) ≡ true → word_of chip (word_number d (words.Chosen g)) ≡ chosen_of (group_at s g).chosen
+  word_is : is_some (group_of d g) ≡ true → word_of chip (word_number d (Word.Chosen g)) ≡ chosen_of (group_at s g).chosen
   word_is there = whether s.initialised (λ on. ((h.settled on).groups g there).chosen) (λ off. h.left off refl g there)
 
-  word_there : is_some (group_of d g) ≡ true → nat_lt (word_number d (words.Chosen g)) WORDS ≡ true
-  word_there there = below (word_number d (words.Chosen g)) (words_below d fits (word_number d (words.Chosen g)) (low_words d fits g 1 there (omega arith)))
+  word_there : is_some (group_of d g) ≡ true → nat_lt (word_number d (Word.Chosen g)) WORDS ≡ true
+  word_there there = below (word_number d (Word.Chosen g)) (words_below d fits (word_number d (Word.Chosen g)) (low_words d fits g 1 there (omega arith)))
     where
       below : (k : ℕ) → k < SOURCES → nat_lt k WORDS ≡ true
       below k lt = grind (arith, nat_tests)
@@ -49,7 +49,7 @@ module _ (d : AdcTable) (fits : FitsAdc d) (chip : Chip) (w : World) (s : AdcSta
   pub told_chosen : chosen_told d (word_of chip) g ≡ (group_at s g).chosen
   told_chosen = by (nat_lt g 16) refl (is_some (group_of d g)) refl
     where
-      by : (q : Bool) → nat_lt g 16 ≡ q → (there : Bool) → is_some (group_of d g) ≡ there → (if q && there then buffer_in (word_or (word_of chip) (word_number d (words.Chosen g))) else None) ≡ (group_at s g).chosen
-      by true e true f = ap (λ q. buffer_in (if q then word_of chip (word_number d (words.Chosen g)) else 0)) (word_there f) ∙ ap buffer_in (word_is f) ∙ named_by (group_at s g).chosen
+      by : (q : Bool) → nat_lt g 16 ≡ q → (there : Bool) → is_some (group_of d g) ≡ there → (if q && there then buffer_in (word_or (word_of chip) (word_number d (Word.Chosen g))) else None) ≡ (group_at s g).chosen
+      by true e true f = ap (λ q. buffer_in (if q then word_of chip (word_number d (Word.Chosen g)) else 0)) (word_there f) ∙ ap buffer_in (word_is f) ∙ named_by (group_at s g).chosen
       by true e false f = none_there f
       by false e there f = none_there (ap (λ q. is_some (if q then slice_index_or d.groups g None else None)) e)

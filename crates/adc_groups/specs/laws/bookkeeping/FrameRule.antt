@@ -1,36 +1,91 @@
--- A change of one group, of its unit and of their words leaves all else agreeing: other groups, the other unit, what frames hold,
--- and the places of the users' buffers.
--- From words.OtherGroups, words.WordsOfModule, hardware.StableUnderHardware, words.DisjointWords, words.Cases.
--- Used by services.StopRight, services.PulseRight, services.RequestRight, services.EnableTriggerRight and 4 more.
+-- What a change leaves of all that frames below hold.
+-- From words.WordsChange, words.WordsOfModule, hardware.StableUnderHardware, words.Cases and 3 more.
+-- Used by services.RequestRight, services.StopRight, services.EnableTriggerRight and 15 more.
 use Rattle.std.proofs.Common.{◌≡◌, ◌≢◌, ◌+◌, ◌-◌, ◌*◌, ◌/◌, ◌%◌, ◌<◌, ◌≤◌, ◌&&◌, ◌||◌, ◌==◌, [], ◌∷◌, ◌∙◌, ◌⊎◌}
 use Rattle.std.proofs.Common.{if◌then◌else◌}
 use Rattle.adc_groups.specs.Terms
-use Terms.{AdcState, AdcTable, Agrees, AllRight, and_second, ap, arith, Backed, Bank, bank_number, bank_word}
+use Terms.{AdcState, AdcTable, Agrees, AllRight, and_first, and_second, ap, arith, Backed, Bank, bank_number, bank_word}
 use Terms.{BanksAgree, bit_of, Bool, Call, cases, Chip, chosen_of, claim_fits, claim_right, Claims, claims_on, Clears}
-use Terms.{Column, Converter, Converters, Copies, Entry, eq_is, eq_self, false, Fills, first_held, FitsAdc, Full}
-use Terms.{group_at, group_of, group_word, GroupAgrees, GroupState, has_bit, has_turn, HeldRight, holds-agree, inl}
-use Terms.{inputs_of, inr, is_on, is_round_of, is_some, is_trigger_line, is_unit_line, IsBlock, IsSound, IsSoundGroup}
-use Terms.{IsSoundRequest, Keeps, KeepsRight, kept_by, kept_in, kept_of_round, kept_word, length, List, listener}
-use Terms.{mark_at, min, nat_lt, nat_tests, newest, None, none_some, not, number_at, number_by, Option, order_of}
-use Terms.{own_of, phase_of, place_value, PlacesAgree, Promised, put_of, Reads, refl, Request, Reservation}
-use Terms.{Reservations, ReservedBy, result_word, ResultBuffer, Round, round_at, RoundAgrees, rounds_of, running_of}
-use Terms.{same_or_other, samples_of, Settled, slice_get, Some, some_hold, SoundGroup, stands-agree, StandsIn}
-use Terms.{start_of, STATE, subst, sym, take_of, trigger_input, TriggersAgree, trio_of, true, unit_of, UnitAgrees}
-use Terms.{values_of, whether_as, Whole, WholeRight, word_number, word_of, World, ℕ}
-use Rattle.adc_groups.specs.laws.words.DisjointWords.{groups_apart, place_apart, start_from}
-use Rattle.adc_groups.specs.laws.words.OtherGroups.{SameRound, look_same, turn_look, kept_look, listed_there, and_off}
-use Rattle.adc_groups.specs.laws.words.OtherGroups.{past_unit, past_state, past_eight, units_apart, unit_low, small_low}
-use Rattle.adc_groups.specs.laws.words.OtherGroups.{at_most, eight_low, low_within, one_low, none_low, six_low}
-use Rattle.adc_groups.specs.laws.words.OtherGroups.{seven_low, kept_place, bank_place, bank_past, kept_past, in_order}
-use Rattle.adc_groups.specs.laws.words.OtherGroups.{bank_is, kept_is, control_is, claim_is, running_is, banks_front}
-use Rattle.adc_groups.specs.laws.words.OtherGroups.{own_at, place_past}
-use Rattle.adc_groups.specs.laws.hardware.StableUnderHardware.{value_within, listed_agree, kept_within}
-use Rattle.adc_groups.specs.laws.words.WordsOfModule.{on_there, bank_below, unit_small, unit_is, unit_within}
+use Terms.{Column, Converter, Converters, Copies, Entry, eq_is, eq_other, eq_self, false, Fills, first_held, FitsAdc}
+use Terms.{Full, group_at, group_of, group_word, GroupAgrees, GroupState, has_bit, has_turn, HeldRight, holds-agree}
+use Terms.{inl, inputs_of, inr, is_clearing, is_on, is_owed, is_round_of, is_some, is_trigger_line, is_unit_line}
+use Terms.{IsBlock, IsSound, IsSoundGroup, IsSoundRequest, Keeps, KeepsRight, kept_by, kept_in, kept_of_round}
+use Terms.{kept_word, length, List, listener, mark_at, min, nat_lt, nat_tests, newest, None, none_some, not, number_at}
+use Terms.{number_by, Option, option_as, order_of, order_own, own_of, phase_of, place_count, place_value, PlacesAgree}
+use Terms.{Promised, put_of, Reads, refl, Request, Reservation, Reservations, ReservedBy, result_word, ResultBuffer}
+use Terms.{Round, round_at, RoundAgrees, rounds_of, running_of, same_or_other, samples_of, Settled, slice_get, Some}
+use Terms.{some_hold, SoundGroup, stands-agree, StandsIn, start_of, STATE, subst, sym, take_of, trigger_input}
+use Terms.{TriggersAgree, trio_of, true, unit_of, UnitAgrees, whether_as, Whole, WholeRight, Word, word_number, word_of}
+use Terms.{World, ℕ}
+use Rattle.adc_groups.specs.laws.{bookkeeping.RefinementRight.{off_unit}, hardware.StableUnderHardware.{few_values}}
+use Rattle.adc_groups.specs.laws.hardware.StableUnderHardware.{kept_within, listed_agree}
+use Rattle.adc_groups.specs.laws.{words.OrderWords.{listed_there}, words.StoreOneWord.{groups_apart, place_apart}}
+use Rattle.adc_groups.specs.laws.{words.StoreOneWord.{start_from}, words.WordsChange.{and_off, at_most, bank_is}}
+use Rattle.adc_groups.specs.laws.words.WordsChange.{bank_past, bank_place, banks_front, claim_is, control_is}
+use Rattle.adc_groups.specs.laws.words.WordsChange.{eight_low, in_order, kept_inside, kept_is, kept_look, kept_past}
+use Rattle.adc_groups.specs.laws.words.WordsChange.{look_same, low_within, none_low, one_low, own_at, past_eight}
+use Rattle.adc_groups.specs.laws.words.WordsChange.{past_state, past_unit, place_past, running_is, SameRound}
+use Rattle.adc_groups.specs.laws.words.WordsChange.{seven_low, six_low, small_low, turn_look, unit_low, units_apart}
+use Rattle.adc_groups.specs.laws.words.WordsOfModule.{bank_below, on_there, unit_is, unit_small, unit_within}
+use Rattle.std.proofs.lemmas.Bool.{not-true}
 use Rattle.chip_converter.specs.Converters as chips
 use Rattle.chip_converter.specs.Rounds as rounds
-use Rattle.word_shapes.specs.PriorityQueue as ranked
-use Rattle.adc_groups.specs.declared.words.Word.TheVariants as words
-use Rattle.mcal_base.specs.facts.Truths.{and_first}
+
+-- the banks of a group stand as before where their words stay, and where the same put and take are under way
+pub banks_stay : {d : AdcTable} {before after : Reservations} {s : AdcState} {g : ℕ} (a b : Chip) → BanksAgree d before (word_of a) s g → ((k : ℕ) → own_of (trio_of (rounds_of d g)) k ≡ true → word_of b k ≡ word_of a k)
+    → first_held (put_of d g) before ≡ first_held (put_of d g) after → first_held (take_of g) before ≡ first_held (take_of g) after → BanksAgree d after (word_of b) s g
+banks_stay {d} {g} a b q stay put take = record {
+  banks = q.banks;
+  stands = stands-agree (trio_of (rounds_of d g)) (word_of a) (word_of b) q.banks (λ k own. sym (stay k own)) q.stands;
+  newest = q.newest;
+  put = q.put ∙ put;
+  take = q.take ∙ take;
+}
+
+-- the same puts and takes are under way, the same places are owed, the same claims are right, and as much is cleared
+pub record SameWork (d : AdcTable) (before after : Reservations) : Type 0 where
+  pub puts : (g : ℕ) → first_held (put_of d g) before ≡ first_held (put_of d g) after
+  pub takes : (g : ℕ) → first_held (take_of g) before ≡ first_held (take_of g) after
+  pub owed : (g : ℕ) (b : ResultBuffer) (p : ℕ) → p < place_count d g → some_hold (is_owed g b p) after ≡ false → some_hold (is_owed g b p) before ≡ false
+  pub claims : (u v : ℕ) → claim_right before u v ≡ true → claim_right after u v ≡ true
+  pub clears : some_hold is_clearing after ≡ false → some_hold is_clearing before ≡ false
+
+-- then chip and state agree as before
+pub holds_anew : {d : AdcTable} {before after : Reservations} {chip : Chip} {w : World} {s : AdcState} → Agrees d before chip w s → SameWork d before after → AllRight d chip w s after → Backed after → ((u : ℕ) → Promised d before w s u → Promised d after w s u)
+    → Agrees d after chip w s
+holds_anew {d} {chip} h same right backed promised = record {
+  sound = h.sound;
+  outside = h.outside;
+  state = h.state;
+  right = right;
+  banks = λ g there. banks_stay chip chip (h.banks g there) (λ k own. refl) (same.puts g) (same.takes g);
+  block = h.block;
+  rounds = h.rounds;
+  triggers = h.triggers;
+  places = λ g b p lt free. h.places g b p lt (same.owed g b p lt free);
+  backed = backed;
+  settled = λ e. (let q = h.settled e in record { groups = q.groups; units = q.units; claims = λ u lt. same.claims u (word_of chip (word_number d (Word.Claim u))) (q.claims u lt); lines = q.lines; promised = λ u. promised u (q.promised u) });
+  left = λ off free. h.left off (same.clears free);
+}
+
+-- ---- claims
+
+-- where the frame that runs claims a unit, its claim's word fits, and no frame below claims the unit
+pub claim_tells : (u : ℕ) (fits rest : Bool) (below : Reservations) → (if u == u then fits && not (some_hold (claims_on u) below) else rest) ≡ true → (fits ≡ true) × (some_hold (claims_on u) below ≡ false)
+claim_tells u fits rest below e =
+    let both : fits && not (some_hold (claims_on u) below) ≡ true = sym (ap (λ q. if q then fits && not (some_hold (claims_on u) below) else rest) (eq_self u)) ∙ e in
+    (and_first fits (not (some_hold (claims_on u) below)) both, not-true (some_hold (claims_on u) below) (and_second fits (not (some_hold (claims_on u) below)) both))
+
+-- and it is 1 where it keeps no values
+pub claimed_parts : (u x : ℕ) (below : Reservations) (rest : Bool) → (if u == u then (x == 1) && not (some_hold (claims_on u) below) else rest) ≡ true → (x ≡ 1) × (some_hold (claims_on u) below ≡ false)
+claimed_parts u x below rest e = let both = claim_tells u (x == 1) rest below e in (eq_is x 1 both.0, both.1)
+
+-- what is said of a claim by frames below one that claims another unit
+pub claim_past : (v u : ℕ) (first rest : Bool) → v ≢ u → (if v == u then first else rest) ≡ rest
+claim_past v u first rest ne = ap (λ q. if q then first else rest) (eq_other v u ne)
+
+-- ---- A change of one group, of its unit and of their words leaves all else agreeing: other groups, the other unit, what frames hold,
+-- and the places of the users' buffers.
 
 -- ---- what changes, and what stays
 
@@ -47,10 +102,10 @@ pub record Stays (d : AdcTable) (before after : Reservations) (a b : Chip) (s t 
   -- only the group's first seven words, its control word and the words of the unit may be others
   pub elsewhere : (k : ℕ) → ((i : ℕ) → i < 8 → k ≢ group_word d g i) → ((i : ℕ) → i < 5 → k ≢ STATE + 8 + 8 * u + i) → word_of b k ≡ word_of a k
   -- a claim of another group stays
-  pub claim_from : (k : ℕ) → k ≢ g → word_of b (word_number d (words.Claim u)) ≡ 2 + k → word_of a (word_number d (words.Claim u)) ≡ 2 + k
-  pub claim_to : (k : ℕ) → k ≢ g → word_of a (word_number d (words.Claim u)) ≡ 2 + k → word_of b (word_number d (words.Claim u)) ≡ 2 + k
+  pub claim_from : (k : ℕ) → k ≢ g → word_of b (word_number d (Word.Claim u)) ≡ 2 + k → word_of a (word_number d (Word.Claim u)) ≡ 2 + k
+  pub claim_to : (k : ℕ) → k ≢ g → word_of a (word_number d (Word.Claim u)) ≡ 2 + k → word_of b (word_number d (Word.Claim u)) ≡ 2 + k
   -- and so does what its round has
-  pub unit : (k : ℕ) → k ≢ g → word_of b (word_number d (words.Claim u)) ≡ 2 + k → chips.unit_at b.converters u ≡ chips.unit_at a.converters u
+  pub unit : (k : ℕ) → k ≢ g → word_of b (word_number d (Word.Claim u)) ≡ 2 + k → chips.unit_at b.converters u ≡ chips.unit_at a.converters u
   pub units : (v : ℕ) → v < 2 → v ≢ u → chips.unit_at b.converters v ≡ chips.unit_at a.converters v
   pub levels : b.converters.levels ≡ a.converters.levels
   pub time : b.converters.time ≡ a.converters.time
@@ -63,7 +118,7 @@ pub record Stays (d : AdcTable) (before after : Reservations) (a b : Chip) (s t 
 -- and a bank of the group that it copies stays the newest, with the places of the group, and one that it reads stays pinned
 pub record Spares (d : AdcTable) (a b : Chip) (s t : AdcState) (g u : ℕ) (z : Reservation) : Type 0 where
   pub rounds : claims_on u z ≡ true → (r : Round) → round_at t u ≡ Some r → round_at s u ≡ Some r
-  pub unkept : claims_on u z ≡ true → word_of b (word_number d (words.Claim u)) ≢ 2 + g
+  pub unkept : claims_on u z ≡ true → word_of b (word_number d (Word.Claim u)) ≢ 2 + g
   pub lost : claims_on u z ≡ true → kept_in d t g ≡ []
   pub copies : (n : Bank) (c : Column) (i : ℕ) (x : Option ℕ) → z ≡ Copies n c i x → c.group ≡ g → (word_of b (group_word d g 7) % 4 ≡ word_of a (group_word d g 7) % 4) × ((m : ResultBuffer) (p : ℕ) → place_value t g m p ≡ place_value s g m p)
   pub reads : (k : ℕ) (n : Bank) (vs : List ℕ) → z ≡ Reads k n vs → k ≡ g → word_of b (group_word d g 7) / 4 ≡ word_of a (group_word d g 7) / 4
@@ -77,56 +132,46 @@ pub all_spare : (d : AdcTable) (a b : Chip) (s t : AdcState) (g u : ℕ) → ((z
 all_spare d a b s t g u each [] = tt
 all_spare d a b s t g u each (h ∷ hs) = (each h.what, all_spare d a b s t g u each hs)
 
--- no frame keeps values of a group that doesn't wait
-pub no_keeper : (d : AdcTable) (chip : Chip) (w : World) (s : AdcState) (g u : ℕ) → is_some (group_at s g).waiting ≡ false → (hs : Reservations) → AllRight d chip w s hs → claim_right hs u (word_of chip (word_number d (words.Claim u))) ≡ true → word_of chip (word_number d (words.Claim u)) ≢ 2 + g
-no_keeper d chip w s g u none hs right claim same = by hs right (subst (λ v. claim_right hs u v ≡ true) same claim)
+-- the unit is free, and the group waits where the unit's claim keeps its values
+abbrev pub IsKept : AdcTable → Chip → AdcState → (unit group : ℕ) → Type 0
+IsKept d chip s u k = (round_at s u ≡ None) × (word_of chip (word_number d (Word.Claim u)) ≡ 2 + k → is_some (group_at s k).waiting ≡ true)
+
+-- it is so of a group whose values a claim may keep, since some frame does
+pub claim_keeps : (d : AdcTable) (chip : Chip) (w : World) (s : AdcState) (u k : ℕ) (hs : Reservations) → AllRight d chip w s hs
+    → claim_right hs u (2 + k) ≡ true → IsKept d chip s u k
+claim_keeps d chip w s u k [] r e = absurd (let none : (2 + k == 0) ≡ true = e in grind (arith, nat_tests))
+claim_keeps d chip w s u k (x ∷ xs) r e = one x.what r.0 (claim_keeps d chip w s u k xs r.1) e
   where
-    not_zero : (g : ℕ) → (2 + g == 0) ≡ true → ⊥
-    not_zero g e = grind (arith, nat_tests)
+    plain : (q : Bool) → (claim_right xs u (2 + k) ≡ true → IsKept d chip s u k)
+        → (if q then (2 + k == 1) && not (some_hold (claims_on u) xs) else claim_right xs u (2 + k)) ≡ true → IsKept d chip s u k
+    plain true rest f = absurd (let one = and_first (2 + k == 1) (not (some_hold (claims_on u) xs)) f in grind (arith, nat_tests))
+    plain false rest f = rest f
 
-    not_one : (g : ℕ) → (2 + g == 1) ≡ true → ⊥
-    not_one g e = grind (arith, nat_tests)
+    keeping : (v j : ℕ) (q : Bool) → (u == v) ≡ q → IsKept d chip s v j → (claim_right xs u (2 + k) ≡ true → IsKept d chip s u k)
+        → (if q then ((2 + k == 2 + j) || (2 + k == 1)) && not (some_hold (claims_on u) xs) else claim_right xs u (2 + k)) ≡ true
+        → IsKept d chip s u k
+    keeping v j true i kept rest f =
+        let unit : v ≡ u = grind (arith, nat_tests) in
+        let one = and_first ((2 + k == 2 + j) || (2 + k == 1)) (not (some_hold (claims_on u) xs)) f in
+        let group : j ≡ k = grind (arith, nat_tests) in
+        subst (λ n. IsKept d chip s n k) unit (subst (λ n. IsKept d chip s v n) group kept)
+    keeping v j false i kept rest f = rest f
 
-    one_of : (k g : ℕ) → (2 + g == 2 + k) || (2 + g == 1) ≡ true → k ≡ g
-    one_of k g e = grind (arith, nat_tests)
+    one : (z : Reservation) → HeldRight d chip w s x z → (claim_right xs u (2 + k) ≡ true → IsKept d chip s u k)
+        → (if claims_on u z then claim_fits z (2 + k) && not (some_hold (claims_on u) xs) else claim_right xs u (2 + k)) ≡ true
+        → IsKept d chip s u k
+    one (Fills v j n m i y) h rest f = plain (u == v) rest f
+    one (Full v j n) h rest f = plain (u == v) rest f
+    one (Claims v) h rest f = plain (u == v) rest f
+    one (Keeps v j n m i y) h rest f = keeping v j (u == v) refl (h.2, λ c. (h.3 c).waits) rest f
+    one (Whole v j n) h rest f = keeping v j (u == v) refl (h.2, λ c. (h.3 c).waits) rest f
+    one _ h rest f = rest f
 
-    unit : (v : ℕ) → (u == v) ≡ true → u ≡ v
-    unit v e = grind (arith, nat_tests)
-
-    wait : (x : ReservedBy Call Reservation) (k v : ℕ) → u ≡ v → k ≡ g → (word_of chip (word_number d (words.Claim v)) ≡ 2 + k → is_some (group_at s k).waiting ≡ true) → ⊥
-    wait x k v e f h = let on : is_some (group_at s k).waiting ≡ true = h (ap (λ n. word_of chip (word_number d (words.Claim n))) (sym e) ∙ (same ∙ ap (λ n. 2 + n) (sym f))) in let off : is_some (group_at s k).waiting ≡ false = ap (λ n. is_some (group_at s n).waiting) f ∙ none in cc
-
-    one : (x : ReservedBy Call Reservation) (z : Reservation) (hs : Reservations) → HeldRight d chip w s x z → (claim_right hs u (2 + g) ≡ true → ⊥) → (if claims_on u z then claim_fits z (2 + g) && not (some_hold (claims_on u) hs) else claim_right hs u (2 + g)) ≡ true → ⊥
-    one x (Fills v k n j i y) hs r rest e = on (u == v) e
-      where
-        on : (q : Bool) → (if q then (2 + g == 1) && not (some_hold (claims_on u) hs) else claim_right hs u (2 + g)) ≡ true → ⊥
-        on true f = not_one g (and_first (2 + g == 1) (not (some_hold (claims_on u) hs)) f)
-        on false f = rest f
-    one x (Full v k n) hs r rest e = on (u == v) e
-      where
-        on : (q : Bool) → (if q then (2 + g == 1) && not (some_hold (claims_on u) hs) else claim_right hs u (2 + g)) ≡ true → ⊥
-        on true f = not_one g (and_first (2 + g == 1) (not (some_hold (claims_on u) hs)) f)
-        on false f = rest f
-    one x (Claims v) hs r rest e = on (u == v) e
-      where
-        on : (q : Bool) → (if q then (2 + g == 1) && not (some_hold (claims_on u) hs) else claim_right hs u (2 + g)) ≡ true → ⊥
-        on true f = not_one g (and_first (2 + g == 1) (not (some_hold (claims_on u) hs)) f)
-        on false f = rest f
-    one x (Keeps v k n j i y) hs r rest e = on (u == v) refl e
-      where
-        on : (q : Bool) → (u == v) ≡ q → (if q then ((2 + g == 2 + k) || (2 + g == 1)) && not (some_hold (claims_on u) hs) else claim_right hs u (2 + g)) ≡ true → ⊥
-        on true i f = wait x k v (unit v i) (one_of k g (and_first ((2 + g == 2 + k) || (2 + g == 1)) (not (some_hold (claims_on u) hs)) f)) (λ c. (r.3 c).waits)
-        on false i f = rest f
-    one x (Whole v k n) hs r rest e = on (u == v) refl e
-      where
-        on : (q : Bool) → (u == v) ≡ q → (if q then ((2 + g == 2 + k) || (2 + g == 1)) && not (some_hold (claims_on u) hs) else claim_right hs u (2 + g)) ≡ true → ⊥
-        on true i f = wait x k v (unit v i) (one_of k g (and_first ((2 + g == 2 + k) || (2 + g == 1)) (not (some_hold (claims_on u) hs)) f)) (λ c. (r.3 c).waits)
-        on false i f = rest f
-    one x _ hs r rest e = rest e
-
-    by : (hs : Reservations) → AllRight d chip w s hs → claim_right hs u (2 + g) ≡ true → ⊥
-    by [] r e = not_zero g e
-    by (x ∷ xs) r e = one x x.what xs r.0 (by xs r.1) e
+-- no frame keeps values of a group that doesn't wait
+pub no_keeper : (d : AdcTable) (chip : Chip) (w : World) (s : AdcState) (g u : ℕ) → is_some (group_at s g).waiting ≡ false
+    → (hs : Reservations) → AllRight d chip w s hs → claim_right hs u (word_of chip (word_number d (Word.Claim u))) ≡ true
+    → word_of chip (word_number d (Word.Claim u)) ≢ 2 + g
+no_keeper d chip w s g u none hs right claim same = let on : is_some (group_at s g).waiting ≡ true = (claim_keeps d chip w s u g hs right (subst (λ v. claim_right hs u v ≡ true) same claim)).1 same in cc
 
 -- What is new of the group and of its unit, and of what looks at all groups.
 pub record Fresh (d : AdcTable) (after : Reservations) (b : Chip) (w : World) (t : AdcState) (g u : ℕ) : Type 0 where
@@ -145,7 +190,7 @@ pub record Fresh (d : AdcTable) (after : Reservations) (b : Chip) (w : World) (t
   pub backed : Backed after
   pub group : GroupAgrees d (word_of b) t g
   pub unit : UnitAgrees d (word_of b) t u
-  pub claims : (v : ℕ) → v < 2 → claim_right after v (word_of b (word_number d (words.Claim v))) ≡ true
+  pub claims : (v : ℕ) → v < 2 → claim_right after v (word_of b (word_number d (Word.Claim v))) ≡ true
   pub promised : (v : ℕ) → Promised d after w t v
 
 -- a unit's round agrees as before where the unit is the same, at the same time
@@ -178,25 +223,23 @@ module _ (d : AdcTable) (fits : FitsAdc d) (before after : Reservations) (a b : 
   of_group : (j : ℕ) → 8 ≤ j → word_of b (group_word d g j) ≡ word_of a (group_word d g j)
   of_group j le = c.elsewhere (group_word d g j) (λ i lt e. past_eight (start_of (group_of d g)) i j lt le e) (λ i lt e. past_unit (start_of (group_of d g)) j u i (start_from d fits g there).0 few lt e)
 
-  bank_stays : (k : ℕ) (n : Bank) (j : ℕ) → is_some (group_of d k) ≡ true → j < length (inputs_of (group_of d k)) → word_of b (bank_word (rounds_of d k) n j) ≡ word_of a (bank_word (rounds_of d k) n j)
-  bank_stays k n j here less = subst (λ m. word_of b m ≡ word_of a m) (bank_is d k n j) (by (same_or_other k g))
-    where
-      place : ℕ
-      place = 32 + bank_number n * length (inputs_of (group_of d k)) + j
+  -- any group's word behind its first eight
+  behind : (k j : ℕ) → is_some (group_of d k) ≡ true → 8 ≤ j → j < 32 + 6 * length (inputs_of (group_of d k))
+      → word_of b (group_word d k j) ≡ word_of a (group_word d k j)
+  behind k j here le less = cases (same_or_other k g)
+      (λ e. subst (λ m. word_of b (group_word d m j) ≡ word_of a (group_word d m j)) (sym e) (of_group j le))
+      (λ ne. of_other k j here ne less)
 
-      by : (k ≡ g) ⊎ (k ≢ g) → word_of b (group_word d k place) ≡ word_of a (group_word d k place)
-      by (inl e) = subst (λ m. word_of b (group_word d m place) ≡ word_of a (group_word d m place)) (sym e) (of_group place (bank_past (bank_number n) (length (inputs_of (group_of d k))) j))
-      by (inr ne) = of_other k place here ne (bank_place (bank_number n) (length (inputs_of (group_of d k))) j (bank_below d fits n) less)
+  bank_stays : (k : ℕ) (n : Bank) (j : ℕ) → is_some (group_of d k) ≡ true → j < length (inputs_of (group_of d k))
+      → word_of b (bank_word (rounds_of d k) n j) ≡ word_of a (bank_word (rounds_of d k) n j)
+  bank_stays k n j here less =
+      let len = length (inputs_of (group_of d k)) in
+      subst (λ m. word_of b m ≡ word_of a m) (bank_is d k n j) (behind k (32 + bank_number n * len + j) here (bank_past (bank_number n) len j) (bank_place (bank_number n) len j (bank_below d fits n) less))
 
   kept_stays : (k j : ℕ) → is_some (group_of d k) ≡ true → j < length (inputs_of (group_of d k)) → word_of b (kept_word (rounds_of d k) j) ≡ word_of a (kept_word (rounds_of d k) j)
-  kept_stays k j here less = subst (λ m. word_of b m ≡ word_of a m) (kept_is d k j) (by (same_or_other k g))
-    where
-      place : ℕ
-      place = 32 + 3 * length (inputs_of (group_of d k)) + j
-
-      by : (k ≡ g) ⊎ (k ≢ g) → word_of b (group_word d k place) ≡ word_of a (group_word d k place)
-      by (inl e) = subst (λ m. word_of b (group_word d m place) ≡ word_of a (group_word d m place)) (sym e) (of_group place (kept_past (length (inputs_of (group_of d k))) j))
-      by (inr ne) = of_other k place here ne (kept_place j (length (inputs_of (group_of d k))) less)
+  kept_stays k j here less =
+      let len = length (inputs_of (group_of d k)) in
+      subst (λ m. word_of b m ≡ word_of a m) (kept_is d k j) (behind k (32 + 3 * len + j) here (kept_past len j) (kept_inside j len less))
 
   -- a word of the other unit, and the state word
   unit_stays : (v i : ℕ) → v < 2 → v ≢ u → i < 5 → word_of b (STATE + 8 + 8 * v + i) ≡ word_of a (STATE + 8 + 8 * v + i)
@@ -205,7 +248,7 @@ module _ (d : AdcTable) (fits : FitsAdc d) (before after : Reservations) (a b : 
   state_stays : word_of b STATE ≡ word_of a STATE
   state_stays = c.elsewhere STATE (λ j lt e. past_state (start_of (group_of d g)) j (start_from d fits g there).0 e) (λ j lt e. unit_low u j e)
 
-  pub claim_stays : (v : ℕ) → v < 2 → v ≢ u → word_of b (word_number d (words.Claim v)) ≡ word_of a (word_number d (words.Claim v))
+  pub claim_stays : (v : ℕ) → v < 2 → v ≢ u → word_of b (word_number d (Word.Claim v)) ≡ word_of a (word_number d (Word.Claim v))
   claim_stays v less ne = subst (λ k. word_of b k ≡ word_of a k) (claim_is d v) (unit_stays v 1 less ne one_low)
 
   -- ---- the state of other groups
@@ -247,9 +290,6 @@ module _ (d : AdcTable) (fits : FitsAdc d) (before after : Reservations) (a b : 
 
   -- ---- what is held
 
-  few_values : (v : ℕ) (r : Round) (k : ℕ) → round_at s v ≡ Some r → r.group ≡ k → (j n : ℕ) → slice_get (values_of w (group_of d k) r) j ≡ Some n → j < length (inputs_of (group_of d k))
-  few_values v r k e same j n is = value_within w (group_of d k) r j n (subst (λ z. length r.request.kept < length (inputs_of (group_of d z))) same (h.sound.runs v r e).4.2) is
-
   -- a round of a claimed unit was there before
   was_there : (v : ℕ) (z : Reservation) → Spares d a b s t g u z → claims_on v z ≡ true → (r : Round) → round_at t v ≡ Some r → round_at s v ≡ Some r
   was_there v z free claims r e = cases (same_or_other v u)
@@ -257,27 +297,24 @@ module _ (d : AdcTable) (fits : FitsAdc d) (before after : Reservations) (a b : 
       (λ ne. sym (c.rounds v ne) ∙ e)
 
   no_round : (v : ℕ) (z : Reservation) → Spares d a b s t g u z → claims_on v z ≡ true → round_at s v ≡ None → round_at t v ≡ None
-  no_round v z free claims e = by (round_at t v) refl
-    where
-      by : (q : Option Round) → round_at t v ≡ q → q ≡ None
-      by None i = refl
-      by (Some r) i = none_some (sym e ∙ was_there v z free claims r i)
+  no_round v z free claims e = option_as (round_at t v) (λ q. q ≡ None)
+      (λ r i. none_some (sym e ∙ was_there v z free claims r i)) (λ _. refl)
 
   -- where a unit's claim keeps a group's values, that is another group, whose claim was there before
-  module _ (v k : ℕ) (z : Reservation) (free : Spares d a b s t g u z) (claims : claims_on v z ≡ true) (on : is_on v (group_of d k) ≡ true) (claim : word_of b (word_number d (words.Claim v)) ≡ 2 + k) where
+  module _ (v k : ℕ) (z : Reservation) (free : Spares d a b s t g u z) (claims : claims_on v z ≡ true) (on : is_on v (group_of d k) ≡ true) (claim : word_of b (word_number d (Word.Claim v)) ≡ 2 + k) where
     kept_other : k ≢ g
     kept_other e =
         let unit : v ≡ u = sym (unit_is d fits v (group_of d k) on) ∙ (ap (λ n. unit_of (group_of d n)) e ∙ unit_is d fits u (group_of d g) at) in
-        free.unkept (subst (λ n. claims_on n z ≡ true) unit claims) (subst (λ n. word_of b (word_number d (words.Claim n)) ≡ 2 + g) unit (claim ∙ ap (λ n. 2 + n) e))
+        free.unkept (subst (λ n. claims_on n z ≡ true) unit claims) (subst (λ n. word_of b (word_number d (Word.Claim n)) ≡ 2 + g) unit (claim ∙ ap (λ n. 2 + n) e))
 
-    claimed_before : word_of a (word_number d (words.Claim v)) ≡ 2 + k
+    claimed_before : word_of a (word_number d (Word.Claim v)) ≡ 2 + k
     claimed_before = cases (same_or_other v u)
-        (λ e. subst (λ n. word_of a (word_number d (words.Claim n)) ≡ 2 + k) (sym e) (c.claim_from k kept_other (subst (λ n. word_of b (word_number d (words.Claim n)) ≡ 2 + k) e claim)))
+        (λ e. subst (λ n. word_of a (word_number d (Word.Claim n)) ≡ 2 + k) (sym e) (c.claim_from k kept_other (subst (λ n. word_of b (word_number d (Word.Claim n)) ≡ 2 + k) e claim)))
         (λ ne. sym (claim_stays v (unit_within d fits v k on) ne) ∙ claim)
 
     unit_before : chips.unit_at b.converters v ≡ chips.unit_at a.converters v
     unit_before = cases (same_or_other v u)
-        (λ e. subst (λ n. chips.unit_at b.converters n ≡ chips.unit_at a.converters n) (sym e) (c.unit k kept_other (subst (λ n. word_of b (word_number d (words.Claim n)) ≡ 2 + k) e claim)))
+        (λ e. subst (λ n. chips.unit_at b.converters n ≡ chips.unit_at a.converters n) (sym e) (c.unit k kept_other (subst (λ n. word_of b (word_number d (Word.Claim n)) ≡ 2 + k) e claim)))
         (λ ne. c.units v (unit_within d fits v k on) ne)
 
     whole_changed : (n : ℕ) → WholeRight d a s v k n → WholeRight d b t v k n
@@ -305,18 +342,16 @@ module _ (d : AdcTable) (fits : FitsAdc d) (before after : Reservations) (a b : 
         result j = ap (λ x. chips.result b.converters.levels b.converters.time x j) unit_before ∙ (ap (λ n. chips.result b.converters.levels n (chips.unit_at a.converters v) j) c.time ∙ ap (λ l. chips.result l a.converters.time (chips.unit_at a.converters v) j) c.levels)
 
   -- and where none does, a turn of the group keeps nothing
-  lost_changed : (v k : ℕ) (z : Reservation) → Spares d a b s t g u z → claims_on v z ≡ true → is_on v (group_of d k) ≡ true → word_of b (word_number d (words.Claim v)) ≢ 2 + k → (word_of a (word_number d (words.Claim v)) ≢ 2 + k → kept_in d s k ≡ []) → kept_in d t k ≡ []
-  lost_changed v k z free claims on lost was = kept_empty (same_or_other k g)
+  lost_changed : (v k : ℕ) (z : Reservation) → Spares d a b s t g u z → claims_on v z ≡ true → is_on v (group_of d k) ≡ true → word_of b (word_number d (Word.Claim v)) ≢ 2 + k → (word_of a (word_number d (Word.Claim v)) ≢ 2 + k → kept_in d s k ≡ []) → kept_in d t k ≡ []
+  lost_changed v k z free claims on lost was = cases (same_or_other k g)
+      (λ e.
+      let unit : v ≡ u = sym (unit_is d fits v (group_of d k) on) ∙ (ap (λ n. unit_of (group_of d n)) e ∙ unit_is d fits u (group_of d g) at) in
+      subst (λ n. kept_in d t n ≡ []) (sym e) (free.lost (subst (λ n. claims_on n z ≡ true) unit claims)))
+      (λ ne. kept_same k ne ∙ was (not_before ne (same_or_other v u)))
     where
-      not_before : k ≢ g → (v ≡ u) ⊎ (v ≢ u) → word_of a (word_number d (words.Claim v)) ≢ 2 + k
-      not_before ne (inl e) f = lost (subst (λ n. word_of b (word_number d (words.Claim n)) ≡ 2 + k) (sym e) (c.claim_to k ne (subst (λ n. word_of a (word_number d (words.Claim n)) ≡ 2 + k) e f)))
+      not_before : k ≢ g → (v ≡ u) ⊎ (v ≢ u) → word_of a (word_number d (Word.Claim v)) ≢ 2 + k
+      not_before ne (inl e) f = lost (subst (λ n. word_of b (word_number d (Word.Claim n)) ≡ 2 + k) (sym e) (c.claim_to k ne (subst (λ n. word_of a (word_number d (Word.Claim n)) ≡ 2 + k) e f)))
       not_before ne (inr off) f = lost (claim_stays v (unit_within d fits v k on) off ∙ f)
-
-      kept_empty : (k ≡ g) ⊎ (k ≢ g) → kept_in d t k ≡ []
-      kept_empty (inl e) =
-          let unit : v ≡ u = sym (unit_is d fits v (group_of d k) on) ∙ (ap (λ n. unit_of (group_of d n)) e ∙ unit_is d fits u (group_of d g) at) in
-          subst (λ n. kept_in d t n ≡ []) (sym e) (free.lost (subst (λ n. claims_on n z ≡ true) unit claims))
-      kept_empty (inr ne) = kept_same k ne ∙ was (not_before ne (same_or_other v u))
 
   held_changed : (x : ReservedBy Call Reservation) (z : Reservation) → Spares d a b s t g u z → HeldRight d a w s x z → HeldRight d b w t x z
   held_changed x (Clears n) free r = absurd (let f = r.1 in let e = c.on in cc)
@@ -327,7 +362,7 @@ module _ (d : AdcTable) (fits : FitsAdc d) (before after : Reservations) (a b : 
     r.2,
     (let q = r.3 in record {
       same = λ z o. q.same z (was_there v (Fills v k e n j p) free (eq_self v) z o);
-      filled = λ z m i o less is. let f = was_there v (Fills v k e n j p) free (eq_self v) z o in bank_stays k n m (on_there v (group_of d k) r.2) (few_values v z k f (q.same z f).0 m i is) ∙ q.filled z m i f less is;
+      filled = λ z m i o less is. let f = was_there v (Fills v k e n j p) free (eq_self v) z o in bank_stays k n m (on_there v (group_of d k) r.2) (few_values d w s h.sound v z k f (q.same z f).0 m i is) ∙ q.filled z m i f less is;
       next = λ z i o is. q.next z i (was_there v (Fills v k e n j p) free (eq_self v) z o) is;
     }),
   )
@@ -337,7 +372,7 @@ module _ (d : AdcTable) (fits : FitsAdc d) (before after : Reservations) (a b : 
     r.2,
     (let q = r.3 in record {
       same = λ z o. q.same z (was_there v (Full v k n) free (eq_self v) z o);
-      filled = λ z m i o is. let f = was_there v (Full v k n) free (eq_self v) z o in bank_stays k n m (on_there v (group_of d k) r.2) (few_values v z k f (q.same z f).0 m i is) ∙ q.filled z m i f is;
+      filled = λ z m i o is. let f = was_there v (Full v k n) free (eq_self v) z o in bank_stays k n m (on_there v (group_of d k) r.2) (few_values d w s h.sound v z k f (q.same z f).0 m i is) ∙ q.filled z m i f is;
     }),
   )
   held_changed x (Whole v k n) free r = (c.still, r.1, no_round v (Whole v k n) free (eq_self v) r.2, λ e. whole_changed v k (Whole v k n) free (eq_self v) r.1 e n (r.3 (claimed_before v k (Whole v k n) free (eq_self v) r.1 e)))
@@ -386,29 +421,27 @@ module _ (d : AdcTable) (fits : FitsAdc d) (before after : Reservations) (a b : 
 
   -- ---- other groups and the other unit
 
-  trio_other : (k j : ℕ) → is_some (group_of d k) ≡ true → k ≢ g → own_of (trio_of (rounds_of d k)) j ≡ true → word_of a j ≡ word_of b j
-  trio_other k j here ne own = sym (by (j == (trio_of (rounds_of d k)).control) refl)
-    where
-      by : (q : Bool) → (j == (trio_of (rounds_of d k)).control) ≡ q → word_of b j ≡ word_of a j
-      by true e = subst (λ m. word_of b m ≡ word_of a m) (control_is d k ∙ sym (eq_is j (trio_of (rounds_of d k)).control e)) (low_stays k 7 here ne seven_low)
-      by false e = let at = own_at d k j e own in subst (λ m. word_of b m ≡ word_of a m) at.0 (of_other k (j - (STATE + start_of (group_of d k))) here ne at.2)
+  -- the words of a group's banks stay where its control word does
+  trio_stays : (k : ℕ) → is_some (group_of d k) ≡ true → word_of b (group_word d k 7) ≡ word_of a (group_word d k 7) → (j : ℕ)
+      → own_of (trio_of (rounds_of d k)) j ≡ true → word_of a j ≡ word_of b j
+  trio_stays k here control j own = sym (whether_as (j == (trio_of (rounds_of d k)).control) (λ q. word_of b j ≡ word_of a j)
+      (λ e. subst (λ m. word_of b m ≡ word_of a m) (control_is d k ∙ sym (eq_is j (trio_of (rounds_of d k)).control e)) control)
+      (λ e. let at = own_at d k j e own in subst (λ m. word_of b m ≡ word_of a m) at.0 (behind k (j - (STATE + start_of (group_of d k))) here at.1 at.2)))
 
-  -- and those of the group, where its control word stays
+  trio_other : (k j : ℕ) → is_some (group_of d k) ≡ true → k ≢ g → own_of (trio_of (rounds_of d k)) j ≡ true → word_of a j ≡ word_of b j
+  trio_other k j here ne own = trio_stays k here (low_stays k 7 here ne seven_low) j own
+
   pub trio_group : word_of b (group_word d g 7) ≡ word_of a (group_word d g 7) → (j : ℕ) → own_of (trio_of (rounds_of d g)) j ≡ true → word_of a j ≡ word_of b j
-  trio_group control j own = sym (by (j == (trio_of (rounds_of d g)).control) refl)
-    where
-      by : (q : Bool) → (j == (trio_of (rounds_of d g)).control) ≡ q → word_of b j ≡ word_of a j
-      by true e = subst (λ m. word_of b m ≡ word_of a m) (control_is d g ∙ sym (eq_is j (trio_of (rounds_of d g)).control e)) control
-      by false e = let at = own_at d g j e own in subst (λ m. word_of b m ≡ word_of a m) at.0 (of_group (j - (STATE + start_of (group_of d g))) at.1)
+  trio_group control j own = trio_stays g there control j own
 
   -- the places of the users' buffers
   pub place_stays : (k : ℕ) (n : ResultBuffer) (p : ℕ) → word_of b (result_word k n p) ≡ word_of a (result_word k n p)
   place_stays k n p = c.elsewhere (result_word k n p) (λ i lt. place_apart d fits g i k n p there (eight_low i lt)) (λ i lt e. place_past k n p u i few lt e)
 
   -- the claims' words, where that of the unit stays
-  pub claims_stay : word_of b (word_number d (words.Claim u)) ≡ word_of a (word_number d (words.Claim u)) → (v : ℕ) → v < 2 → word_of b (word_number d (words.Claim v)) ≡ word_of a (word_number d (words.Claim v))
+  pub claims_stay : word_of b (word_number d (Word.Claim u)) ≡ word_of a (word_number d (Word.Claim u)) → (v : ℕ) → v < 2 → word_of b (word_number d (Word.Claim v)) ≡ word_of a (word_number d (Word.Claim v))
   claims_stay same v less = cases (same_or_other v u)
-      (λ e. subst (λ n. word_of b (word_number d (words.Claim n)) ≡ word_of a (word_number d (words.Claim n))) (sym e) same)
+      (λ e. subst (λ n. word_of b (word_number d (Word.Claim n)) ≡ word_of a (word_number d (Word.Claim n))) (sym e) same)
       (λ ne. claim_stays v less ne)
 
   banks_changed : (k : ℕ) → is_some (group_of d k) ≡ true → k ≢ g → BanksAgree d before (word_of a) s k → BanksAgree d after (word_of b) t k
@@ -438,15 +471,10 @@ module _ (d : AdcTable) (fits : FitsAdc d) (before after : Reservations) (a b : 
       v : ℕ
       v = unit_of (group_of d k)
 
-      claimed : word_of a (word_number d (words.Claim (unit_of (group_of d k)))) ≡ 2 + k → word_of b (word_number d (words.Claim (unit_of (group_of d k)))) ≡ 2 + k
+      claimed : word_of a (word_number d (Word.Claim (unit_of (group_of d k)))) ≡ 2 + k → word_of b (word_number d (Word.Claim (unit_of (group_of d k)))) ≡ 2 + k
       claimed e = cases (same_or_other (unit_of (group_of d k)) u)
-          (λ i. subst (λ n. word_of b (word_number d (words.Claim n)) ≡ 2 + k) (sym i) (c.claim_to k ne (subst (λ n. word_of a (word_number d (words.Claim n)) ≡ 2 + k) i e)))
+          (λ i. subst (λ n. word_of b (word_number d (Word.Claim n)) ≡ 2 + k) (sym i) (c.claim_to k ne (subst (λ n. word_of a (word_number d (Word.Claim n)) ≡ 2 + k) i e)))
           (λ nu. claim_stays (unit_of (group_of d k)) (unit_small d fits k here) nu ∙ e)
-
-  off_unit : (v : ℕ) → v ≢ u → is_on v (group_of d g) ≡ false
-  off_unit v ne = whether_as (is_on v (group_of d g)) (λ q. q ≡ false)
-      (λ e. absurd (other_group v g ne e refl))
-      (λ e. refl)
 
   unit_changed : (v : ℕ) → v < 2 → v ≢ u → UnitAgrees d (word_of a) s v → UnitAgrees d (word_of b) t v
   unit_changed v less ne q = record {
@@ -456,7 +484,9 @@ module _ (d : AdcTable) (fits : FitsAdc d) (before after : Reservations) (a b : 
           q.order.0,
           holds-agree (order_of v) (word_of a) (word_of b) q.order.0 (λ k own. sym (order_stays k own)) q.order.1,
           record {
-            there = λ k. o.there k ∙ turned k (same_or_other k g);
+            there = λ k. o.there k ∙ cases (same_or_other k g)
+                (λ e. and_off (has_turn s k) (has_turn t k) (is_on v (group_of d k)) (ap (λ n. is_on v (group_of d n)) e ∙ off_unit d fits g u v at ne))
+                (λ nk. ap (λ z. z && is_on v (group_of d k)) (sym (turn_same k nk)));
             waits = λ n x e. o.waits n x e ∙ ap (λ z. is_some z) (sym (waiting_same x.number (other_group v x.number ne (on n x e))));
             sorted = λ n m x z lt e f. subst (λ k. k < number_at d t z.number) (sym (number_same v x.number ne (on n x e))) (subst (λ k. number_at d s x.number < k) (sym (number_same v z.number ne (on m z f))) (o.sorted n m x z lt e f));
           },
@@ -466,11 +496,7 @@ module _ (d : AdcTable) (fits : FitsAdc d) (before after : Reservations) (a b : 
       on : (n : ℕ) (x : Entry) → slice_get q.order.0 n ≡ Some x → is_on v (group_of d x.number) ≡ true
       on n x e = and_second (has_turn s x.number) (is_on v (group_of d x.number)) (sym (q.order.2.there x.number) ∙ listed_there q.order.0 n x e)
 
-      turned : (k : ℕ) → (k ≡ g) ⊎ (k ≢ g) → has_turn s k && is_on v (group_of d k) ≡ has_turn t k && is_on v (group_of d k)
-      turned k (inl e) = and_off (has_turn s k) (has_turn t k) (is_on v (group_of d k)) (ap (λ n. is_on v (group_of d n)) e ∙ off_unit v ne)
-      turned k (inr nk) = ap (λ z. z && is_on v (group_of d k)) (sym (turn_same k nk))
-
-      order_stays : (k : ℕ) → ranked.own_of (order_of v) k ≡ true → word_of b k ≡ word_of a k
+      order_stays : (k : ℕ) → order_own (order_of v) k ≡ true → word_of b k ≡ word_of a k
       order_stays k own = let at = in_order v k own in subst (λ j. word_of b j ≡ word_of a j) at.0 (unit_stays v (k - (STATE + 8 + 8 * v)) less ne at.1)
 
   -- ---- all of it

@@ -1,6 +1,6 @@
 -- While nothing of the module's is made, words and registers go on agreeing: the hardware moves, or another module's frame does.
--- From words.WordsOfModule, services.InitSteps.
--- Used by bookkeeping.PendingWritesRight, hardware.HardwareMoves, adc_turns: words.ListedInputs and 11 more.
+-- From words.WordsOfModule, services.InitSteps, words.OrderWords.
+-- Used by bookkeeping.PendingWritesRight, hardware.HardwareMoves, adc_turns: words.ListedInputs and 14 more.
 use Rattle.std.proofs.Common.{◌≡◌, ◌≢◌, ◌+◌, ◌-◌, ◌*◌, ◌/◌, ◌%◌, ◌<◌, ◌≤◌, ◌&&◌, ◌||◌, ◌==◌, [], ◌∷◌, ◌++◌, ◌∙◌}
 use Rattle.std.proofs.Common.{if◌then◌else◌}
 use Rattle.adc_groups.specs.Terms
@@ -13,17 +13,15 @@ use Terms.{kept_by, kept_in, kept_of_round, kept_word, length, length-drop, leve
 use Terms.{mark_at, min, Move, nat_le, nat_tests, None, not, Option, order_of, own-control, PlacesAgree, Promised}
 use Terms.{Reads, ReadsRight, refl, Request, Reservation, Reservations, ReservedBy, result_of, result_word, Round}
 use Terms.{round_at, RoundAgrees, rounds_of, sample_at, Settled, slice_get, slice_get_within, Some, stands-agree}
-use Terms.{StandsIn, STATE, subst, suc, sym, TriggersAgree, trio_of, true, unit_of, UnitAgrees, unwrap_or}
-use Terms.{values_of, Whole, whole_values, WholeRight, word_number, word_of, World, zero, ℕ}
+use Terms.{StandsIn, STATE, subst, suc, sym, TriggersAgree, trio_of, true, unit_of, UnitAgrees, unwrap_or, values_of}
+use Terms.{Whole, whole_values, WholeRight, Word, word_number, word_of, World, zero, ℕ}
 use Rattle.word_shapes.specs.TripleBuffer.{listed}
-use Rattle.adc_groups.specs.laws.words.WordsOfModule.{IsOwnStore, on_there, first_words, running_words, claim_words}
-use Rattle.adc_groups.specs.laws.words.WordsOfModule.{order_words, low_words, bank_words, kept_words, trio_words}
-use Rattle.adc_groups.specs.laws.words.WordsOfModule.{clear_words, place_words, unit_within, unit_small, few_inputs}
-use Rattle.adc_groups.specs.laws.words.WordsOfModule.{left_small}
+use Rattle.adc_groups.specs.laws.words.{OrderWords.{order_kept}, WordsOfModule.{bank_words, claim_words, clear_words}}
+use Rattle.adc_groups.specs.laws.words.WordsOfModule.{few_inputs, first_words, IsOwnStore, kept_words, left_small}
+use Rattle.adc_groups.specs.laws.words.WordsOfModule.{low_words, on_there, order_words, place_words, running_words}
+use Rattle.adc_groups.specs.laws.words.WordsOfModule.{trio_words, unit_small, unit_within}
 use Rattle.chip_converter.specs.Converters as chips
 use Rattle.chip_converter.specs.Rounds as rounds
-use Rattle.mcal_base.specs.declared.moves.Move.TheVariants as moves
-use Rattle.adc_groups.specs.declared.words.Word.TheVariants as words
 
 -- a round goes on: what has ended keeps its result, and what ends meanwhile has its level
 pub record GoesOn (a b : Chip) (w x : World) (u : ℕ) : Type 0 where
@@ -35,7 +33,7 @@ pub record GoesOn (a b : Chip) (w x : World) (u : ℕ) : Type 0 where
 -- or it is over, and no frame keeps what it has
 pub data UnitGoes (d : AdcTable) (a b : Chip) (w x : World) (s : AdcState) (u : ℕ) : Type 0 where
   Goes_on : GoesOn a b w x u → UnitGoes d a b w x s u
-  Is_left : round_at s u ≡ None → IsOver (chips.unit_at b.converters u).round b.converters.time → ((g : ℕ) → word_of a (word_number d (words.Claim u)) ≢ 2 + g) → UnitGoes d a b w x s u
+  Is_left : round_at s u ≡ None → IsOver (chips.unit_at b.converters u).round b.converters.time → ((g : ℕ) → word_of a (word_number d (Word.Claim u)) ≢ 2 + g) → UnitGoes d a b w x s u
 
 -- what may happen so: the words stay, the rounds go on, and of the state the marks alone may change
 pub record Onward (d : AdcTable) (a b : Chip) (w x : World) (s : AdcState) (ms : List Bool) : Type 0 where
@@ -111,6 +109,10 @@ value_within w k r j v few at =
     let left = length-drop (length r.request.kept) (inputs_of k) in
     omega (arith, lt, count, left, few)
 
+pub few_values : (d : AdcTable) (w : World) (s : AdcState) → IsSound d w s → (u : ℕ) (r : Round) (g : ℕ) → round_at s u ≡ Some r → r.group ≡ g → (j v : ℕ)
+    → slice_get (values_of w (group_of d g) r) j ≡ Some v → j < length (inputs_of (group_of d g))
+few_values d w s sound u r g e same j v at = value_within w (group_of d g) r j v (subst (λ k. length r.request.kept < length (inputs_of (group_of d k))) same (sound.runs u r e).4.2) at
+
 module _ (d : AdcTable) (w : World) (s : AdcState) (sound : IsSound d w s) where
   -- what the turn of a group keeps is less than all values
   kept_by_round : (g : ℕ) (q : Option Round) → round_at s (unit_of (group_of d g)) ≡ q → (j v : ℕ) → slice_get (kept_of_round g q) j ≡ Some v → j < length (inputs_of (group_of d g))
@@ -152,15 +154,12 @@ module _ (d : AdcTable) (fits : FitsAdc d) (a b : Chip) (w x : World) (s : AdcSt
       same = λ r f. let n = h.same r f in (n.0, n.1, finished_later w x on.now on.samples (group_of d g) r n.2);
       filled = λ r j n f lt is.
           let was = before r f j n is in
-          word (bank_word (rounds_of d g) k j) (bank_words d fits g k j (on_there u (group_of d g) at) (within_round r f j n was)) ∙ h.filled r j n f lt was;
+          word (bank_word (rounds_of d g) k j) (bank_words d fits g k j (on_there u (group_of d g) at) (few_values d w s sound u r g f (h.same r f).0 j n was)) ∙ h.filled r j n f lt was;
       next = λ r n f is. h.next r n f (before r f i n is);
     }
       where
         before : (r : Round) → round_at s u ≡ Some r → (j n : ℕ) → slice_get (values_of x (group_of d g) r) j ≡ Some n → slice_get (values_of w (group_of d g) r) j ≡ Some n
         before r f j n is = ap (λ vs. slice_get vs j) (sym (values_same w x on.now on.samples (group_of d g) r (h.same r f).2)) ∙ is
-
-        within_round : (r : Round) → round_at s u ≡ Some r → (j n : ℕ) → slice_get (values_of w (group_of d g) r) j ≡ Some n → j < length (inputs_of (group_of d g))
-        within_round r f j n is = value_within w (group_of d g) r j n (subst (λ y. length r.request.kept < length (inputs_of (group_of d y))) (h.same r f).0 (sound.runs u r f).4.2) is
 
     full_later : (u g : ℕ) (k : Bank) → is_on u (group_of d g) ≡ true → FullRight d a w s u g k → FullRight d b x u_later u g k
     full_later u g k at h = record {
@@ -196,7 +195,7 @@ module _ (d : AdcTable) (fits : FitsAdc d) (a b : Chip) (w x : World) (s : AdcSt
       waits = h.waits;
       count = h.count ∙ ap (λ y. e + y) (sym ended);
       told = λ k f. h.told k f ∙ sym ended;
-      word = word (word_number d (words.Kept g)) (low_words d fits g 6 there (omega arith)) ∙ h.word;
+      word = word (word_number d (Word.Kept g)) (low_words d fits g 6 there (omega arith)) ∙ h.word;
       kept = λ j y lt is. word (kept_word (rounds_of d g) j) (kept_words d fits g j there (kept_within d w s sound g j y is)) ∙ h.kept j y lt is;
       results = λ j y is. goes.ended j (few j y is) (has j y is) ∙ h.results j y is;
       next = h.next;
@@ -205,11 +204,8 @@ module _ (d : AdcTable) (fits : FitsAdc d) (a b : Chip) (w x : World) (s : AdcSt
         there : is_some (group_of d g) ≡ true
         there = on_there u (group_of d g) at
 
-        lt_unit : u < 2
-        lt_unit = unit_below u g at
-
         ended : rounds.ended (chips.unit_at b.converters u).round b.converters.time ≡ rounds.ended (chips.unit_at a.converters u).round a.converters.time
-        ended = ended_same u lt_unit goes free
+        ended = ended_same u (unit_below u g at) goes free
 
         many : (j y : ℕ) → slice_get (kept_in d s g) (e + j) ≡ Some y → j < rounds.ended (chips.unit_at a.converters u).round a.converters.time
         many j y is = let lt = slice_get_within (kept_in d s g) (e + j) y is in let count = h.count in omega (arith, lt, count)
@@ -240,10 +236,10 @@ module _ (d : AdcTable) (fits : FitsAdc d) (a b : Chip) (w x : World) (s : AdcSt
         at j lt = let same : bank_word (rounds_of d g) k j ≡ bank_word (rounds_of d g) k 0 + j = omega arith in subst (λ y. word_of b y ≡ word_of a y) same (word (bank_word (rounds_of d g) k j) (bank_words d fits g k j there lt))
 
     zero_later : (made : Move) → IsOwnStore d made → IsZero a made → IsZero b made
-    zero_later (moves.Store k v) own h = word k own ∙ h
+    zero_later (Move.Store k v) own h = word k own ∙ h
     zero_later _ own h = tt
 
-    kept_on : (u g e : ℕ) (n : Option ℕ) (i : ℕ) (v : Option ℕ) → is_on u (group_of d g) ≡ true → round_at s u ≡ None → word_of a (word_number d (words.Claim u)) ≡ 2 + g → UnitGoes d a b w x s u → KeepsRight d a s u g e n i v → KeepsRight d b u_later u g e n i v
+    kept_on : (u g e : ℕ) (n : Option ℕ) (i : ℕ) (v : Option ℕ) → is_on u (group_of d g) ≡ true → round_at s u ≡ None → word_of a (word_number d (Word.Claim u)) ≡ 2 + g → UnitGoes d a b w x s u → KeepsRight d a s u g e n i v → KeepsRight d b u_later u g e n i v
     kept_on u g e n i v at free claim (Goes_on goes) h = keeps_later u g e n i v at free goes h
     kept_on u g e n i v at free claim (Is_left none over unkept) h = absurd (unkept g claim)
 
@@ -251,10 +247,10 @@ module _ (d : AdcTable) (fits : FitsAdc d) (a b : Chip) (w x : World) (s : AdcSt
     held_later h (Clears n) r = (r.0, r.1, λ i lt. zero_later (clear_at d i) (clear_words d fits i) (r.2 i lt))
     held_later h (Fills u g e k i v) r = (r.0, r.1, r.2, fills_later u g e k i v r.2 r.3)
     held_later h (Full u g k) r = (r.0, r.1, r.2, full_later u g k r.2 r.3)
-    held_later h (Whole u g n) r = (r.0, r.1, r.2, λ e. whole_later u g n r.1 (r.3 (sym (word (word_number d (words.Claim u)) (claim_words d u (unit_below u g r.1))) ∙ e)))
+    held_later h (Whole u g n) r = (r.0, r.1, r.2, λ e. whole_later u g n r.1 (r.3 (sym (word (word_number d (Word.Claim u)) (claim_words d u (unit_below u g r.1))) ∙ e)))
     held_later h (Keeps u g e n i v) r =
-        let claim = λ (f : word_of b (word_number d (words.Claim u)) ≡ 2 + g). sym (word (word_number d (words.Claim u)) (claim_words d u (unit_below u g r.1))) ∙ f in
-        (r.0, r.1, r.2, λ f. kept_on u g e n i v r.1 r.2 (claim f) (on.units u (unit_below u g r.1)) (r.3 (claim f)), λ f. r.4 (λ q. f (word (word_number d (words.Claim u)) (claim_words d u (unit_below u g r.1)) ∙ q)))
+        let claim = λ (f : word_of b (word_number d (Word.Claim u)) ≡ 2 + g). sym (word (word_number d (Word.Claim u)) (claim_words d u (unit_below u g r.1))) ∙ f in
+        (r.0, r.1, r.2, λ f. kept_on u g e n i v r.1 r.2 (claim f) (on.units u (unit_below u g r.1)) (r.3 (claim f)), λ f. r.4 (λ q. f (word (word_number d (Word.Claim u)) (claim_words d u (unit_below u g r.1)) ∙ q)))
     held_later h (Copies k c i v) r = (r.0, r.1, r.2, copies_later k c i v r.2 r.3)
     held_later h (Reads g k vs) r = (r.0, r.1, r.2, reads_later h g k vs r.2 r.3)
     held_later h _ r = r
@@ -340,18 +336,13 @@ module _ (d : AdcTable) (fits : FitsAdc d) (a b : Chip) (w x : World) (s : AdcSt
         at : (i : ℕ) → i < 32 → word_of b (group_word d g i) ≡ word_of a (group_word d g i)
         at i lt = word (group_word d g i) (low_words d fits g i there lt)
 
-        claim : word_of b (word_number d (words.Claim (unit_of (group_of d g)))) ≡ word_of a (word_number d (words.Claim (unit_of (group_of d g))))
-        claim = word (word_number d (words.Claim (unit_of (group_of d g)))) (claim_words d (unit_of (group_of d g)) (unit_small d fits g there))
+        claim : word_of b (word_number d (Word.Claim (unit_of (group_of d g)))) ≡ word_of a (word_number d (Word.Claim (unit_of (group_of d g))))
+        claim = word (word_number d (Word.Claim (unit_of (group_of d g)))) (claim_words d (unit_of (group_of d g)) (unit_small d fits g there))
 
     unit_later : (u : ℕ) → u < 2 → UnitAgrees d (word_of a) s u → UnitAgrees d (word_of b) u_later u
     unit_later u lt h = record {
-      running = word (word_number d (words.Running u)) (running_words d u lt) ∙ h.running;
-      order =
-          let o = h.order.2 in (
-            h.order.0,
-            holds-agree (order_of u) (word_of a) (word_of b) h.order.0 (λ k own. sym (word k (order_words d u k lt own))) h.order.1,
-            record { there = o.there; waits = o.waits; sorted = o.sorted },
-          );
+      running = word (word_number d (Word.Running u)) (running_words d u lt) ∙ h.running;
+      order = (h.order.0, holds-agree (order_of u) (word_of a) (word_of b) h.order.0 (λ k own. sym (word k (order_words d u k lt own))) h.order.1, order_kept d s u_later u (λ k. refl) (λ k. refl) (λ k at. refl) h.order.0 h.order.2);
     }
 
     -- ---- no unit waits
@@ -372,7 +363,7 @@ module _ (d : AdcTable) (fits : FitsAdc d) (a b : Chip) (w x : World) (s : AdcSt
     settled_later held h = record {
       groups = λ g there. group_later g there (h.groups g there);
       units = λ u lt. unit_later u lt (h.units u lt);
-      claims = λ u lt. ap (λ y. claim_right held u y) (word (word_number d (words.Claim u)) (claim_words d u lt)) ∙ h.claims u lt;
+      claims = λ u lt. ap (λ y. claim_right held u y) (word (word_number d (Word.Claim u)) (claim_words d u lt)) ∙ h.claims u lt;
       lines = λ l e. on.lines l e ∙ h.lines l e;
       promised = λ u. promised_later held u (h.promised u);
     }

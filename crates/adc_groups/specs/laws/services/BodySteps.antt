@@ -1,52 +1,16 @@
 -- The places of a frame's body: what each does next, and what a step makes of it.
 -- From services.Decisions, services.ReadSteps, services.WriteBatchSteps, words.WindowWords.
--- Used by adc_driver: bookkeeping.CleanPlaces, adc_driver: bookkeeping.Decreases and 58 more.
+-- Used by adc_driver: bookkeeping.Decreases, adc_driver: bookkeeping.CleanPlaces and 33 more.
 use Rattle.std.specs.Prelude.{ℕ, ◌+◌, ◌-◌, ◌%◌, nat_lt, Bool, true, false, if◌then◌else◌, Option, Some, None, List, [], ◌∷◌, ◌++◌, length, slice_index_or}
-use Rattle.mcal_base.specs.declared.answer.Answer.{Answer}
-use Rattle.mcal_base.specs.declared.moves.Event.{Event}
-use Rattle.mcal_base.specs.declared.moves.Move.{Move}
-use Rattle.mcal_base.specs.declared.moves.Move.TheVariants as moves
-use Rattle.mcal_base.specs.declared.notice.NoticeKind.TheVariants.{AdcNotification}
-use Rattle.mcal_base.specs.declared.register.Reg.{Reg}
-use Rattle.mcal_base.specs.declared.register.Reg.TheVariants.{ConverterState, ConverterDone, ConverterAbort, TriggerFlags}
-use Rattle.run_model.specs.Machine.{no_answer}
-use Rattle.service_outline.specs.Done.{goes, ends}
-use Rattle.service_outline.specs.declared.done.BodyTaken.{BodyTaken}
-use Rattle.service_outline.specs.declared.done.Epilogue.TheVariants.{Nothing}
-use Rattle.word_shapes.specs.PriorityQueue.{front_move, front_left, front_gave}
-use Rattle.word_shapes.specs.TripleBuffer.{put_move, put_left, put_gave, take_move, take_left, take_start}
-use Rattle.word_shapes.specs.declared.choosing.Front.{Front}
-use Rattle.word_shapes.specs.declared.put.Put.{Put}
-use Rattle.word_shapes.specs.declared.take.Take.{Take}
-use Rattle.word_shapes.specs.declared.take.TakePart.TheVariants as taken
-use Rattle.adc_stream.specs.Copying.{copying, copy_move, copy_after}
-use Rattle.adc_stream.specs.Rounds.{bank_of, trio_of}
-use Rattle.adc_stream.specs.Stream.{limited}
+use Rattle.adc_groups.specs.StepTerms
+use StepTerms.{Aborts, AdcBody, AdcNotification, AdcTable, Answer, bank_of, BodyTaken, Chooses, Continuation}
+use StepTerms.{ConverterAbort, ConverterDone, ConverterState, Copied, copy_after, copy_move, Copying, copying}
+use StepTerms.{Decided, ends, Event, Flag, Front, front_gave, front_left, front_move, goes, group_of, inputs_of}
+use StepTerms.{Keeps, limited, Looks, Makes, Move, no_answer, Nothing, Opens, Out, Outside, Phase, Pins, Place, Put}
+use StepTerms.{put_gave, put_left, put_move, Quits, Reads, Reg, rounds_of, Seeks, Serves, STATE, Surveys, Suspended}
+use StepTerms.{Take, take_left, take_move, take_start, TakePart, Tells, TriggerFlags, trio_of, Window, Word}
+use StepTerms.{word_number, WriteBatch}
 use Rattle.adc_stream.specs.declared.copying.Copied.TheVariants as copied
-use Rattle.adc_stream.specs.declared.copying.Copying.{Copying}
-use Rattle.adc_machine.specs.Groups.{inputs_of}
-use Rattle.adc_machine.specs.Table.{group_of}
-use Rattle.adc_groups.specs.Stored.{rounds_of, word_number}
-use Rattle.adc_groups.specs.declared.body.AdcBody.{AdcBody}
-use Rattle.adc_groups.specs.declared.body.Decided.{Decided}
-use Rattle.adc_groups.specs.declared.body.Decided.TheVariants as decisions
-use Rattle.adc_groups.specs.declared.body.Place.{Place}
-use Rattle.adc_groups.specs.declared.body.Place.TheVariants.{Flag, Looks, Surveys, Seeks, Chooses, Pins, Reads, Aborts, Makes, Quits, Opens, Out}
-use Rattle.adc_machine.specs.declared.table.AdcTable.{AdcTable}
-use Rattle.adc_groups.specs.declared.making.WriteBatch.{WriteBatch}
-use Rattle.adc_groups.specs.declared.making.Continuation.{Continuation}
-use Rattle.adc_groups.specs.declared.making.Continuation.TheVariants as thens
-use Rattle.adc_groups.specs.declared.outside.Copied.{Copied}
-use Rattle.adc_groups.specs.declared.outside.Copied.TheVariants.{Serves, Tells, Keeps}
-use Rattle.adc_groups.specs.declared.outside.Outside.{Outside}
-use Rattle.adc_groups.specs.declared.outside.Outside.TheVariants as outsides
-use Rattle.adc_groups.specs.declared.outside.Suspended.{Suspended}
-use Rattle.adc_groups.specs.declared.window.Window.{Window}
-use Rattle.adc_groups.specs.declared.window.Window.TheVariants as windows
-use Rattle.adc_groups.specs.declared.words.Phase.{Phase}
-use Rattle.adc_groups.specs.declared.words.TheConstants.{STATE}
-use Rattle.adc_groups.specs.declared.words.Word.{Word}
-use Rattle.adc_groups.specs.declared.words.Word.TheVariants as words
 use Rattle.adc_groups.specs.laws.services.Decisions.{entered, decided, flagged, surveyed, sought, chosen, pin, reading, aborted, copies_or}
 use Rattle.adc_groups.specs.laws.services.WriteBatchSteps.{making_move, making_left, making_event, making_over}
 use Rattle.adc_groups.specs.laws.services.ReadSteps.{newest_move, newest_left, newest_taken, newest_answer}
@@ -55,78 +19,78 @@ use Rattle.adc_groups.specs.laws.words.WindowWords.{word_at}
 -- ---- with the mask open
 
 abbrev pub outside_move : Outside → Move
-outside_move (outsides.Copies c a) = copy_move c
-outside_move (outsides.Counts r) = moves.Read (ConverterDone r.unit)
-outside_move (outsides.Reads g b) = moves.Load STATE
-outside_move (outsides.Notes g u) = moves.Note (record { kind = AdcNotification; id = g })
-outside_move (outsides.Closes w) = moves.Mask
+outside_move (Outside.Copies c a) = copy_move c
+outside_move (Outside.Counts r) = Move.Read (ConverterDone r.unit)
+outside_move (Outside.Reads g b) = Move.Load STATE
+outside_move (Outside.Notes g u) = Move.Note (record { kind = AdcNotification; id = g })
+outside_move (Outside.Closes w) = Move.Mask
 
 -- what comes after values were copied
 abbrev pub tells_or : Bool → (unit group : ℕ) → Outside
-tells_or true u g = outsides.Notes g u
-tells_or false u g = outsides.Closes (windows.Begin u)
+tells_or true u g = Outside.Notes g u
+tells_or false u g = Outside.Closes (Window.Begin u)
 
 abbrev pub after_copies : Copied → Outside
-after_copies (Serves t) = outsides.Closes (windows.Serve t)
+after_copies (Serves t) = Outside.Closes (Window.Serve t)
 after_copies (Tells u g on) = tells_or on u g
-after_copies (Keeps r) = outsides.Closes (windows.Keep r)
+after_copies (Keeps r) = Outside.Closes (Window.Keep r)
 
 -- so many inputs of an aborted round have ended
 abbrev pub all_kept : Suspended → ℕ → Suspended
 all_kept r n = record r { kept = limited (r.kept + n) 32 }
 
 abbrev pub keeps_some : AdcTable → Suspended → ℕ → Outside
-keeps_some d r n = copies_or (copying (copied.Ended (rounds_of d r.group) r.unit n r.kept)) (Keeps (all_kept r n)) (outsides.Closes (windows.Keep (all_kept r n)))
+keeps_some d r n = copies_or (copying (copied.Ended (rounds_of d r.group) r.unit n r.kept)) (Keeps (all_kept r n)) (Outside.Closes (Window.Keep (all_kept r n)))
 
 abbrev pub keeps : AdcTable → Suspended → (ended : ℕ) → Outside
 keeps d r x = let k = length (inputs_of (group_of d r.group)) in keeps_some d r (limited x (k - limited r.kept k))
 
 abbrev pub copies_on : Copied → Option Copying → Outside
-copies_on a (Some c) = outsides.Copies c a
+copies_on a (Some c) = Outside.Copies c a
 copies_on a None = after_copies a
 
 abbrev pub outside_left : AdcTable → Outside → ℕ → Place
-outside_left d (outsides.Copies c a) x = Out (copies_on a (copy_after c x))
-outside_left d (outsides.Counts r) x = Out (keeps d r x)
-outside_left d (outsides.Reads g b) x = Reads (reading d g b)
-outside_left d (outsides.Notes g u) x = Out (outsides.Closes (windows.Begin u))
-outside_left d (outsides.Closes w) x = entered w
+outside_left d (Outside.Copies c a) x = Out (copies_on a (copy_after c x))
+outside_left d (Outside.Counts r) x = Out (keeps d r x)
+outside_left d (Outside.Reads g b) x = Reads (reading d g b)
+outside_left d (Outside.Notes g u) x = Out (Outside.Closes (Window.Begin u))
+outside_left d (Outside.Closes w) x = entered w
 
 -- ---- places
 
 abbrev pub flag_register : Window → Reg
-flag_register (windows.Take u) = ConverterState u
+flag_register (Window.Take u) = ConverterState u
 flag_register w = TriggerFlags
 
 abbrev pub look_move : AdcTable → Option Word → Move
-look_move d None = moves.Unmask
-look_move d (Some w) = moves.Load (word_number d w)
+look_move d None = Move.Unmask
+look_move d (Some w) = Move.Load (word_number d w)
 
 -- the pin of a group's newest bank, and what comes once it was looked up
 abbrev pub pin_of : AdcTable → ℕ → Take
-pin_of d g = take_start (trio_of (rounds_of d g)) taken.Pin
+pin_of d g = take_start (trio_of (rounds_of d g)) TakePart.Pin
 
 abbrev pub pinned : AdcTable → ℕ → Phase → (value : ℕ) → Place
 pinned d g p x = pin g p (take_left (pin_of d g) x) (bank_of (x % 4))
 
 abbrev pub place_move : AdcTable → Place → Move
-place_move d (Flag w) = moves.Read (flag_register w)
+place_move d (Flag w) = Move.Read (flag_register w)
 place_move d (Looks w seen) = look_move d (word_at w (length seen))
-place_move d (Surveys w g) = moves.Load (word_number d (words.Phase g))
+place_move d (Surveys w g) = Move.Load (word_number d (Word.Phase g))
 place_move d (Seeks w r) = front_move r
 place_move d (Chooses u g r) = put_move r
 place_move d (Pins g p) = take_move (pin_of d g)
 place_move d (Reads n) = newest_move n
-place_move d (Aborts r) = moves.Read (ConverterAbort r.unit)
+place_move d (Aborts r) = Move.Read (ConverterAbort r.unit)
 place_move d (Makes m) = making_move d m
-place_move d (Quits u) = moves.Store (word_number d (words.Claim u)) 0
-place_move d (Opens o) = moves.Unmask
+place_move d (Quits u) = Move.Store (word_number d (Word.Claim u)) 0
+place_move d (Opens o) = Move.Unmask
 place_move d (Out o) = outside_move o
 
 -- what was decided, at a place
 abbrev pub follows : Place → Decided → Place × BodyTaken
-follows k (decisions.Ends t) = (k, t)
-follows k (decisions.Goes k1) = (k1, goes)
+follows k (Decided.Ends t) = (k, t)
+follows k (Decided.Goes k1) = (k1, goes)
 
 -- one more word was seen
 abbrev pub seen_more : List ℕ → ℕ → List ℕ
@@ -152,15 +116,15 @@ abbrev pub step : Option Event → BodyTaken
 step e = record { event = e; done = None }
 
 abbrev pub after_making : Option Event → WriteBatch → Continuation → Place × BodyTaken
-after_making e m (thens.Ends n) = (Makes m, record { event = e; done = Some n })
-after_making e m (thens.Goes o) = (Opens o, step e)
+after_making e m (Continuation.Ends n) = (Makes m, record { event = e; done = Some n })
+after_making e m (Continuation.Goes o) = (Opens o, step e)
 
 abbrev pub making_takes : Option Event → WriteBatch → Place × BodyTaken
 making_takes e m = if making_over m then after_making e m m.after else (Makes m, step e)
 
 -- with the mask open it begins to read a bank, or goes on so
 abbrev pub opened : AdcTable → Outside → Place
-opened d (outsides.Reads g b) = Reads (reading d g b)
+opened d (Outside.Reads g b) = Reads (reading d g b)
 opened d o = Out o
 
 -- ---- parts of a step, each at a place of its own kind

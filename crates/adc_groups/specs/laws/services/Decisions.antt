@@ -1,73 +1,25 @@
 -- What each window decides by what it has seen, and what it makes of that.
 -- From services.WriteBatchSteps.
--- Used by adc_driver: bookkeeping.WindowBounds, adc_driver: bookkeeping.MaskShut and 56 more.
+-- Used by adc_driver: bookkeeping.WindowBounds, adc_driver: bookkeeping.MaskDiscipline, services.CallSteps and 40 more.
 use Rattle.std.specs.Prelude.{ℕ, ◌+◌, ◌-◌, ◌*◌, ◌/◌, ◌==◌, ◌&&◌, ◌||◌, not, nat_lt, Bool, true, false, if◌then◌else◌, Option, Some, None, is_some, List, [], ◌∷◌, ◌++◌, length, map, slice_index_or}
-use Rattle.std.specs.List.{range_with_len}
-use Rattle.mcal_base.specs.Bits.{has_bit, bit_of}
-use Rattle.mcal_base.specs.declared.answer.Answer.{Answer}
-use Rattle.mcal_base.specs.declared.answer_name.AnswerName.{AnswerName}
-use Rattle.mcal_base.specs.declared.answer_name.AnswerName.TheVariants.{EOk, ENotOk, AdcIdle, AdcBusy, AdcCompleted, AdcStreamCompleted}
-use Rattle.mcal_base.specs.declared.error_name.ErrorName.{ErrorName}
-use Rattle.mcal_base.specs.declared.error_name.ErrorName.TheVariants as errors
-use Rattle.mcal_base.specs.declared.moves.Event.{Event}
-use Rattle.mcal_base.specs.declared.moves.Event.TheVariants as events
+use Rattle.adc_groups.specs.StepTerms
+use StepTerms.{Abort, Aborts, Adc0, Adc1, AdcBusy, AdcCompleted, AdcIdle, AdcStreamCompleted, AdcTable, add_start}
+use StepTerms.{again_start, Answer, AnswerName, Bank, bank_number, bit, bit_of, buffer_number, Chooses, Closes}
+use StepTerms.{Column, Continuation, ConverterAck, ConverterGo, ConverterList, Copied, Copies, Copying, copying}
+use StepTerms.{Counts, Decided, Disable, Done, drop_start, Ends, ends, ENotOk, entry, EOk, Epilogue, ErrorName, Event}
+use StepTerms.{following, four_from, front_start, Goes, group_in, group_of, has_bit, inputs_of, is_continuous}
+use StepTerms.{is_full, is_on, is_under_way, limited, Looks, Makes, named, Newest, next_of, next_start, no_answer}
+use StepTerms.{Nothing, numbers, one_more, Opens, order_of, Outside, owed_error, Phase, phase_in, phase_number}
+use StepTerms.{phase_read, Pins, Place, preceding, put_start, PutPart, Quits, range_with_len, rank_of, ranks_of}
+use StepTerms.{reporting, ResultBuffer, rounds_of, RoundSeen, samples_of, Seeks, Serves, Service, Set, Stage}
+use StepTerms.{StopSeen, StructureOp, Surveys, Suspended, suspends, Taken, takes_one, Tells, trigger_input}
+use StepTerms.{TriggerClear, TriggerFlags, TriggerSet, trio_of, unit_of, Window, WindowWrite, Word, WriteBatch}
+use StepTerms.{zero_null}
 use Rattle.mcal_base.specs.declared.moves.Unit as units
-use Rattle.mcal_base.specs.declared.moves.Unit.TheVariants.{Adc0, Adc1}
-use Rattle.mcal_base.specs.declared.register.Reg.TheVariants.{ConverterList, ConverterGo, ConverterAck, TriggerSet, TriggerClear, TriggerFlags}
-use Rattle.mcal_base.specs.declared.service.Service.{Service}
-use Rattle.mcal_base.specs.declared.service.Service.TheVariants as services
-use Rattle.run_model.specs.Machine.{no_answer, named, numbers}
-use Rattle.service_outline.specs.Done.{ends, owed_error}
-use Rattle.service_outline.specs.declared.done.Done.{Done}
-use Rattle.service_outline.specs.declared.done.Epilogue.{Epilogue}
-use Rattle.service_outline.specs.declared.done.Epilogue.TheVariants.{Nothing}
-use Rattle.word_shapes.specs.PriorityQueue.{add_start, again_start, drop_start, next_start, front_start}
-use Rattle.word_shapes.specs.TripleBuffer.{put_start}
-use Rattle.word_shapes.specs.declared.put.PutPart.TheVariants as puts
 use Rattle.word_shapes.specs.declared.take.Take as takes
-use Rattle.adc_stream.specs.Copying.{copying}
-use Rattle.adc_stream.specs.Rounds.{trio_of, bank_number}
-use Rattle.adc_stream.specs.Stream.{one_more, following, preceding, limited}
-use Rattle.adc_stream.specs.declared.column.Column.{Column}
 use Rattle.adc_stream.specs.declared.copying.Copied.TheVariants as copied
-use Rattle.adc_stream.specs.declared.copying.Copying.{Copying}
-use Rattle.adc_stream.specs.declared.rounds.Bank.{Bank}
-use Rattle.adc_machine.specs.Checks.{zero_null}
-use Rattle.adc_machine.specs.Groups.{inputs_of, samples_of, trigger_input, is_continuous, suspends, is_full}
-use Rattle.adc_machine.specs.Machine.{reporting, takes_one}
-use Rattle.adc_machine.specs.Configured.{unit_of, four_from, ranks_of, next_of}
-use Rattle.adc_groups.specs.Stored.{entry, order_of, rounds_of, phase_number, phase_in, is_under_way, phase_read, group_in, bit}
-use Rattle.adc_machine.specs.Table.{group_of}
-use Rattle.adc_machine.specs.Turns.{rank_of, is_on}
-use Rattle.adc_machine.specs.Words.{buffer_number}
-use Rattle.adc_groups.specs.declared.body.Decided.{Decided}
-use Rattle.adc_groups.specs.declared.body.Decided.TheVariants.{Ends, Goes}
-use Rattle.adc_groups.specs.declared.body.Place.{Place}
-use Rattle.adc_groups.specs.declared.body.Place.TheVariants.{Looks, Surveys, Seeks, Chooses, Pins, Aborts, Makes, Quits, Opens}
-use Rattle.adc_machine.specs.declared.call.ResultBuffer.{ResultBuffer}
-use Rattle.adc_machine.specs.declared.table.AdcTable.{AdcTable}
-use Rattle.adc_groups.specs.declared.making.WindowWrite.{WindowWrite}
-use Rattle.adc_groups.specs.declared.making.WindowWrite.TheVariants.{Set, Write, Abort, Disable}
-use Rattle.adc_groups.specs.declared.making.WriteBatch.{WriteBatch}
-use Rattle.adc_groups.specs.declared.making.StructureOp.{StructureOp}
-use Rattle.adc_groups.specs.declared.making.StructureOp.TheVariants as shapes
-use Rattle.adc_groups.specs.declared.making.Continuation.{Continuation}
-use Rattle.adc_groups.specs.declared.making.Continuation.TheVariants as thens
-use Rattle.adc_groups.specs.declared.outside.Copied.{Copied}
-use Rattle.adc_groups.specs.declared.outside.Copied.TheVariants.{Serves, Tells}
-use Rattle.adc_groups.specs.declared.outside.Outside.{Outside}
-use Rattle.adc_groups.specs.declared.outside.Outside.TheVariants.{Copies, Counts, Reads, Closes}
-use Rattle.adc_groups.specs.declared.outside.Suspended.{Suspended}
-use Rattle.adc_groups.specs.declared.outside.Taken.{Taken}
-use Rattle.adc_groups.specs.declared.service.read.Newest.{Newest}
-use Rattle.adc_groups.specs.declared.service.read.Stage.TheVariants as stages
-use Rattle.adc_groups.specs.declared.service.serve.RoundSeen.{RoundSeen}
-use Rattle.adc_groups.specs.declared.service.stop.StopSeen.{StopSeen}
-use Rattle.adc_groups.specs.declared.window.Window.{Window}
-use Rattle.adc_groups.specs.declared.window.Window.TheVariants as windows
-use Rattle.adc_groups.specs.declared.words.Phase.{Phase}
-use Rattle.adc_groups.specs.declared.words.Phase.TheVariants as phases
-use Rattle.adc_groups.specs.declared.words.Word.TheVariants as words
+use Rattle.adc_groups.specs.declared.making.WindowWrite.TheVariants.{Write}
+use Rattle.adc_groups.specs.declared.outside.Outside.TheVariants.{Reads}
 use Rattle.adc_groups.specs.laws.services.WriteBatchSteps.{making}
 
 -- ---- ends and ways on
@@ -76,21 +28,21 @@ abbrev pub over : Decided
 over = Ends (ends None no_answer Nothing)
 
 abbrev pub acts_and_ends : Answer → Epilogue → Decided
-acts_and_ends a w = Ends (ends (Some events.Act) a w)
+acts_and_ends a w = Ends (ends (Some Event.Act) a w)
 
 abbrev pub looking : Window → Place
 looking w = Looks w []
 
 -- a call that looks at these words has only loaded words so far
 abbrev pub clean_in : Window → Bool
-clean_in windows.Close = true
-clean_in (windows.Setup g b) = true
-clean_in (windows.Status g) = true
-clean_in (windows.Point g) = true
-clean_in (windows.Read g) = true
-clean_in (windows.Start g) = true
-clean_in (windows.Enable g) = true
-clean_in (windows.Stop u g) = true
+clean_in Window.Close = true
+clean_in (Window.Setup g b) = true
+clean_in (Window.Status g) = true
+clean_in (Window.Point g) = true
+clean_in (Window.Read g) = true
+clean_in (Window.Start g) = true
+clean_in (Window.Enable g) = true
+clean_in (Window.Stop u g) = true
 clean_in w = false
 
 -- a window after one that wasn't a call's first
@@ -104,7 +56,7 @@ abbrev pub done : Answer → Done
 done a = record { answer = a; owed = Nothing }
 
 abbrev pub nothing_more : Continuation
-nothing_more = thens.Ends (done no_answer)
+nothing_more = Continuation.Ends (done no_answer)
 
 abbrev pub owed : AdcTable → Service → ErrorName → Epilogue
 owed d service name = owed_error (reporting d) service name
@@ -113,36 +65,36 @@ owed d service name = owed_error (reporting d) service name
 
 -- one deed, at which a call acts, and with which it is done
 abbrev pub change : WindowWrite → Answer → Place
-change x a = Makes (making (Some events.Act) (x ∷ []) (thens.Ends (done a)))
+change x a = Makes (making (Some Event.Act) (x ∷ []) (Continuation.Ends (done a)))
 
 abbrev pub set_up : AdcTable → ℕ → ResultBuffer → (phase : ℕ) → Decided
-set_up d g b p = if p == 0 then Goes (change (Set (words.Chosen g) (1 + buffer_number b)) (named EOk)) else acts_and_ends (named ENotOk) (owed d services.AdcSetupResultBuffer errors.AdcBusy)
+set_up d g b p = if p == 0 then Goes (change (Set (Word.Chosen g) (1 + buffer_number b)) (named EOk)) else acts_and_ends (named ENotOk) (owed d Service.AdcSetupResultBuffer ErrorName.AdcBusy)
 
 abbrev pub notify : ℕ → Bool → Place
-notify g on = change (Set (words.Notified g) (bit_of on)) no_answer
+notify g on = change (Set (Word.Notified g) (bit_of on)) no_answer
 
 abbrev pub name_of : Phase → AnswerName
-name_of phases.Idle = AdcIdle
-name_of phases.Busy = AdcBusy
-name_of phases.Completed = AdcCompleted
-name_of phases.Streaming = AdcStreamCompleted
-name_of phases.Ended = AdcStreamCompleted
+name_of Phase.Idle = AdcIdle
+name_of Phase.Busy = AdcBusy
+name_of Phase.Completed = AdcCompleted
+name_of Phase.Streaming = AdcStreamCompleted
+name_of Phase.Ended = AdcStreamCompleted
 
 abbrev pub status : (phase : ℕ) → Decided
 status p = acts_and_ends (named (name_of (phase_in p))) Nothing
 
 -- after the newest round was asked for
 abbrev pub point_by : AdcTable → ℕ → (count place : ℕ) → Phase → Decided
-point_by d g c p phases.Idle = acts_and_ends zero_null (owed d services.AdcGetStreamLastPointer errors.AdcIdle)
-point_by d g c p phases.Busy = acts_and_ends zero_null Nothing
-point_by d g c p x = Goes (change (Set (words.Phase g) (phase_number (phase_read x))) (numbers (c ∷ preceding p (samples_of (group_of d g)) ∷ [])))
+point_by d g c p Phase.Idle = acts_and_ends zero_null (owed d Service.AdcGetStreamLastPointer ErrorName.AdcIdle)
+point_by d g c p Phase.Busy = acts_and_ends zero_null Nothing
+point_by d g c p x = Goes (change (Set (Word.Phase g) (phase_number (phase_read x))) (numbers (c ∷ preceding p (samples_of (group_of d g)) ∷ [])))
 
 abbrev pub point : AdcTable → ℕ → (phase count place : ℕ) → Decided
 point d g x c p = point_by d g c p (phase_in x)
 
 abbrev pub read_by : AdcTable → ℕ → Phase → Decided
-read_by d g phases.Idle = acts_and_ends (named ENotOk) (owed d services.AdcReadGroup errors.AdcIdle)
-read_by d g phases.Busy = acts_and_ends (named ENotOk) Nothing
+read_by d g Phase.Idle = acts_and_ends (named ENotOk) (owed d Service.AdcReadGroup ErrorName.AdcIdle)
+read_by d g Phase.Busy = acts_and_ends (named ENotOk) Nothing
 read_by d g x = Goes (Pins g (phase_read x))
 
 abbrev pub read : AdcTable → ℕ → (phase : ℕ) → Decided
@@ -150,20 +102,20 @@ read d g p = read_by d g (phase_in p)
 
 -- it acts, and pins a bank
 abbrev pub pin : ℕ → Phase → takes.Take → Bank → Place
-pin g x r b = Makes (record (making (Some events.Act) (Set (words.Phase g) (phase_number x) ∷ []) (thens.Goes (Reads g b))) { banks = Some (shapes.Take r) })
+pin g x r b = Makes (record (making (Some Event.Act) (Set (Word.Phase g) (phase_number x) ∷ []) (Continuation.Goes (Reads g b))) { banks = Some (StructureOp.Take r) })
 
 abbrev pub reading : AdcTable → ℕ → Bank → Newest
-reading d g b = record { group = g; reading = record { rounds = rounds_of d g; bank = b; values = [] }; stage = stages.Reads }
+reading d g b = record { group = g; reading = record { rounds = rounds_of d g; bank = b; values = [] }; stage = Stage.Reads }
 
 -- ---- requests
 
 -- what follows a new request on a unit
 abbrev pub after_request : AdcTable → ℕ → Continuation
-after_request d u = thens.Goes (Closes (if d.priorities then windows.Yield u else windows.Begin u))
+after_request d u = Continuation.Goes (Closes (if d.priorities then Window.Yield u else Window.Begin u))
 
 -- a group begins a stream and makes a request, or has its trigger switched on; and the module is uninitialised
 abbrev pub start : AdcTable → ℕ → WriteBatch
-start d g = record (making (Some events.Act) (Set (words.Phase g) 1 ∷ Set (words.Count g) 0 ∷ Set (words.Place g) 0 ∷ Set (words.Kept g) 0 ∷ Set (words.Turn g) 1 ∷ []) (after_request d (unit_of (group_of d g)))) { order = Some (shapes.Add (add_start (order_of (unit_of (group_of d g))) (entry g))) }
+start d g = record (making (Some Event.Act) (Set (Word.Phase g) 1 ∷ Set (Word.Count g) 0 ∷ Set (Word.Place g) 0 ∷ Set (Word.Kept g) 0 ∷ Set (Word.Turn g) 1 ∷ []) (after_request d (unit_of (group_of d g)))) { order = Some (StructureOp.Add (add_start (order_of (unit_of (group_of d g))) (entry g))) }
 
 abbrev pub bit_of_trigger : Option ℕ → ℕ
 bit_of_trigger None = 0
@@ -173,29 +125,29 @@ abbrev pub trigger_bit : AdcTable → ℕ → ℕ
 trigger_bit d g = bit_of_trigger (trigger_input (group_of d g))
 
 abbrev pub enable : AdcTable → ℕ → WriteBatch
-enable d g = making (Some events.Act) (Write TriggerSet (trigger_bit d g) ∷ Set (words.Phase g) 1 ∷ Set (words.Count g) 0 ∷ Set (words.Place g) 0 ∷ []) nothing_more
+enable d g = making (Some Event.Act) (Write TriggerSet (trigger_bit d g) ∷ Set (Word.Phase g) 1 ∷ Set (Word.Count g) 0 ∷ Set (Word.Place g) 0 ∷ []) nothing_more
 
 abbrev pub close : WriteBatch
-close = making (Some events.Act) (Set words.State 0 ∷ Disable ∷ []) nothing_more
+close = making (Some Event.Act) (Set Word.State 0 ∷ Disable ∷ []) nothing_more
 
 -- a call goes on without an error
 abbrev pub begin : AdcTable → Window → Place
-begin d (windows.Start g) = Makes (start d g)
-begin d (windows.Enable g) = Makes (enable d g)
+begin d (Window.Start g) = Makes (start d g)
+begin d (Window.Enable g) = Makes (enable d g)
 begin d w = Makes close
 
 abbrev pub service_in : Window → Service
-service_in windows.Close = services.AdcDeInit
-service_in (windows.Enable g) = services.AdcEnableHardwareTrigger
-service_in w = services.AdcStartGroupConversion
+service_in Window.Close = Service.AdcDeInit
+service_in (Window.Enable g) = Service.AdcEnableHardwareTrigger
+service_in w = Service.AdcStartGroupConversion
 
 abbrev pub refused : AdcTable → Window → ErrorName → Decided
 refused d w e = acts_and_ends no_answer (owed d (service_in w) e)
 
 -- the unit whose groups must not be under way, none where it is all groups
 abbrev pub unit_in : AdcTable → Window → Option ℕ
-unit_in d (windows.Start g) = Some (unit_of (group_of d g))
-unit_in d (windows.Enable g) = Some (unit_of (group_of d g))
+unit_in d (Window.Start g) = Some (unit_of (group_of d g))
+unit_in d (Window.Enable g) = Some (unit_of (group_of d g))
 unit_in d w = None
 
 abbrev pub survey_by : AdcTable → Window → Option ℕ → Place
@@ -206,15 +158,15 @@ abbrev pub survey : AdcTable → Window → (from : ℕ) → Place
 survey d w g = survey_by d w (next_of d (unit_in d w) g)
 
 abbrev pub surveyed : AdcTable → Window → (group phase : ℕ) → Decided
-surveyed d w g p = if is_under_way (phase_in p) then refused d w errors.AdcBusy else Goes (survey d w (g + 1))
+surveyed d w g p = if is_under_way (phase_in p) then refused d w ErrorName.AdcBusy else Goes (survey d w (g + 1))
 
 abbrev pub looked : AdcTable → Window → (chosen phase : ℕ) → Decided
-looked d w c p = if c == 0 then refused d w errors.AdcBufferUninit else (if is_under_way (phase_in p) then refused d w errors.AdcBusy else Goes (if takes_one d then survey d w 0 else begin d w))
+looked d w c p = if c == 0 then refused d w ErrorName.AdcBufferUninit else (if is_under_way (phase_in p) then refused d w ErrorName.AdcBusy else Goes (if takes_one d then survey d w 0 else begin d w))
 
 -- a pulse is served
 abbrev pub pulse_by : AdcTable → (input group : ℕ) → Bool → WriteBatch
-pulse_by d i g true = making (Some (events.Serve (28 + i))) (Write TriggerFlags (bit i) ∷ []) nothing_more
-pulse_by d i g false = record (making (Some (events.Serve (28 + i))) (Write TriggerFlags (bit i) ∷ Set (words.Kept g) 0 ∷ Set (words.Turn g) 1 ∷ []) (after_request d (unit_of (group_of d g)))) { order = Some (shapes.Add (add_start (order_of (unit_of (group_of d g))) (entry g))) }
+pulse_by d i g true = making (Some (Event.Serve (28 + i))) (Write TriggerFlags (bit i) ∷ []) nothing_more
+pulse_by d i g false = record (making (Some (Event.Serve (28 + i))) (Write TriggerFlags (bit i) ∷ Set (Word.Kept g) 0 ∷ Set (Word.Turn g) 1 ∷ []) (after_request d (unit_of (group_of d g)))) { order = Some (StructureOp.Add (add_start (order_of (unit_of (group_of d g))) (entry g))) }
 
 abbrev pub pulse : AdcTable → (input group turn : ℕ) → Decided
 pulse d i g t = makes (pulse_by d i g (t == 1))
@@ -231,31 +183,31 @@ off_where false v = []
 
 -- the unit's round is taken away, and a claim is no more one that keeps values of this group
 abbrev pub taken_away : Bool → ℕ → List WindowWrite
-taken_away true u = Abort u ∷ Write (ConverterAck u) 1 ∷ Set (words.Running u) 0 ∷ []
+taken_away true u = Abort u ∷ Write (ConverterAck u) 1 ∷ Set (Word.Running u) 0 ∷ []
 taken_away false u = []
 
 abbrev pub claim_lost : Bool → ℕ → List WindowWrite
-claim_lost true u = Set (words.Claim u) 1 ∷ []
+claim_lost true u = Set (Word.Claim u) 1 ∷ []
 claim_lost false u = []
 
 abbrev pub quieted : AdcTable → ℕ → List WindowWrite
-quieted d g = Set (words.Phase g) 0 ∷ Set (words.Notified g) 0 ∷ off_where (is_some (trigger_input (group_of d g))) (trigger_bit d g)
+quieted d g = Set (Word.Phase g) 0 ∷ Set (Word.Notified g) 0 ∷ off_where (is_some (trigger_input (group_of d g))) (trigger_bit d g)
 
 abbrev pub stop_by : AdcTable → (unit group : ℕ) → (run lost : Bool) → WriteBatch
-stop_by d u g run lost = record (making (Some events.Act) (quieted d g ++ (taken_away run u ++ (claim_lost lost u ++ Set (words.Turn g) 0 ∷ []))) (thens.Goes (Closes (windows.Begin u)))) { order = Some (shapes.Drop (drop_start (order_of u) (entry g))) }
+stop_by d u g run lost = record (making (Some Event.Act) (quieted d g ++ (taken_away run u ++ (claim_lost lost u ++ Set (Word.Turn g) 0 ∷ []))) (Continuation.Goes (Closes (Window.Begin u)))) { order = Some (StructureOp.Drop (drop_start (order_of u) (entry g))) }
 
 abbrev pub stop_turn : AdcTable → (unit group : ℕ) → StopSeen → WriteBatch
 stop_turn d u g x = stop_by d u g (x.running == 1 + g) (x.claim == 2 + g)
 
 abbrev pub stopping : AdcTable → (unit group : ℕ) → StopSeen → WriteBatch
-stopping d u g x = if x.turn == 0 then making (Some events.Act) (quieted d g) nothing_more else stop_turn d u g x
+stopping d u g x = if x.turn == 0 then making (Some Event.Act) (quieted d g) nothing_more else stop_turn d u g x
 
 abbrev pub stop_service : Bool → Service
-stop_service true = services.AdcDisableHardwareTrigger
-stop_service false = services.AdcStopGroupConversion
+stop_service true = Service.AdcDisableHardwareTrigger
+stop_service false = Service.AdcStopGroupConversion
 
 abbrev pub stop : AdcTable → (unit group : ℕ) → StopSeen → Decided
-stop d u g x = if x.phase == 0 then acts_and_ends no_answer (owed d (stop_service (is_some (trigger_input (group_of d g)))) errors.AdcIdle) else makes (stopping d u g x)
+stop d u g x = if x.phase == 0 then acts_and_ends no_answer (owed d (stop_service (is_some (trigger_input (group_of d g)))) ErrorName.AdcIdle) else makes (stopping d u g x)
 
 -- ---- aborts and starts
 
@@ -263,26 +215,26 @@ abbrev pub unit_named : ℕ → units.Unit
 unit_named u = if u == 0 then Adc0 else Adc1
 
 abbrev pub begins_next : ℕ → Place
-begins_next u = Opens (Closes (windows.Begin u))
+begins_next u = Opens (Closes (Window.Begin u))
 
 abbrev pub yields_by : AdcTable → ℕ → (claim : ℕ) → Option ℕ → Place
 yields_by d u c None = begins_next u
-yields_by d u c (Some g) = if c == 0 then Seeks (windows.Suspend u g) (front_start (order_of u) (ranks_of d)) else begins_next u
+yields_by d u c (Some g) = if c == 0 then Seeks (Window.Suspend u g) (front_start (order_of u) (ranks_of d)) else begins_next u
 
 abbrev pub yields : AdcTable → ℕ → (running claim : ℕ) → Decided
 yields d u r c = Goes (yields_by d u c (group_in r))
 
 abbrev pub begins : AdcTable → ℕ → (running claim : ℕ) → Decided
-begins d u r c = if r == 0 && c == 0 then Goes (Seeks (windows.Begin u) (front_start (order_of u) (ranks_of d))) else over
+begins d u r c = if r == 0 && c == 0 then Goes (Seeks (Window.Begin u) (front_start (order_of u) (ranks_of d))) else over
 
 -- the claim of a frame ends where nothing waits, or with a start
 abbrev pub leaves : AdcTable → ℕ → Decided
-leaves d u = Goes (Seeks (windows.Leave u) (front_start (order_of u) (ranks_of d)))
+leaves d u = Goes (Seeks (Window.Leave u) (front_start (order_of u) (ranks_of d)))
 
 abbrev pub sought : AdcTable → Window → (first : ℕ) → Decided
-sought d (windows.Suspend u g) x = Goes (if nat_lt x 16 && nat_lt (rank_of d g) (rank_of d x) then looking (windows.Suspend u g) else begins_next u)
-sought d (windows.Begin u) x = if nat_lt x 16 then Goes (looking (windows.Convert u x false)) else over
-sought d (windows.Leave u) x = if nat_lt x 16 then Goes (looking (windows.Convert u x true)) else Goes (Quits u)
+sought d (Window.Suspend u g) x = Goes (if nat_lt x 16 && nat_lt (rank_of d g) (rank_of d x) then looking (Window.Suspend u g) else begins_next u)
+sought d (Window.Begin u) x = if nat_lt x 16 then Goes (looking (Window.Convert u x false)) else over
+sought d (Window.Leave u) x = if nat_lt x 16 then Goes (looking (Window.Convert u x true)) else Goes (Quits u)
 sought d w x = over
 
 abbrev pub aborts : (unit group kept : ℕ) → Decided
@@ -290,18 +242,18 @@ aborts u g e = Goes (Aborts (record { unit = u; group = g; kept = limited e 32 }
 
 -- the round was aborted: its group waits again, and where it suspends the frame claims the unit
 abbrev pub aborted_by : Suspended → Bool → WriteBatch
-aborted_by r true = record (making None (Set (words.Running r.unit) 0 ∷ Set (words.Claim r.unit) (2 + r.group) ∷ []) (thens.Goes (Counts r))) { order = Some (shapes.Again (again_start (order_of r.unit) (entry r.group))) }
-aborted_by r false = record (making None (Set (words.Running r.unit) 0 ∷ []) (thens.Goes (Closes (windows.Begin r.unit)))) { order = Some (shapes.Again (again_start (order_of r.unit) (entry r.group))) }
+aborted_by r true = record (making None (Set (Word.Running r.unit) 0 ∷ Set (Word.Claim r.unit) (2 + r.group) ∷ []) (Continuation.Goes (Counts r))) { order = Some (StructureOp.Again (again_start (order_of r.unit) (entry r.group))) }
+aborted_by r false = record (making None (Set (Word.Running r.unit) 0 ∷ []) (Continuation.Goes (Closes (Window.Begin r.unit)))) { order = Some (StructureOp.Again (again_start (order_of r.unit) (entry r.group))) }
 
 abbrev pub aborted : AdcTable → Suspended → (value : ℕ) → Option Event × Place
-aborted d r x = if x == 1 then (Some (events.Abort (unit_named r.unit)), Makes (aborted_by r (suspends (group_of d r.group)))) else (None, begins_next r.unit)
+aborted d r x = if x == 1 then (Some (Event.Abort (unit_named r.unit)), Makes (aborted_by r (suspends (group_of d r.group)))) else (None, begins_next r.unit)
 
 abbrev pub kept_where : Bool → Suspended → List WindowWrite
-kept_where true r = Set (words.Kept r.group) r.kept ∷ []
+kept_where true r = Set (Word.Kept r.group) r.kept ∷ []
 kept_where false r = []
 
 abbrev pub keep : Suspended → (claim : ℕ) → Decided
-keep r c = makes (making None (kept_where (c == 2 + r.group) r ++ Set (words.Claim r.unit) 0 ∷ []) (thens.Goes (Closes (windows.Begin r.unit))))
+keep r c = makes (making None (kept_where (c == 2 + r.group) r ++ Set (Word.Claim r.unit) 0 ∷ []) (Continuation.Goes (Closes (Window.Begin r.unit))))
 
 -- the inputs that are left, and the list registers that take them
 abbrev pub list_deed : AdcTable → (unit group kept at : ℕ) → WindowWrite
@@ -313,11 +265,11 @@ lists_for left = (left + 3) / 4
 
 -- the unit is started at the last move, and the words say so before
 abbrev pub claim_ended : Bool → ℕ → List WindowWrite
-claim_ended true u = Set (words.Claim u) 0 ∷ []
+claim_ended true u = Set (Word.Claim u) 0 ∷ []
 claim_ended false u = []
 
 abbrev pub start_deeds : AdcTable → (unit group kept left : ℕ) → (claimed : Bool) → List WindowWrite
-start_deeds d u g e left c = map (list_deed d u g e) (range_with_len 0 (lists_for left)) ++ (Set (words.Running u) (1 + g) ∷ claim_ended c u ++ Write (ConverterGo u) left ∷ [])
+start_deeds d u g e left c = map (list_deed d u g e) (range_with_len 0 (lists_for left)) ++ (Set (Word.Running u) (1 + g) ∷ claim_ended c u ++ Write (ConverterGo u) left ∷ [])
 
 -- so many moves come before the start
 abbrev pub moves_ahead : (left : ℕ) → (claimed : Bool) → ℕ
@@ -325,7 +277,7 @@ moves_ahead left true = lists_for left + 2
 moves_ahead left false = lists_for left + 1
 
 abbrev pub conversion : AdcTable → (unit group kept left : ℕ) → (claimed : Bool) → WriteBatch
-conversion d u g e left c = record (making (Some (events.Start (unit_named u))) (start_deeds d u g e left c) nothing_more) { ahead = moves_ahead left c; order = Some (shapes.Next (next_start (order_of u) (ranks_of d))) }
+conversion d u g e left c = record (making (Some (Event.Start (unit_named u))) (start_deeds d u g e left c) nothing_more) { ahead = moves_ahead left c; order = Some (StructureOp.Next (next_start (order_of u) (ranks_of d))) }
 
 abbrev pub convert : AdcTable → (unit group : ℕ) → (claimed : Bool) → (kept : ℕ) → Decided
 convert d u g c e = let k = length (inputs_of (group_of d g)) in makes (conversion d u g (limited e k) (k - limited e k) c)
@@ -334,57 +286,57 @@ convert d u g c e = let k = length (inputs_of (group_of d g)) in makes (conversi
 
 abbrev pub take_by : AdcTable → ℕ → Option ℕ → Decided
 take_by d u None = over
-take_by d u (Some g) = if is_on u (group_of d g) then Goes (Chooses u g (put_start (trio_of (rounds_of d g)) puts.Choose)) else over
+take_by d u (Some g) = if is_on u (group_of d g) then Goes (Chooses u g (put_start (trio_of (rounds_of d g)) PutPart.Choose)) else over
 
 abbrev pub take : AdcTable → ℕ → (running : ℕ) → Decided
 take d u r = take_by d u (group_in r)
 
 abbrev pub chosen : (unit group : ℕ) → Bank → Decided
-chosen u g b = Goes (looking (windows.Claim (record { unit = u; group = g; bank = b })))
+chosen u g b = Goes (looking (Window.Claim (record { unit = u; group = g; bank = b })))
 
 abbrev pub copies_or : Option Copying → Copied → Outside → Outside
 copies_or None a o = o
 copies_or (Some c) a o = Copies c a
 
 abbrev pub claim : AdcTable → Taken → (kept : ℕ) → Decided
-claim d t e = makes (making None (Set (words.Claim t.unit) 1 ∷ []) (thens.Goes (copies_or (copying (copied.Round (rounds_of d t.group) t.unit (limited e 32) t.bank)) (Serves t) (Closes (windows.Serve t)))))
+claim d t e = makes (making None (Set (Word.Claim t.unit) 1 ∷ []) (Continuation.Goes (copies_or (copying (copied.Round (rounds_of d t.group) t.unit (limited e 32) t.bank)) (Serves t) (Closes (Window.Serve t)))))
 
 -- the phase after a round
 abbrev pub phase_on : (goes_on : Bool) → Phase
-phase_on true = phases.Streaming
-phase_on false = phases.Ended
+phase_on true = Phase.Streaming
+phase_on false = Phase.Ended
 
 abbrev pub is_streamed : Phase → Bool
-is_streamed phases.Streaming = true
-is_streamed phases.Ended = true
+is_streamed Phase.Streaming = true
+is_streamed Phase.Ended = true
 is_streamed _ = false
 
 abbrev pub phase_after : AdcTable → ℕ → RoundSeen → (full : Bool) → Phase
 phase_after d g x full =
     if following x.place (samples_of (group_of d g)) == 0 || is_streamed (phase_in x.phase)
     then phase_on ((is_continuous (group_of d g) || is_some (trigger_input (group_of d g))) && not full)
-    else phases.Completed
+    else Phase.Completed
 
 -- the round is copied to the user's buffer that was chosen at the serving
 abbrev pub column_of : AdcTable → ℕ → RoundSeen → Column
 column_of d g x = record { group = g; second = x.chosen == 2; samples = samples_of (group_of d g); place = limited x.place 64 }
 
 abbrev pub stores : AdcTable → Taken → RoundSeen → Outside
-stores d t x = copies_or (copying (copied.Bank (rounds_of d t.group) t.bank (column_of d t.group x))) (Tells t.unit t.group (x.notified == 1)) (Closes (windows.Begin t.unit))
+stores d t x = copies_or (copying (copied.Bank (rounds_of d t.group) t.bank (column_of d t.group x))) (Tells t.unit t.group (x.notified == 1)) (Closes (Window.Begin t.unit))
 
 -- what comes of the turn
 abbrev pub turn_deed : ℕ → (again : Bool) → WindowWrite
-turn_deed g true = Set (words.Kept g) 0
-turn_deed g false = Set (words.Turn g) 0
+turn_deed g true = Set (Word.Kept g) 0
+turn_deed g false = Set (Word.Turn g) 0
 
 abbrev pub turn_shape : (unit group : ℕ) → (again : Bool) → StructureOp
-turn_shape u g true = shapes.Again (again_start (order_of u) (entry g))
-turn_shape u g false = shapes.Drop (drop_start (order_of u) (entry g))
+turn_shape u g true = StructureOp.Again (again_start (order_of u) (entry g))
+turn_shape u g false = StructureOp.Drop (drop_start (order_of u) (entry g))
 
 abbrev pub serving : AdcTable → Taken → RoundSeen → (count : ℕ) → (full : Bool) → WriteBatch
 serving d t x c full =
     let again = is_continuous (group_of d t.group) && not full in
-    record (making (Some (events.Serve (24 + t.unit))) (Write (ConverterAck t.unit) 1 ∷ Set (words.Running t.unit) 0 ∷ Set (words.Count t.group) c ∷ Set (words.Place t.group) (following x.place (samples_of (group_of d t.group))) ∷ Set (words.Phase t.group) (phase_number (phase_after d t.group x full)) ∷ turn_deed t.group again ∷ (off_where (full && is_some (trigger_input (group_of d t.group))) (trigger_bit d t.group) ++ Set (words.Claim t.unit) 0 ∷ [])) (thens.Goes (stores d t x))) { order = Some (turn_shape t.unit t.group again); banks = Some (shapes.Put (put_start (trio_of (rounds_of d t.group)) (puts.Commit (bank_number t.bank)))) }
+    record (making (Some (Event.Serve (24 + t.unit))) (Write (ConverterAck t.unit) 1 ∷ Set (Word.Running t.unit) 0 ∷ Set (Word.Count t.group) c ∷ Set (Word.Place t.group) (following x.place (samples_of (group_of d t.group))) ∷ Set (Word.Phase t.group) (phase_number (phase_after d t.group x full)) ∷ turn_deed t.group again ∷ (off_where (full && is_some (trigger_input (group_of d t.group))) (trigger_bit d t.group) ++ Set (Word.Claim t.unit) 0 ∷ [])) (Continuation.Goes (stores d t x))) { order = Some (turn_shape t.unit t.group again); banks = Some (StructureOp.Put (put_start (trio_of (rounds_of d t.group)) (PutPart.Commit (bank_number t.bank)))) }
 
 abbrev pub serve : AdcTable → Taken → RoundSeen → Decided
 serve d t x = if x.running == 0 then leaves d t.unit else (let c = one_more x.count (samples_of (group_of d t.group)) in makes (serving d t x c (is_full (group_of d t.group) c)))
@@ -402,28 +354,28 @@ abbrev pub round_seen : List ℕ → RoundSeen
 round_seen seen = record { running = word_seen seen 0; phase = word_seen seen 1; count = word_seen seen 2; place = word_seen seen 3; chosen = word_seen seen 4; notified = word_seen seen 5 }
 
 abbrev pub decided : AdcTable → Window → List ℕ → Decided
-decided d (windows.Setup g b) seen = set_up d g b (word_seen seen 0)
-decided d (windows.Status g) seen = status (word_seen seen 0)
-decided d (windows.Point g) seen = point d g (word_seen seen 0) (word_seen seen 1) (word_seen seen 2)
-decided d (windows.Read g) seen = read d g (word_seen seen 0)
-decided d (windows.Start g) seen = looked d (windows.Start g) (word_seen seen 0) (word_seen seen 1)
-decided d (windows.Enable g) seen = looked d (windows.Enable g) (word_seen seen 0) (word_seen seen 1)
-decided d (windows.Stop u g) seen = stop d u g (stop_seen seen)
-decided d (windows.Yield u) seen = yields d u (word_seen seen 0) (word_seen seen 1)
-decided d (windows.Suspend u g) seen = aborts u g (word_seen seen 0)
-decided d (windows.Keep r) seen = keep r (word_seen seen 0)
-decided d (windows.Begin u) seen = begins d u (word_seen seen 0) (word_seen seen 1)
-decided d (windows.Convert u g c) seen = convert d u g c (word_seen seen 0)
-decided d (windows.Take u) seen = take d u (word_seen seen 0)
-decided d (windows.Claim t) seen = claim d t (word_seen seen 0)
-decided d (windows.Serve t) seen = serve d t (round_seen seen)
-decided d (windows.Trigger i g) seen = pulse d i g (word_seen seen 0)
-decided d windows.Close seen = over
-decided d (windows.Leave u) seen = over
+decided d (Window.Setup g b) seen = set_up d g b (word_seen seen 0)
+decided d (Window.Status g) seen = status (word_seen seen 0)
+decided d (Window.Point g) seen = point d g (word_seen seen 0) (word_seen seen 1) (word_seen seen 2)
+decided d (Window.Read g) seen = read d g (word_seen seen 0)
+decided d (Window.Start g) seen = looked d (Window.Start g) (word_seen seen 0) (word_seen seen 1)
+decided d (Window.Enable g) seen = looked d (Window.Enable g) (word_seen seen 0) (word_seen seen 1)
+decided d (Window.Stop u g) seen = stop d u g (stop_seen seen)
+decided d (Window.Yield u) seen = yields d u (word_seen seen 0) (word_seen seen 1)
+decided d (Window.Suspend u g) seen = aborts u g (word_seen seen 0)
+decided d (Window.Keep r) seen = keep r (word_seen seen 0)
+decided d (Window.Begin u) seen = begins d u (word_seen seen 0) (word_seen seen 1)
+decided d (Window.Convert u g c) seen = convert d u g c (word_seen seen 0)
+decided d (Window.Take u) seen = take d u (word_seen seen 0)
+decided d (Window.Claim t) seen = claim d t (word_seen seen 0)
+decided d (Window.Serve t) seen = serve d t (round_seen seen)
+decided d (Window.Trigger i g) seen = pulse d i g (word_seen seen 0)
+decided d Window.Close seen = over
+decided d (Window.Leave u) seen = over
 
 -- a register tells whether the line is ready
 abbrev pub is_ready : Window → ℕ → Bool
-is_ready (windows.Trigger i g) v = has_bit v i
+is_ready (Window.Trigger i g) v = has_bit v i
 is_ready w v = v == 2
 
 abbrev pub flagged : Window → ℕ → Decided

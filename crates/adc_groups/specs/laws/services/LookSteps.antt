@@ -1,35 +1,15 @@
 -- What the load of the state word decides for a call, and where it goes on.
 -- From services.Decisions, services.BodySteps.
--- Used by adc_driver: services.BeginSteps, adc_driver: bookkeeping.Joined, adc_driver: bookkeeping.Lawful and 9 more.
+-- Used by adc_driver: services.BeginSteps, adc_driver: bookkeeping.Joined, adc_driver: bookkeeping.Lawful and 7 more.
 use Rattle.std.specs.Prelude.{ℕ, ◌==◌, not, nat_lt, Bool, false, if◌then◌else◌, Option, Some, None, is_some, List}
-use Rattle.mcal_base.specs.declared.error_name.ErrorName.{ErrorName}
-use Rattle.mcal_base.specs.declared.answer.Answer.{Answer}
-use Rattle.det_errors.specs.Rows.{first_error}
-use Rattle.service_outline.specs.Done.{owed_error}
-use Rattle.service_outline.specs.declared.body.Looked.{Looked}
-use Rattle.service_outline.specs.declared.body.Looked.TheVariants as lookeds
-use Rattle.service_outline.specs.declared.body.Or.{Or}
-use Rattle.service_outline.specs.declared.body.Or.TheVariants.{First, Second}
-use Rattle.service_outline.specs.declared.done.Done.{Done}
+use Rattle.adc_groups.specs.StepTerms
+use StepTerms.{AdcBody, AdcTable, Answer, answer_refused, Asked, Call, Circumstances, DeInit, Done, ErrorName}
+use StepTerms.{facts_by, First, first_error, Group, group_of, GroupCall, has_notification, Init, InitBody}
+use StepTerms.{is_triggered, Looked, Or, owed_error, Place, reporting, ResultBuffer, Second, service_of, Setup, Sweep}
+use StepTerms.{unit_of, Window}
 use Rattle.service_outline.specs.declared.sweep.SweepStage.TheVariants.{Opens}
-use Rattle.service_outline.specs.declared.sweep.Sweep.{Sweep}
-use Rattle.adc_machine.specs.Checks.{Circumstances, service_of, facts_by, answer_refused, is_triggered, has_notification}
-use Rattle.adc_machine.specs.Machine.{reporting}
-use Rattle.adc_machine.specs.Configured.{unit_of}
-use Rattle.adc_machine.specs.Table.{group_of}
-use Rattle.adc_groups.specs.declared.asked.Asked.{Asked}
-use Rattle.adc_groups.specs.declared.body.AdcBody.{AdcBody}
-use Rattle.adc_groups.specs.declared.body.Place.{Place}
-use Rattle.adc_machine.specs.declared.call.Call.{Call}
-use Rattle.adc_machine.specs.declared.call.Call.TheVariants.{Init, DeInit, Group}
-use Rattle.adc_machine.specs.declared.call.GroupCall.{GroupCall}
-use Rattle.adc_machine.specs.declared.call.GroupCall.TheVariants as groups
-use Rattle.adc_machine.specs.declared.call.ResultBuffer.{ResultBuffer}
+use Rattle.service_outline.specs.declared.body.Looked.TheVariants as lookeds
 use Rattle.adc_machine.specs.declared.table.Group as configured
-use Rattle.adc_machine.specs.declared.table.AdcTable.{AdcTable}
-use Rattle.adc_groups.specs.declared.service.module.InitBody.{InitBody}
-use Rattle.adc_groups.specs.declared.service.module.Setup.{Setup}
-use Rattle.adc_groups.specs.declared.window.Window.TheVariants as windows
 use Rattle.adc_groups.specs.laws.services.BodySteps.{body_ends}
 use Rattle.adc_groups.specs.laws.services.Decisions.{looking, notify, survey}
 
@@ -43,12 +23,12 @@ known x = record { uninitialised = x == 0; unbuffered = false; idle = false; bus
 
 -- a call about a group is wrong in what is configured of it or asked with
 abbrev pub is_wrong : GroupCall → Option configured.Group → Bool
-is_wrong (groups.SetupResultBuffer b) k = not (is_some b)
-is_wrong groups.StartGroupConversion k = is_triggered k
-is_wrong groups.StopGroupConversion k = is_triggered k
-is_wrong groups.EnableHardwareTrigger k = not (is_triggered k)
-is_wrong groups.DisableHardwareTrigger k = not (is_triggered k)
-is_wrong (groups.Notification on) k = not (has_notification k)
+is_wrong (GroupCall.SetupResultBuffer b) k = not (is_some b)
+is_wrong GroupCall.StartGroupConversion k = is_triggered k
+is_wrong GroupCall.StopGroupConversion k = is_triggered k
+is_wrong GroupCall.EnableHardwareTrigger k = not (is_triggered k)
+is_wrong GroupCall.DisableHardwareTrigger k = not (is_triggered k)
+is_wrong (GroupCall.Notification on) k = not (has_notification k)
 is_wrong call k = false
 
 abbrev pub facts_of : Asked → ℕ → List Bool
@@ -59,19 +39,19 @@ refusal_of a e = record { answer = answer_refused a.call; owed = owed_error (rep
 
 -- where a call about a group begins
 abbrev pub set_up_at : ℕ → Option ResultBuffer → Place
-set_up_at g None = looking (windows.Status g)
-set_up_at g (Some b) = looking (windows.Setup g b)
+set_up_at g None = looking (Window.Status g)
+set_up_at g (Some b) = looking (Window.Setup g b)
 
 abbrev pub place_for : AdcTable → ℕ → GroupCall → Place
-place_for d g (groups.SetupResultBuffer b) = set_up_at g b
-place_for d g groups.StartGroupConversion = looking (windows.Start g)
-place_for d g groups.StopGroupConversion = looking (windows.Stop (unit_of (group_of d g)) g)
-place_for d g groups.ReadGroup = looking (windows.Read g)
-place_for d g groups.EnableHardwareTrigger = looking (windows.Enable g)
-place_for d g groups.DisableHardwareTrigger = looking (windows.Stop (unit_of (group_of d g)) g)
-place_for d g (groups.Notification on) = notify g on
-place_for d g groups.GetGroupStatus = looking (windows.Status g)
-place_for d g groups.GetStreamLastPointer = looking (windows.Point g)
+place_for d g (GroupCall.SetupResultBuffer b) = set_up_at g b
+place_for d g GroupCall.StartGroupConversion = looking (Window.Start g)
+place_for d g GroupCall.StopGroupConversion = looking (Window.Stop (unit_of (group_of d g)) g)
+place_for d g GroupCall.ReadGroup = looking (Window.Read g)
+place_for d g GroupCall.EnableHardwareTrigger = looking (Window.Enable g)
+place_for d g GroupCall.DisableHardwareTrigger = looking (Window.Stop (unit_of (group_of d g)) g)
+place_for d g (GroupCall.Notification on) = notify g on
+place_for d g GroupCall.GetGroupStatus = looking (Window.Status g)
+place_for d g GroupCall.GetStreamLastPointer = looking (Window.Point g)
 
 -- a number that may be that of a group
 abbrev pub small : ℕ → ℕ
@@ -82,7 +62,7 @@ body_at d k = lookeds.Goes (Second (record { table = d; place = k }))
 
 abbrev pub begun_by : AdcTable → Call → Looked AnyBody
 begun_by d Init = lookeds.Goes (First (record { objects = record { table = d }; place = Opens }))
-begun_by d DeInit = body_at d (survey d windows.Close 0)
+begun_by d DeInit = body_at d (survey d Window.Close 0)
 begun_by d (Group g call) = body_at d (place_for d (small g) call)
 
 abbrev pub looked_by : Asked → Option ErrorName → Looked AnyBody

@@ -1,31 +1,18 @@
 -- A pinned bank that is read: its moves, and the answer with which the call ends.
--- Used by src/service/read.rt, adc_driver: bookkeeping.Decreases, services.BodySteps and 4 more.
+-- Used by src/service/read.rt, adc_driver: bookkeeping.Decreases, services.BodySteps and 3 more.
 use Rattle.std.specs.Prelude.{ℕ, Bool, true, false, Option, Some, None}
-use Rattle.mcal_base.specs.declared.answer.Answer.{Answer}
-use Rattle.mcal_base.specs.declared.answer_name.AnswerName.TheVariants.{EOk}
-use Rattle.mcal_base.specs.declared.moves.Move.{Move}
-use Rattle.mcal_base.specs.declared.moves.Move.TheVariants as moves
-use Rattle.run_model.specs.Machine.{no_answer, named_with}
-use Rattle.service_outline.specs.Done.{goes, ends}
-use Rattle.service_outline.specs.declared.done.BodyTaken.{BodyTaken}
-use Rattle.service_outline.specs.declared.done.Epilogue.TheVariants.{Nothing}
-use Rattle.word_shapes.specs.TripleBuffer.{take_move, take_left, take_gave, take_start}
-use Rattle.word_shapes.specs.declared.take.Take.{Take}
-use Rattle.word_shapes.specs.declared.take.TakePart.TheVariants.{Release}
-use Rattle.adc_stream.specs.Copying.{read_move, read_more, has_read}
-use Rattle.adc_stream.specs.Rounds.{trio_of}
-use Rattle.adc_stream.specs.declared.reading.Reading.{Reading}
-use Rattle.adc_groups.specs.declared.service.read.Newest.{Newest}
-use Rattle.adc_groups.specs.declared.service.read.Stage.{Stage}
-use Rattle.adc_groups.specs.declared.service.read.Stage.TheVariants.{Reads, Shuts, Releases, Leaves, Over}
-use Rattle.adc_groups.specs.declared.words.TheConstants.{STATE}
+use Rattle.adc_groups.specs.StepTerms
+use StepTerms.{Answer, BodyTaken, ends, EOk, goes, has_read, Leaves, Move, named_with, Newest, no_answer, Nothing}
+use StepTerms.{Over, read_more, read_move, Reading, Release, Releases, Shuts, Stage, STATE, Take, take_gave}
+use StepTerms.{take_left, take_move, take_start, trio_of}
+use Rattle.adc_groups.specs.declared.service.read.Stage.TheVariants.{Reads}
 
 abbrev pub stage_move : Reading → Stage → Move
 stage_move r Reads = read_move r
-stage_move r Shuts = moves.Mask
+stage_move r Shuts = Move.Mask
 stage_move r (Releases t) = take_move t
-stage_move r Leaves = moves.Unmask
-stage_move r Over = moves.Load STATE
+stage_move r Leaves = Move.Unmask
+stage_move r Over = Move.Load STATE
 
 abbrev pub newest_move : Newest → Move
 newest_move n = stage_move n.reading n.stage

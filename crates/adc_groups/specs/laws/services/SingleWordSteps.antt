@@ -1,15 +1,15 @@
 -- The step of a call that makes its change, whichever it is.
--- From services.SingleWordCalls, services.BodySteps, services.PulseRight, services.StopRight and 3 more.
--- Used by adc_driver: services.MakeRight.
+-- From services.EnableTriggerRight, services.SingleWordCalls, services.BodySteps, services.StopRight and 2 more.
+-- Used by adc_driver: services.AllSteps.
 use Rattle.adc_groups.specs.Terms
 use Terms.{adc_bodies, AdcBody, AdcGround, AdcState, AdcTable, Agrees, Begins_stream, body_ends, body_work, Bool, Call}
 use Terms.{Chip, Closes_module, Enables_trigger, ended_at, false, FitsAdc, foot_of, FrameHistory, Is_this_frame}
 use Terms.{IsDealing, Makes, Notifies, Origin, Points, Pulses, Reservations, RightOr, Sets_up, Stops, Stops_turn, true}
 use Terms.{value_of, World, WriteBatch, ℕ}
-use Rattle.adc_groups.specs.laws.{services.DeInitRight.{closes_right}, services.SingleWordCalls.{sets_up, notifies}}
-use Rattle.adc_groups.specs.laws.{services.SingleWordCalls.{points_to}, services.EnableTriggerRight.{enable_right}}
-use Rattle.adc_groups.specs.laws.{services.PulseRight.{request_right, drop_right}, services.RequestRight.{start_right}}
-use Rattle.adc_groups.specs.laws.{services.StopRight.{quiet_right, turn_right}}
+use Rattle.adc_groups.specs.laws.services.{DeInitRight.{closes_right}, EnableTriggerRight.{drop_right, enable_right}}
+use Rattle.adc_groups.specs.laws.services.{EnableTriggerRight.{request_right}, RequestRight.{start_right}}
+use Rattle.adc_groups.specs.laws.services.{SingleWordCalls.{notifies, points_to, sets_up}, StopRight.{quiet_right}}
+use Rattle.adc_groups.specs.laws.services.StopRight.{turn_right}
 
 module _ (d : AdcTable) (fits : FitsAdc d) (f r : AdcBody → ℕ) (below : Reservations) (chip : Chip) (w : World) (s : AdcState) (h : Agrees d below chip w s) (m : ℕ → Bool) (y : ℕ) where
   abbrev body : WriteBatch → AdcBody

@@ -1,55 +1,83 @@
--- A call stops a group: the step at which it acts, and all that its window makes after that.
--- From services.StopWords, bookkeeping.FrameRule, bookkeeping.TurnEnded, services.RequestRight and 15 more.
--- Used by services.SingleWordSteps.
-use Rattle.std.proofs.Common.{◌≡◌, ◌≢◌, ◌+◌, ◌*◌, ◌/◌, ◌%◌, ◌<◌, ◌&&◌, ◌||◌, ◌==◌, [], ◌∷◌, ◌++◌, ◌∙◌}
-use Rattle.std.proofs.Common.{if◌then◌else◌}
+-- A call stops a group: the step at which it acts, and all that its window makes after that; before it, a window's first move.
+-- From services.StopWords, services.RequestRight, words.StructureParts, bookkeeping.FrameRule and 15 more.
+-- Used by services.SingleWordSteps, adc_serving: services.ServeRight, services.CallSteps and 4 more.
+use Rattle.std.proofs.Common.{◌≡◌, ◌≢◌, ◌+◌, ◌*◌, ◌/◌, ◌%◌, ◌<◌, ◌&&◌, ◌||◌, ◌==◌, [], ◌∷◌, ◌++◌, ◌∙◌, if◌then◌else◌}
 use Rattle.adc_groups.specs.Terms
-use Terms.{acts_by, adc_bodies, adc_machine, AdcBody, AdcGround, AdcState, AdcTable, after_list, Agrees, AllRight}
-use Terms.{and_false, ap, arith, asks_no, BanksAgree, bit_of, body_ends, body_work, Bool, Call, Called, cases, Chip}
-use Terms.{chip_after, chosen_of, circumstances, claim_lost, claim_right, CommitsAfter, CommitsTo, cond, Continuation}
-use Terms.{Converter, Converters, deed_move, DiffersIn, DisableHardwareTrigger, drop-ends, drop_start, dropping}
-use Terms.{ended_at, Entry, entry, eq_is, eq_other, eq_self, error_by, false, first_error, FitsAdc, fresh_history}
-use Terms.{group_at, group_of, group_word, GroupAgrees, GroupCall, GroupState, Has_acted, has_bit, has_turn, HasWords}
-use Terms.{held_in, HoldsOrder, Idle, inl, inr, is_idle, is_on, Is_open, is_round_of, is_some, is_there}
-use Terms.{Is_this_frame, IsBlock, IsOrder, IsSoundGroup, IsStop, Leaves_acted, left_of, length, length_after, List}
-use Terms.{Makes, making, making_owed, mark_at, MayCall, mod-eq_of_lt, nat_lt, no_answer, None, nothing_more}
-use Terms.{number_at, number_by, off, off_where, Option, order_of, Origin, outcome, owed_of, phase_of, Promised}
-use Terms.{quieted, refl, Request, Reservation, Reservations, RightOr, Round, round_at, RoundAgrees, rounds_of}
-use Terms.{running_of, same_or_other, Set, settles_list, settles_part, Some, SoundGroup, stands-agree, starts_on}
-use Terms.{STATE, Status, step, stop_by, StopGroupConversion, stopped, subst, suc, sym, taken_away, tells_nothing}
-use Terms.{trigger_bit, trigger_input, TriggersAgree, trio_of, true, unit_of, UnitAgrees, unless_of, value_of}
-use Terms.{waits_for, whether_as, WindowWrite, without_mark, word_number, word_of, World, ℕ}
-use Rattle.word_shapes.specs.PriorityQueue.{own_of}
-use Rattle.adc_groups.specs.{PendingWrites.{IsSound}, declared.outside.Outside.TheVariants.{Closes}}
-use Rattle.adc_groups.specs.laws.{services.QueriesAndErrors.{group_errors, not_reset}, bookkeeping.FrameRule.{Stays}}
-use Rattle.adc_groups.specs.laws.{bookkeeping.FrameRule.{Fresh, Spares, all_spare, no_keeper, all_changed, changed}}
-use Rattle.adc_groups.specs.laws.{bookkeeping.FrameRule.{turn_same, trio_group, place_stays, claim_stays, round_kept}}
-use Rattle.adc_groups.specs.laws.{services.FirstWrites.{first_takes, steps_so}, bookkeeping.TurnEnded.{gone_round}}
-use Rattle.adc_groups.specs.laws.{bookkeeping.TurnEnded.{unless_some, none_of_three, left_in, left_right, left_puts}}
-use Rattle.adc_groups.specs.laws.{bookkeeping.TurnEnded.{left_takes, left_owed, left_claims, left_backed}}
-use Rattle.adc_groups.specs.laws.{bookkeeping.NoTurnKeepsNothing.{kept_none}, words.OrderWords.{order_without}}
-use Rattle.adc_groups.specs.laws.{words.OrderWords.{order_kept}, words.WordsOfModule.{unit_is, within, order_words}}
-use Rattle.adc_groups.specs.laws.{words.WordsOfModule.{unit_small}, bookkeeping.PromisesKept.{promised_same}}
-use Rattle.adc_groups.specs.laws.{bookkeeping.PromisesKept.{waits_other, aborts_fewer}}
-use Rattle.adc_groups.specs.laws.{services.RequestRight.{sound_past, none_waits, none_runs, on_own, asking}}
-use Rattle.adc_groups.specs.laws.{services.RequestRight.{asking_starts, asking_more, still_yields}}
-use Rattle.adc_groups.specs.laws.{words.OrderBetweenWrites.{differs_none, low_last, unit_last, other_last, order_first}}
-use Rattle.adc_groups.specs.laws.{words.OrderBetweenWrites.{order_last, whole_first, stands_last}}
-use Rattle.adc_groups.specs.laws.{words.StructureParts.{AllOf, set_at, word_there, drop_part, deeds_listed}}
-use Rattle.adc_groups.specs.laws.{bookkeeping.TriggerOff.{marks_off, triggers_off}, services.StopWords.{halted}}
-use Rattle.adc_groups.specs.laws.{services.StopWords.{halted_group, halted_other, halted_round, halted_rest, ends_of}}
-use Rattle.adc_groups.specs.laws.{services.StopWords.{ends_all, ends_low, ends_claim, ends_running, turn_set}}
-use Rattle.adc_groups.specs.laws.{services.StopWords.{turn_kept, off_block, away_block, ends_block, ends_control}}
-use Rattle.adc_groups.specs.laws.{services.StopWords.{block_stays, off_unit, off_time, away_bits, away_over, kept_free}}
-use Rattle.adc_groups.specs.laws.{services.StopWords.{claim_loses, may_ends}}
-use Rattle.chip_converter.specs.Converters as chips
-use Rattle.mcal_base.specs.declared.moves.Event.TheVariants as events
-use Rattle.mcal_base.specs.declared.service.Service.TheVariants as services
-use Rattle.adc_machine.specs.declared.call.Call.TheVariants as calls
-use Rattle.adc_groups.specs.declared.making.StructureOp.TheVariants as shapes
-use Rattle.adc_groups.specs.declared.making.Continuation.TheVariants as thens
-use Rattle.adc_groups.specs.declared.window.Window.TheVariants as windows
-use Rattle.adc_groups.specs.declared.words.Word.TheVariants as words
+use Terms.{acts_by, adc_bodies, adc_machine, AdcBody, AdcGround, AdcState, AdcTable, Adding, after_list, after_making}
+use Terms.{Agrees, AllRight, and_false, ap, arith, asks_no, BanksAgree, bit_of, body_ends, body_takes, body_work}
+use Terms.{BodyTaken, Bool, Call, Called, cases, Chip, chip_after, chosen_of, circumstances, claim_lost, claim_right}
+use Terms.{CommitsAfter, CommitsTo, cond, Continuation, Converter, Converters, deed_move, DiffersIn}
+use Terms.{DisableHardwareTrigger, drop-ends, drop_start, dropping, ended_at, ended_by, Entry, entry, eq_is, eq_other}
+use Terms.{eq_self, error_by, Event, false, first_error, FitsAdc, FrameHistory, fresh_history, goes_right, group_at}
+use Terms.{group_of, group_word, GroupAgrees, GroupCall, GroupState, Has_acted, has_bit, has_turn, HasWords, held_in}
+use Terms.{HoldsOrder, Idle, inl, inr, is_idle, is_on, Is_open, is_round_of, is_some, is_there, Is_this_frame, IsBlock}
+use Terms.{IsOrder, IsSoundGroup, IsStop, Leaves_acted, left_of, length, length_after, List, Looking, Makes, MakesTo}
+use Terms.{making, making_owed, making_takes, mark_at, MayCall, missed_after, mod-eq_of_lt, nat_le, nat_lt, nat_tests}
+use Terms.{no_answer, None, not, nothing_more, number_at, number_by, off, off_where, Option, option_as, order_of}
+use Terms.{order_own, Origin, outcome, Outside, owed_of, phase_of, PointAssertion, Promised, quieted, refl, Request}
+use Terms.{Reservation, Reservations, RightOr, Round, round_at, RoundAgrees, rounds_of, running_of, same_or_other}
+use Terms.{Service, Set, settles_list, settles_part, SharedRefinement, Some, SoundGroup, stands-agree, starts_on, STATE}
+use Terms.{step, stop_by, StopGroupConversion, stopped, StructureOp, subst, suc, sym, taken_away, tells_nothing}
+use Terms.{trigger_bit, trigger_input, TriggersAgree, trio_of, true, unit_at, unit_of, UnitAgrees, unless_of, value_of}
+use Terms.{waits_for, whether_as, Window, WindowWrite, Within, without_mark, Word, word_number, word_of, World}
+use Terms.{WriteBatch, ℕ}
+use Rattle.adc_groups.specs.{declared.outside.Outside.TheVariants.{Closes}, laws.bookkeeping.FrameRule.{all_changed}}
+use Rattle.adc_groups.specs.laws.bookkeeping.FrameRule.{all_spare, changed, claim_stays, Fresh, no_keeper}
+use Rattle.adc_groups.specs.laws.bookkeeping.FrameRule.{place_stays, round_kept, Spares, Stays, trio_group, turn_same}
+use Rattle.adc_groups.specs.laws.bookkeeping.PendingWritesRight.{aborts_fewer, promised_same, waits_other}
+use Rattle.adc_groups.specs.laws.bookkeeping.RefinementRight.{kept_none, none_past, none_runs, none_waits}
+use Rattle.adc_groups.specs.laws.bookkeeping.RefinementRight.{off_unit as off_group, turn_round, unit_of_round}
+use Rattle.adc_groups.specs.{laws.hardware.AfterReset.{idle_group}, laws.services.EnableTriggerRight.{marks_off}}
+use Rattle.adc_groups.specs.{laws.services.EnableTriggerRight.{triggers_off}, laws.services.RequestRight.{asking}}
+use Rattle.adc_groups.specs.laws.services.RequestRight.{asking_more, asking_starts, gone_round, left_backed}
+use Rattle.adc_groups.specs.laws.services.RequestRight.{left_claims, left_in, left_owed, left_puts, left_right}
+use Rattle.adc_groups.specs.laws.services.RequestRight.{left_takes, none_of_three, on_own, still_yields, unless_some}
+use Rattle.adc_groups.specs.laws.services.SingleWordCalls.{group_errors, not_idle, not_reset}
+use Rattle.adc_groups.specs.laws.services.StopWords.{away_bits, away_block, away_over, block_stays, claim_loses}
+use Rattle.adc_groups.specs.laws.services.StopWords.{ends_all, ends_block, ends_claim, ends_control, ends_low}
+use Rattle.adc_groups.specs.laws.services.StopWords.{ends_of, ends_running, halted, halted_group, halted_other}
+use Rattle.adc_groups.specs.laws.services.StopWords.{halted_rest, halted_round, kept_free, may_ends, off_block}
+use Rattle.adc_groups.specs.laws.services.StopWords.{off_time, off_unit, turn_kept, turn_set}
+use Rattle.adc_groups.specs.{laws.words.OrderWords.{order_kept, order_without}, laws.words.StoreOneWord.{sound_past}}
+use Rattle.adc_groups.specs.laws.words.StructureParts.{AllOf, deeds_listed, differs_none, drop_part, low_last}
+use Rattle.adc_groups.specs.laws.words.StructureParts.{order_first, order_last, other_last, set_at, stands_last}
+use Rattle.adc_groups.specs.laws.words.StructureParts.{unit_last, whole_first, word_there}
+use Rattle.adc_groups.specs.laws.words.WordsOfModule.{order_words, unit_is, unit_small, within}
+use Rattle.adc_groups.specs.PendingWrites.{IsSound}
+
+-- moves with this event at the first, of these changes and at least two deeds
+abbrev pub two_or_more : Event → (x z : WindowWrite) → List WindowWrite → (order banks : Option StructureOp) → Continuation → WriteBatch
+two_or_more e x z rest o b t = record (making (Some e) (x ∷ z ∷ rest) t) { order = o; banks = b }
+
+pub first_takes : (d : AdcTable) (e : Event) (x z : WindowWrite) (rest : List WindowWrite) (o b : Option StructureOp) (t : Continuation) (v : ℕ)
+    → body_takes (record { table = d; place = Makes (two_or_more e x z rest o b t) }) v ≡ (record { table = d; place = Makes (record (two_or_more e x z rest o b t) { made = 1 }) }, step (Some e))
+first_takes d e x z rest o b t v = ap (λ k. (record { table = d; place = k.0 }, k.1)) (ap (λ q. making_takes (Some e) (if q then record m { made = 1 } else m)) some ∙ ap (λ q. if q then after_making (Some e) (record m { made = 1 }) t else (Makes (record m { made = 1 }), step (Some e))) (open_still (is_some o) (is_some b)))
+  where
+    m : WriteBatch
+    m = two_or_more e x z rest o b t
+
+    some : nat_lt 0 (suc (suc (length rest))) ≡ true
+    some = grind (arith, nat_tests)
+
+    open_still : (p q : Bool) → not p && (not q && nat_le (suc (suc (length rest))) 1) ≡ false
+    open_still false false = let more : nat_le (suc (suc (length rest))) 1 ≡ false = grind (arith, nat_tests) in more
+    open_still _ _ = refl
+
+-- a frame need not add to its past where it looks
+adding_none : {State Call : Type 0} {g : SharedRefinement State Call} (x : PointAssertion g) (ready : ℕ → Bool) (past : FrameHistory) (P : FrameHistory → Type 0) → P past → Adding x ready past P
+adding_none (Within gap hs place) ready past P h = h
+adding_none (Outside hs place) ready past P h = h
+adding_none (Looking gap hs place) ready past P h = inl h
+
+-- a step that goes on, by what it makes of the body
+pub steps_so : (d : AdcTable) (f r : AdcBody → ℕ) (below : Reservations) (chip : Chip) (w : World) (s : AdcState) (m : ℕ → Bool) (y : ℕ) (o : Origin Call) (p : FrameHistory) (k j : AdcBody) (x : BodyTaken) → body_takes k (value_of chip (body_work k)) ≡ (j, x) → ended_by (body_ends j) x.done ≡ None
+    → MakesTo (AdcGround d) (adc_bodies d f r) below chip (chip_after chip (body_work k) y) w s o (body_work k) ((adc_bodies d f r).clean k) (value_of chip (body_work k)) y p (missed_after (adc_machine d) w s m) (j, x)
+    → RightOr (AdcGround d) (adc_bodies d f r) below chip w s k o y p m (ended_at (adc_bodies d f r) body_ends k (value_of chip (body_work k)))
+steps_so d f r below chip w s m y o p k j x is none right =
+    goes_right (AdcGround d) (adc_bodies d f r) below chip w s k o y p m (ended_at (adc_bodies d f r) body_ends k (value_of chip (body_work k))) (ap (λ (z : AdcBody × BodyTaken). ended_by (body_ends z.0) z.1.done) is ∙ none)
+    (adding_none ((adc_bodies d f r).assertion k) ((AdcGround d).setting.machine.ready w s) p (λ t. MakesTo (AdcGround d) (adc_bodies d f r) below chip (chip_after chip (body_work k) y) w s o (body_work k) ((adc_bodies d f r).clean k) (value_of chip (body_work k)) y t (missed_after (adc_machine d) w s m) (body_takes k (value_of chip (body_work k)))) (subst (λ z. MakesTo (AdcGround d) (adc_bodies d f r) below chip (chip_after chip (body_work k) y) w s o (body_work k) ((adc_bodies d f r).clean k) (value_of chip (body_work k)) y p (missed_after (adc_machine d) w s m) z) (sym is) right))
+
+-- ---- A call stops a group: the step at which it acts, and all that its window makes after that.
 
 -- ---- the group and its unit
 
@@ -58,7 +86,7 @@ module _ (d : AdcTable) (fits : FitsAdc d) (f r : AdcBody → ℕ) (below : Rese
   u = unit_of (group_of d g)
 
   abbrev line : Origin Call
-  line = Called (calls.Group g call)
+  line = Called (Call.Group g call)
 
   abbrev wired : Bool
   wired = is_some (trigger_input (group_of d g))
@@ -84,28 +112,12 @@ module _ (d : AdcTable) (fits : FitsAdc d) (f r : AdcBody → ℕ) (below : Rese
   still_on : t.initialised ≡ true
   still_on = (halted_rest d s g).0 ∙ may.on
 
-  none_past : (v : ℕ) → round_at s (suc (suc v)) ≡ None
-  none_past v = by (round_at s (suc (suc v))) refl
-    where
-      by : (q : Option Round) → round_at s (suc (suc v)) ≡ q → q ≡ None
-      by None e = refl
-      by (Some x) e = let less = (h.sound.runs (suc (suc v)) x e).0 in absurd (omega (arith, less))
-
   round_is : (v : ℕ) → round_at t v ≡ unless_of g (round_at s v)
-  round_is = halted_round d s g none_past
-
-  -- a round of a group is on the group's unit
-  unit_of_round : (k v : ℕ) → is_round_of k (round_at s v) ≡ true → v ≡ unit_of (group_of d k)
-  unit_of_round k v e = by (round_at s v) refl e
-    where
-      by : (q : Option Round) → round_at s v ≡ q → is_round_of k q ≡ true → v ≡ unit_of (group_of d k)
-      by None i j = absurd (cc)
-      by (Some x) i j = let on = (h.sound.runs v x i).1 in sym (unit_is d fits v (group_of d k) (subst (λ n. is_on v (group_of d n) ≡ true) (eq_is x.group k j) on))
+  round_is = halted_round d s g (none_past d w s h.sound)
 
   none_elsewhere : (v : ℕ) → v ≢ u → is_round_of g (round_at s v) ≡ false
   none_elsewhere v ne = whether_as (is_round_of g (round_at s v)) (λ q. q ≡ false)
-      (λ e. absurd (ne (unit_of_round g v e)))
-      (λ e. refl)
+      (λ e. absurd (ne (unit_of_round d fits w s h.sound g v e))) (λ e. refl)
 
   rounds_as : (v : ℕ) → is_round_of g (round_at s v) ≡ false → round_at t v ≡ round_at s v
   rounds_as v e = round_is v ∙ ap (λ q. cond q None (round_at s v)) e
@@ -119,30 +131,16 @@ module _ (d : AdcTable) (fits : FitsAdc d) (f r : AdcBody → ℕ) (below : Rese
   turn : has_turn t g ≡ false
   turn = none_of_three (is_some (group_at t g).waiting) (is_round_of g (round_at t 0)) (is_round_of g (round_at t 1)) (ap (λ (x : GroupState). is_some x.waiting) is_group) (gone 0) (gone 1)
 
-  -- another group that has a turn and doesn't wait has the unit's round
-  turn_round : (k : ℕ) → has_turn s k ≡ true → (group_at s k).waiting ≡ None → is_on u (group_of d k) ≡ true → is_round_of k (round_at s u) ≡ true
-  turn_round k on none unit = by (is_round_of k (round_at s 0)) refl (is_round_of k (round_at s 1)) refl (sym (ap (λ q. is_some q || is_round_of k (round_at s 0) || is_round_of k (round_at s 1)) none) ∙ on)
-    where
-      here : (v : ℕ) → is_round_of k (round_at s v) ≡ true → is_round_of k (round_at s u) ≡ true
-      here v e = subst (λ n. is_round_of k (round_at s n) ≡ true) (unit_of_round k v e ∙ unit_is d fits u (group_of d k) unit) e
-
-      by : (a : Bool) → is_round_of k (round_at s 0) ≡ a → (b : Bool) → is_round_of k (round_at s 1) ≡ b → (false || a || b) ≡ true → is_round_of k (round_at s u) ≡ true
-      by true e b i j = here 0 e
-      by false e true i j = here 1 i
-      by false e false i j = absurd (cc)
-
   other_numbers : (k : ℕ) → k ≢ g → has_turn s k ≡ true → is_on u (group_of d k) ≡ true → number_at d t k ≡ number_at d s k
   other_numbers k ne on unit =
       ap (λ (x : GroupState). number_by x.waiting (round_at t (unit_of (group_of d k)))) (is_other k ne)
       ∙ (ap (λ v. number_by (group_at s k).waiting (round_at t v)) (unit_is d fits u (group_of d k) unit) ∙ (by (group_at s k).waiting refl ∙ sym (ap (λ v. number_by (group_at s k).waiting (round_at s v)) (unit_is d fits u (group_of d k) unit))))
     where
-      not_g : (q : Option Round) → is_round_of k q ≡ true → is_round_of g q ≡ false
-      not_g None e = absurd (cc)
-      not_g (Some x) e = eq_other x.group g (λ i. ne (sym (eq_is x.group k e) ∙ i))
-
       by : (q : Option Request) → (group_at s k).waiting ≡ q → number_by q (round_at t u) ≡ number_by q (round_at s u)
       by (Some q) e = refl
-      by None e = ap (λ z. number_by None z) (rounds_as u (not_g (round_at s u) (turn_round k on e unit)))
+      by None e = ap (λ z. number_by None z) (rounds_as u (option_as (round_at s u) (λ q. is_round_of k q ≡ true → is_round_of g q ≡ false)
+          (λ x _ e. eq_other x.group g (λ i. ne (sym (eq_is x.group k e) ∙ i)))
+          (λ _ e. absurd (cc)) (turn_round d fits w s h.sound u k on e unit)))
 
   -- ---- its state
 
@@ -150,19 +148,8 @@ module _ (d : AdcTable) (fits : FitsAdc d) (f r : AdcBody → ℕ) (below : Rese
   was_sound = h.sound.groups g
 
   sound : IsSoundGroup d t g
-  sound = subst (λ x. SoundGroup (group_of d g) (has_turn t g) x) (sym is_group) (subst (λ q. SoundGroup (group_of d g) q (halted (group_at s g))) (sym turn) (record {
-    configured = λ e. absurd (let i : is_some (group_of d g) ≡ false = ap (λ k. is_some k) e in let k = may.there in cc);
-    chosen = λ e. absurd (e refl);
-    turn = λ e. refl;
-    trigger = λ e. refl;
-    input = λ e. absurd (cc);
-    going = λ e. absurd (cc);
-    rounds = λ e. absurd (cc);
-    stream = λ e. absurd (cc);
-    linear = was_sound.linear;
-    lasts = λ e. absurd (cc);
-    whole = was_sound.whole;
-  }))
+  sound = subst (λ x. SoundGroup (group_of d g) (has_turn t g) x) (sym is_group) (subst (λ q. SoundGroup (group_of d g) q (halted (group_at s g))) (sym turn)
+      (idle_group (group_of d g) (halted (group_at s g)) refl refl (λ e. absurd (let i : is_some (group_of d g) ≡ false = ap (λ k. is_some k) e in let k = may.there in cc)) was_sound.linear was_sound.whole))
 
   -- ---- triggers
 
@@ -197,7 +184,7 @@ module _ (d : AdcTable) (fits : FitsAdc d) (f r : AdcBody → ℕ) (below : Rese
   unit_was : UnitAgrees d (word_of chip) s u
   unit_was = (h.settled may.on).units u few
 
-  claim_was : claim_right below u (word_of chip (word_number d (words.Claim u))) ≡ true
+  claim_was : claim_right below u (word_of chip (word_number d (Word.Claim u))) ≡ true
   claim_was = (h.settled may.on).claims u few
 
   abbrev xs : List Entry
@@ -207,7 +194,7 @@ module _ (d : AdcTable) (fits : FitsAdc d) (f r : AdcBody → ℕ) (below : Rese
   whole = h.outside.all.words
 
   abbrev deed : WindowWrite
-  deed = Set (words.Phase g) 0
+  deed = Set (Word.Phase g) 0
 
   abbrev acted : Chip
   acted = chip_after chip (deed_move d deed) 0
@@ -215,7 +202,7 @@ module _ (d : AdcTable) (fits : FitsAdc d) (f r : AdcBody → ℕ) (below : Rese
   first_whole : HasWords acted
   first_whole = length_after chip (deed_move d deed) 0 ∙ whole
 
-  module _ (q run lost : Bool) (turned : has_turn s g ≡ q) (runs : is_round_of g (round_at s u) ≡ run) (loses : (word_of chip (word_number d (words.Claim u)) == 2 + g) ≡ lost) where
+  module _ (q run lost : Bool) (turned : has_turn s g ≡ q) (runs : is_round_of g (round_at s u) ≡ run) (loses : (word_of chip (word_number d (Word.Claim u)) == 2 + g) ≡ lost) where
     abbrev deeds : List WindowWrite
     deeds = ends_of d u g q wired run lost
 
@@ -226,27 +213,27 @@ module _ (d : AdcTable) (fits : FitsAdc d) (f r : AdcBody → ℕ) (below : Rese
     after = left_in line (Some no_answer) u below q
 
     still : q ≡ false → (run ≡ false) × (lost ≡ false)
-    still e = (sym runs ∙ none_runs s g (turned ∙ e) u few, sym loses ∙ eq_other (word_of chip (word_number d (words.Claim u))) (2 + g) (no_keeper d chip w s g u (none_waits s g (turned ∙ e)) below h.right claim_was))
+    still e = (sym runs ∙ none_runs s g (turned ∙ e) u few, sym loses ∙ eq_other (word_of chip (word_number d (Word.Claim u))) (2 + g) (no_keeper d chip w s g u (none_waits s g (turned ∙ e)) below h.right claim_was))
 
     -- where the group's round is on the unit, no frame keeps values of an aborted one
-    free : run ≡ true → (k : ℕ) → word_of chip (word_number d (words.Claim u)) ≢ 2 + k
+    free : run ≡ true → (k : ℕ) → word_of chip (word_number d (Word.Claim u)) ≢ 2 + k
     free e k same =
         let none = kept_free d chip w s u k below h.right (subst (λ v. claim_right below u v ≡ true) same claim_was) in
         let on : is_round_of g (round_at s u) ≡ true = runs ∙ e in
         let not_on : is_round_of g (round_at s u) ≡ false = ap (λ o. is_round_of g o) none in
         cc
 
-    opened : run ≡ true → IsSound (chips.unit_at chip.converters u).round chip.converters.time
+    opened : run ≡ true → IsSound (unit_at chip.converters u).round chip.converters.time
     opened e = by (round_at s u) (runs ∙ e) (h.rounds u few)
       where
-        by : (o : Option Round) → is_round_of g o ≡ true → RoundAgrees d chip.converters w (chips.unit_at chip.converters u) o → IsSound (chips.unit_at chip.converters u).round chip.converters.time
+        by : (o : Option Round) → is_round_of g o ≡ true → RoundAgrees d chip.converters w (unit_at chip.converters u) o → IsSound (unit_at chip.converters u).round chip.converters.time
         by None i x = absurd (cc)
         by (Some z) i x = Is_open x.on
 
     abbrev left : List Entry
     left = if q then left_of g xs else xs
 
-    module _ (c : Chip) (differs : DiffersIn (own_of (order_of u)) acted c) (holds : HoldsOrder (order_of u) (word_of c) left) where
+    module _ (c : Chip) (differs : DiffersIn (order_own (order_of u)) acted c) (holds : HoldsOrder (order_of u) (word_of c) left) where
       abbrev b : Chip
       b = after_list (deed_move d) c deeds
 
@@ -257,21 +244,18 @@ module _ (d : AdcTable) (fits : FitsAdc d) (f r : AdcBody → ℕ) (below : Rese
       low_one j e = low j ∙ turn_kept q j (set_at 2 0 j (set_at 0 0 j (word_of chip (group_word d g j)))) e
 
       no_turn : word_of b (group_word d g 3) ≡ 0
-      no_turn = low 3 ∙ by q turned
-        where
-          by : (z : Bool) → has_turn s g ≡ z → turn_set z 3 (word_of chip (group_word d g 3)) ≡ 0
-          by true e = refl
-          by false e = was.turn ∙ ap (λ z. bit_of z) e
+      no_turn = low 3 ∙ whether_as q (λ z. has_turn s g ≡ z → turn_set z 3 (word_of chip (group_word d g 3)) ≡ 0)
+          (λ _ _. refl) (λ _ e. was.turn ∙ ap (λ z. bit_of z) e) turned
 
-      claim : word_of b (word_number d (words.Claim u)) ≡ (if lost then 1 else word_of chip (word_number d (words.Claim u)))
+      claim : word_of b (word_number d (Word.Claim u)) ≡ (if lost then 1 else word_of chip (word_number d (Word.Claim u)))
       claim =
-          let is : STATE + 8 + 8 * u + 1 ≡ word_number d (words.Claim u) = omega arith in
+          let is : STATE + 8 + 8 * u + 1 ≡ word_number d (Word.Claim u) = omega arith in
           subst (λ k. word_of b k ≡ (if lost then 1 else word_of chip k)) is
           (unit_last d fits g u may.there few chip whole deed refl c differs deeds of_all 1 (omega arith) ∙ ends_claim d u g q wired run lost still (word_of chip (STATE + 8 + 8 * u + 1)))
 
-      running : word_of b (word_number d (words.Running u)) ≡ (if run then 0 else word_of chip (word_number d (words.Running u)))
+      running : word_of b (word_number d (Word.Running u)) ≡ (if run then 0 else word_of chip (word_number d (Word.Running u)))
       running =
-          let is : STATE + 8 + 8 * u + 0 ≡ word_number d (words.Running u) = omega arith in
+          let is : STATE + 8 + 8 * u + 0 ≡ word_number d (Word.Running u) = omega arith in
           subst (λ k. word_of b k ≡ (if run then 0 else word_of chip k)) is
           (unit_last d fits g u may.there few chip whole deed refl c differs deeds of_all 0 (omega arith) ∙ ends_running d u g q wired run lost still (word_of chip (STATE + 8 + 8 * u + 0)))
 
@@ -282,22 +266,22 @@ module _ (d : AdcTable) (fits : FitsAdc d) (f r : AdcBody → ℕ) (below : Rese
       control = ends_control d u g q wired run lost c ∙ ap (λ (z : Chip). z.control) differs.rest
 
       -- by what the claim's word was
-      claim_by : (k : ℕ) (l : Bool) → (word_of chip (word_number d (words.Claim u)) == 2 + g) ≡ l → (if l then 1 else word_of chip (word_number d (words.Claim u))) ≡ 2 + k → word_of chip (word_number d (words.Claim u)) ≡ 2 + k
+      claim_by : (k : ℕ) (l : Bool) → (word_of chip (word_number d (Word.Claim u)) == 2 + g) ≡ l → (if l then 1 else word_of chip (word_number d (Word.Claim u))) ≡ 2 + k → word_of chip (word_number d (Word.Claim u)) ≡ 2 + k
       claim_by k true e i = absurd (omega (arith, i))
       claim_by k false e i = i
 
-      claim_on : (k : ℕ) → k ≢ g → (l : Bool) → (word_of chip (word_number d (words.Claim u)) == 2 + g) ≡ l → word_of chip (word_number d (words.Claim u)) ≡ 2 + k → (if l then 1 else word_of chip (word_number d (words.Claim u))) ≡ 2 + k
-      claim_on k ne true e i = absurd (let same = eq_is (word_of chip (word_number d (words.Claim u))) (2 + g) e in omega (arith, same, i, ne))
+      claim_on : (k : ℕ) → k ≢ g → (l : Bool) → (word_of chip (word_number d (Word.Claim u)) == 2 + g) ≡ l → word_of chip (word_number d (Word.Claim u)) ≡ 2 + k → (if l then 1 else word_of chip (word_number d (Word.Claim u))) ≡ 2 + k
+      claim_on k ne true e i = absurd (let same = eq_is (word_of chip (word_number d (Word.Claim u))) (2 + g) e in omega (arith, same, i, ne))
       claim_on k ne false e i = i
 
-      unkept : word_of b (word_number d (words.Claim u)) ≢ 2 + g
+      unkept : word_of b (word_number d (Word.Claim u)) ≢ 2 + g
       unkept same = by lost loses (sym claim ∙ same)
         where
-          by : (l : Bool) → (word_of chip (word_number d (words.Claim u)) == 2 + g) ≡ l → (if l then 1 else word_of chip (word_number d (words.Claim u))) ≡ 2 + g → ⊥
+          by : (l : Bool) → (word_of chip (word_number d (Word.Claim u)) == 2 + g) ≡ l → (if l then 1 else word_of chip (word_number d (Word.Claim u))) ≡ 2 + g → ⊥
           by true e i = omega (arith, i)
-          by false e i = let on : (word_of chip (word_number d (words.Claim u)) == 2 + g) ≡ true = ap (λ n. n == 2 + g) i ∙ eq_self (2 + g) in cc
+          by false e i = let on : (word_of chip (word_number d (Word.Claim u)) == 2 + g) ≡ true = ap (λ n. n == 2 + g) i ∙ eq_self (2 + g) in cc
 
-      kept_unit : (z : Bool) → is_round_of g (round_at s u) ≡ z → (k : ℕ) → word_of chip (word_number d (words.Claim u)) ≡ 2 + k → (run ≡ z) → chips.unit_at (away_block z u (off_block wired bits chip.converters)) u ≡ chips.unit_at chip.converters u
+      kept_unit : (z : Bool) → is_round_of g (round_at s u) ≡ z → (k : ℕ) → word_of chip (word_number d (Word.Claim u)) ≡ 2 + k → (run ≡ z) → unit_at (away_block z u (off_block wired bits chip.converters)) u ≡ unit_at chip.converters u
       kept_unit true e k i same = absurd (free same k i)
       kept_unit false e k i same = off_unit wired bits u chip.converters
 
@@ -314,8 +298,8 @@ module _ (d : AdcTable) (fits : FitsAdc d) (f r : AdcBody → ℕ) (below : Rese
         elsewhere = other_last d fits g u may.there few chip whole deed refl c differs deeds of_all;
         claim_from = λ k ne e. claim_by k lost loses (sym claim ∙ e);
         claim_to = λ k ne e. claim ∙ claim_on k ne lost loses e;
-        unit = λ k ne e. ap (λ z. chips.unit_at z u) block ∙ kept_unit run runs k (claim_by k lost loses (sym claim ∙ e)) refl;
-        units = λ v less ne. ap (λ z. chips.unit_at z v) block ∙ (block_stays w u wired run bits chip.converters h.block).others v ne;
+        unit = λ k ne e. ap (λ z. unit_at z u) block ∙ kept_unit run runs k (claim_by k lost loses (sym claim ∙ e)) refl;
+        units = λ v less ne. ap (λ z. unit_at z v) block ∙ (block_stays w u wired run bits chip.converters h.block).others v ne;
         levels = ap (λ (z : Converters). z.levels) block ∙ (block_stays w u wired run bits chip.converters h.block).levels;
         time = ap (λ (z : Converters). z.time) block ∙ (block_stays w u wired run bits chip.converters h.block).time;
         enabled = λ l e. ap (λ z. has_bit z.enabled l) control;
@@ -365,34 +349,29 @@ module _ (d : AdcTable) (fits : FitsAdc d) (f r : AdcBody → ℕ) (below : Rese
           (λ i. absurd (let not_on : waits_for d t u k ≡ false = ap (λ n. waits_for d t u n) i ∙ (ap (λ (x : GroupState). is_on u (group_of d g) && is_some x.waiting) is_group ∙ and_false (is_on u (group_of d g))) in cc))
           (λ ne. ap (λ z. is_on u (group_of d k) && z) (sym (waits k ne)) ∙ e)
 
-      off_unit_of : (v : ℕ) → v ≢ u → is_on v (group_of d g) ≡ false
-      off_unit_of v ne = whether_as (is_on v (group_of d g)) (λ z. z ≡ false)
-          (λ e. absurd (ne (sym (unit_is d fits v (group_of d g) e))))
-          (λ e. refl)
-
       promised : (z : Bool) → has_turn s g ≡ z → (v : ℕ) → Promised d (left_in line (Some no_answer) u below z) w t v
       promised false e v = promised_same d w s t v (rounds_all e v) (λ k. ap (λ o. is_on v (group_of d k) && is_some o) (waits_all e k)) below below (λ i. i) (λ i. i) ((h.settled may.on).promised v)
       promised true e v = cases (same_or_other v u)
           (λ i. subst (λ n. Promised d (asking line (Some no_answer) u below false) w t n) (sym i) here)
-          (λ ne. promised_same d w s t v (rounds_as v (none_elsewhere v ne)) (waits_other d s t g v (off_unit_of v ne) waits) below (asking line (Some no_answer) u below false) (asking_more line (Some no_answer) u below (starts_on v) false) (still_yields line (Some no_answer) u below v false refl) ((h.settled may.on).promised v))
+          (λ ne. promised_same d w s t v (rounds_as v (none_elsewhere v ne)) (waits_other d s t g v (off_group d fits g u v at ne) waits) below (asking line (Some no_answer) u below false) (asking_more line (Some no_answer) u below (starts_on v) false) (still_yields line (Some no_answer) u below v false refl) ((h.settled may.on).promised v))
         where
           here : Promised d (asking line (Some no_answer) u below false) w t u
           here = record { starts = λ i. asking_starts line (Some no_answer) u below false; yields = λ i. still_yields line (Some no_answer) u below u false refl (((h.settled may.on).promised u).yields (aborts_fewer d w s t u waits_fewer (round_from u) i)) }
 
-      claims : (v : ℕ) → v < 2 → claim_right below v (word_of b (word_number d (words.Claim v))) ≡ true
+      claims : (v : ℕ) → v < 2 → claim_right below v (word_of b (word_number d (Word.Claim v))) ≡ true
       claims v less = cases (same_or_other v u)
-          (λ i. subst (λ n. claim_right below n (word_of b (word_number d (words.Claim n))) ≡ true) (sym i) (ap (λ x. claim_right below u x) claim ∙ here lost loses))
+          (λ i. subst (λ n. claim_right below n (word_of b (word_number d (Word.Claim n))) ≡ true) (sym i) (ap (λ x. claim_right below u x) claim ∙ here lost loses))
           (λ ne. ap (λ x. claim_right below v x) (claim_stays d fits below after chip b w s t h g u at stays v less ne) ∙ (h.settled may.on).claims v less)
         where
-          here : (l : Bool) → (word_of chip (word_number d (words.Claim u)) == 2 + g) ≡ l → claim_right below u (if l then 1 else word_of chip (word_number d (words.Claim u))) ≡ true
-          here true e = claim_loses u g below (subst (λ x. claim_right below u x ≡ true) (eq_is (word_of chip (word_number d (words.Claim u))) (2 + g) e) claim_was)
+          here : (l : Bool) → (word_of chip (word_number d (Word.Claim u)) == 2 + g) ≡ l → claim_right below u (if l then 1 else word_of chip (word_number d (Word.Claim u))) ≡ true
+          here true e = claim_loses u g below (subst (λ x. claim_right below u x ≡ true) (eq_is (word_of chip (word_number d (Word.Claim u))) (2 + g) e) claim_was)
           here false e = claim_was
 
-      round_now : (z : Bool) → is_round_of g (round_at s u) ≡ z → (run ≡ z) → RoundAgrees d (away_block z u (off_block wired bits chip.converters)) w (chips.unit_at (away_block z u (off_block wired bits chip.converters)) u) (cond z None (round_at s u))
+      round_now : (z : Bool) → is_round_of g (round_at s u) ≡ z → (run ≡ z) → RoundAgrees d (away_block z u (off_block wired bits chip.converters)) w (unit_at (away_block z u (off_block wired bits chip.converters)) u) (cond z None (round_at s u))
       round_now true e same =
           away_over u (off_block wired bits chip.converters) (let all = (block_stays w u wired false bits chip.converters h.block).block.all in omega (arith, few, all))
-          (subst (λ n. IsSound (chips.unit_at (off_block wired bits chip.converters) u).round n) (sym (off_time wired bits chip.converters)) (subst (λ (z : Converter). IsSound z.round chip.converters.time) (sym (off_unit wired bits u chip.converters)) (opened same)))
-      round_now false e same = round_kept d chip.converters (off_block wired bits chip.converters) w (chips.unit_at chip.converters u) (chips.unit_at (off_block wired bits chip.converters) u) (round_at s u) (off_unit wired bits u chip.converters) (block_stays w u wired false bits chip.converters h.block).levels (off_time wired bits chip.converters) (h.rounds u few)
+          (subst (λ n. IsSound (unit_at (off_block wired bits chip.converters) u).round n) (sym (off_time wired bits chip.converters)) (subst (λ (z : Converter). IsSound z.round chip.converters.time) (sym (off_unit wired bits u chip.converters)) (opened same)))
+      round_now false e same = round_kept d chip.converters (off_block wired bits chip.converters) w (unit_at chip.converters u) (unit_at (off_block wired bits chip.converters) u) (round_at s u) (off_unit wired bits u chip.converters) (block_stays w u wired false bits chip.converters h.block).levels (off_time wired bits chip.converters) (h.rounds u few)
 
       banks : BanksAgree d after (word_of b) t g
       banks =
@@ -416,7 +395,7 @@ module _ (d : AdcTable) (fits : FitsAdc d) (f r : AdcBody → ℕ) (below : Rese
         values = λ e k i v is. absurd (let no = turn in cc);
       }
 
-      running_now : (z : Bool) → is_round_of g (round_at s u) ≡ z → (if z then 0 else word_of chip (word_number d (words.Running u))) ≡ running_of (cond z None (round_at s u))
+      running_now : (z : Bool) → is_round_of g (round_at s u) ≡ z → (if z then 0 else word_of chip (word_number d (Word.Running u))) ≡ running_of (cond z None (round_at s u))
       running_now true e = refl
       running_now false e = unit_was.running
 
@@ -429,7 +408,7 @@ module _ (d : AdcTable) (fits : FitsAdc d) (f r : AdcBody → ℕ) (below : Rese
         hears = λ e i. absurd (let off = turn in cc);
         outside = stands_last d fits g u may.there few chip whole deed refl c differs deeds of_all w h.outside;
         block = subst (λ z. IsBlock z w) (sym block) (block_stays w u wired run bits chip.converters h.block).block;
-        round = subst (λ o. RoundAgrees d b.converters w (chips.unit_at b.converters u) o) (sym (round_is u ∙ ap (λ z. cond z None (round_at s u)) runs)) (subst (λ z. RoundAgrees d z w (chips.unit_at z u) (cond run None (round_at s u))) (sym block) (round_now run runs refl));
+        round = subst (λ o. RoundAgrees d b.converters w (unit_at b.converters u) o) (sym (round_is u ∙ ap (λ z. cond z None (round_at s u)) runs)) (subst (λ z. RoundAgrees d z w (unit_at z u) (cond run None (round_at s u))) (sym block) (round_now run runs refl));
         triggers = subst (λ z. TriggersAgree d z t) (sym block) (triggers run);
         right = left_right line (Some no_answer) u below d b w t q still_on right;
         banks = banks;
@@ -437,7 +416,7 @@ module _ (d : AdcTable) (fits : FitsAdc d) (f r : AdcBody → ℕ) (below : Rese
         backed = left_backed line (Some no_answer) u below q h.backed;
         group = group;
         unit = record { running = running ∙ (running_now run runs ∙ ap (λ o. running_of o) (sym (round_is u ∙ ap (λ z. cond z None (round_at s u)) runs))); order = (left, order_last d fits g u may.there few chip whole deed refl c differs deeds of_all left holds, order q turned) };
-        claims = λ v less. left_claims line (Some no_answer) u below v (word_of b (word_number d (words.Claim v))) q ∙ claims v less;
+        claims = λ v less. left_claims line (Some no_answer) u below v (word_of b (word_number d (Word.Claim v))) q ∙ claims v less;
         promised = promised q turned;
       }
 
@@ -446,53 +425,49 @@ module _ (d : AdcTable) (fits : FitsAdc d) (f r : AdcBody → ℕ) (below : Rese
 
     -- ---- the moves that are owed
 
-    comes : (next : Continuation) (c : Chip) → DiffersIn (own_of (order_of u)) acted c → HoldsOrder (order_of u) (word_of c) left → CommitsAfter (making_owed d) (owed_of d None None deeds next) c (λ z. Agrees d after z w t)
+    comes : (next : Continuation) (c : Chip) → DiffersIn (order_own (order_of u)) acted c → HoldsOrder (order_of u) (word_of c) left → CommitsAfter (making_owed d) (owed_of d None None deeds next) c (λ z. Agrees d after z w t)
     comes next c differs holds =
         let same : c.converters ≡ chip.converters = ap (λ (z : Chip). z.converters) differs.rest in
         settles_list (making_owed d) (deed_move d) (λ ds. owed_of d None None ds next) (deeds_listed d fits next) (λ z. Agrees d after z w t) deeds c
         (may_ends d fits g u may.there few next q wired run lost c differs.whole (ap (λ (z : Converters). length z.units) same ∙ h.block.all) (subst (λ (z : Converters). z.pulses < 16) (sym same) h.triggers.others)
-        (λ e. subst (λ (z : Converters). IsSound (chips.unit_at z u).round z.time) (sym same) (opened e)) (λ e k i. free e k (sym (claim_before c differs) ∙ i)))
+        (λ e. subst (λ (z : Converters). IsSound (unit_at z u).round z.time) (sym same) (opened e)) (λ e k i. free e k (sym (claim_before c differs) ∙ i)))
         (represents c differs holds)
       where
         -- the order's words and the group's aren't the claim's
-        claim_before : (c : Chip) → DiffersIn (own_of (order_of u)) acted c → word_of c (word_number d (words.Claim u)) ≡ word_of chip (word_number d (words.Claim u))
+        claim_before : (c : Chip) → DiffersIn (order_own (order_of u)) acted c → word_of c (word_number d (Word.Claim u)) ≡ word_of chip (word_number d (Word.Claim u))
         claim_before c differs =
-            let is : STATE + 8 + 8 * u + 1 ≡ word_number d (words.Claim u) = omega arith in
+            let is : STATE + 8 + 8 * u + 1 ≡ word_number d (Word.Claim u) = omega arith in
             subst (λ k. word_of c k ≡ word_of chip k) is (unit_last d fits g u may.there few chip whole deed refl c differs [] tt 1 (omega arith))
 
   -- ---- the step
 
-  none_error : error_by d (calls.Group g call) (circumstances d s (calls.Group g call)) ≡ None
+  none_error : error_by d (Call.Group g call) (circumstances d s (Call.Group g call)) ≡ None
   none_error = stops_without_error call stop may
     where
-      awake : (x : Status) → (x ≡ Idle → ⊥) → is_idle x ≡ false
-      awake Idle ne = absurd (ne refl)
-      awake _ ne = refl
-
-      stops_without_error : (c : GroupCall) → IsStop c → MayCall d s g c → error_by d (calls.Group g c) (circumstances d s (calls.Group g c)) ≡ None
+      stops_without_error : (c : GroupCall) → IsStop c → MayCall d s g c → error_by d (Call.Group g c) (circumstances d s (Call.Group g c)) ≡ None
       stops_without_error StopGroupConversion i k =
           group_errors d s g StopGroupConversion k
-          ∙ (ap (λ z. first_error services.AdcStopGroupConversion (false ∷ false ∷ z ∷ is_idle (group_at s g).status ∷ false ∷ false ∷ [])) k.right
-          ∙ ap (λ z. first_error services.AdcStopGroupConversion (false ∷ false ∷ false ∷ z ∷ false ∷ false ∷ [])) (awake (group_at s g).status busy))
+          ∙ (ap (λ z. first_error Service.AdcStopGroupConversion (false ∷ false ∷ z ∷ is_idle (group_at s g).status ∷ false ∷ false ∷ [])) k.right
+          ∙ ap (λ z. first_error Service.AdcStopGroupConversion (false ∷ false ∷ false ∷ z ∷ false ∷ false ∷ [])) (not_idle (group_at s g).status busy))
       stops_without_error DisableHardwareTrigger i k =
           group_errors d s g DisableHardwareTrigger k
-          ∙ (ap (λ z. first_error services.AdcDisableHardwareTrigger (false ∷ false ∷ z ∷ is_idle (group_at s g).status ∷ false ∷ false ∷ [])) k.right
-          ∙ ap (λ z. first_error services.AdcDisableHardwareTrigger (false ∷ false ∷ false ∷ z ∷ false ∷ false ∷ [])) (awake (group_at s g).status busy))
+          ∙ (ap (λ z. first_error Service.AdcDisableHardwareTrigger (false ∷ false ∷ z ∷ is_idle (group_at s g).status ∷ false ∷ false ∷ [])) k.right
+          ∙ ap (λ z. first_error Service.AdcDisableHardwareTrigger (false ∷ false ∷ false ∷ z ∷ false ∷ false ∷ [])) (not_idle (group_at s g).status busy))
       stops_without_error _ i k = absurd i
 
-  does : Some (acts_by d s (calls.Group g call) (error_by d (calls.Group g call) (circumstances d s (calls.Group g call)))) ≡ Some (outcome t tells_nothing)
-  does = ap (λ x. Some (acts_by d s (calls.Group g call) x)) none_error ∙ by call stop
+  does : Some (acts_by d s (Call.Group g call) (error_by d (Call.Group g call) (circumstances d s (Call.Group g call)))) ≡ Some (outcome t tells_nothing)
+  does = ap (λ x. Some (acts_by d s (Call.Group g call) x)) none_error ∙ by call stop
     where
-      by : (c : GroupCall) → IsStop c → Some (acts_by d s (calls.Group g c) None) ≡ Some (outcome t tells_nothing)
+      by : (c : GroupCall) → IsStop c → Some (acts_by d s (Call.Group g c) None) ≡ Some (outcome t tells_nothing)
       by StopGroupConversion i = refl
       by DisableHardwareTrigger i = refl
       by _ i = absurd i
 
   -- it had no turn
-  pub quiet_right : has_turn s g ≡ false → RightOr (AdcGround d) (adc_bodies d f r) below chip w s (record { table = d; place = Makes (making (Some events.Act) (quieted d g) nothing_more) }) line y fresh_history m (ended_at (adc_bodies d f r) body_ends (record { table = d; place = Makes (making (Some events.Act) (quieted d g) nothing_more) }) (value_of chip (body_work (record { table = d; place = Makes (making (Some events.Act) (quieted d g) nothing_more) }))))
+  pub quiet_right : has_turn s g ≡ false → RightOr (AdcGround d) (adc_bodies d f r) below chip w s (record { table = d; place = Makes (making (Some Event.Act) (quieted d g) nothing_more) }) line y fresh_history m (ended_at (adc_bodies d f r) body_ends (record { table = d; place = Makes (making (Some Event.Act) (quieted d g) nothing_more) }) (value_of chip (body_work (record { table = d; place = Makes (making (Some Event.Act) (quieted d g) nothing_more) }))))
   quiet_right none =
-      steps_so d f r below chip w s m y line fresh_history (record { table = d; place = Makes (making (Some events.Act) (quieted d g) nothing_more) }) (record { table = d; place = Makes (record (making (Some events.Act) (quieted d g) nothing_more) { made = 1 }) }) (step (Some events.Act))
-      (first_takes d events.Act deed (Set (words.Notified g) 0) (off_where wired (trigger_bit d g)) None None nothing_more (value_of chip (deed_move d deed))) refl (record {
+      steps_so d f r below chip w s m y line fresh_history (record { table = d; place = Makes (making (Some Event.Act) (quieted d g) nothing_more) }) (record { table = d; place = Makes (record (making (Some Event.Act) (quieted d g) nothing_more) { made = 1 }) }) (step (Some Event.Act))
+      (first_takes d Event.Act deed (Set (Word.Notified g) 0) (off_where wired (trigger_bit d g)) None None nothing_more (value_of chip (deed_move d deed))) refl (record {
         may = refl;
         stands = tt;
         state = t;
@@ -501,25 +476,25 @@ module _ (d : AdcTable) (fits : FitsAdc d) (f r : AdcBody → ℕ) (below : Rese
         is = does;
         sends = tt;
         acts = tt;
-        reset = sym (asks_no (adc_machine d) (calls.Group g call) (Some events.Act) (Some (outcome t tells_nothing)) (not_reset (calls.Group g call)));
+        reset = sym (asks_no (adc_machine d) (Call.Group g call) (Some Event.Act) (Some (outcome t tells_nothing)) (not_reset (Call.Group g call)));
         next = (
-          comes false false false none (none_runs s g none u few) (eq_other (word_of chip (word_number d (words.Claim u))) (2 + g) (no_keeper d chip w s g u (none_waits s g none) below h.right claim_was)) nothing_more acted (differs_none (own_of (order_of u)) acted first_whole)
-              (order_first d fits g u may.there few chip whole deed refl acted (differs_none (own_of (order_of u)) acted first_whole) [] tt xs unit_was.order.1),
-          (refl, Leaves_acted (calls.Group g call) Is_this_frame refl),
+          comes false false false none (none_runs s g none u few) (eq_other (word_of chip (word_number d (Word.Claim u))) (2 + g) (no_keeper d chip w s g u (none_waits s g none) below h.right claim_was)) nothing_more acted (differs_none (order_own (order_of u)) acted first_whole)
+              (order_first d fits g u may.there few chip whole deed refl acted (differs_none (order_own (order_of u)) acted first_whole) [] tt xs unit_was.order.1),
+          (refl, Leaves_acted (Call.Group g call) Is_this_frame refl),
         );
       })
 
   abbrev begins : Continuation
-  begins = thens.Goes (Closes (windows.Begin u))
+  begins = Continuation.Goes (Closes (Window.Begin u))
 
   entry_is : entry g ≡ g
   entry_is = mod-eq_of_lt lt
 
   -- it had one
-  pub turn_right : has_turn s g ≡ true → (run lost : Bool) → is_round_of g (round_at s u) ≡ run → (word_of chip (word_number d (words.Claim u)) == 2 + g) ≡ lost → RightOr (AdcGround d) (adc_bodies d f r) below chip w s (record { table = d; place = Makes (stop_by d u g run lost) }) line y fresh_history m (ended_at (adc_bodies d f r) body_ends (record { table = d; place = Makes (stop_by d u g run lost) }) (value_of chip (body_work (record { table = d; place = Makes (stop_by d u g run lost) }))))
+  pub turn_right : has_turn s g ≡ true → (run lost : Bool) → is_round_of g (round_at s u) ≡ run → (word_of chip (word_number d (Word.Claim u)) == 2 + g) ≡ lost → RightOr (AdcGround d) (adc_bodies d f r) below chip w s (record { table = d; place = Makes (stop_by d u g run lost) }) line y fresh_history m (ended_at (adc_bodies d f r) body_ends (record { table = d; place = Makes (stop_by d u g run lost) }) (value_of chip (body_work (record { table = d; place = Makes (stop_by d u g run lost) }))))
   turn_right on run lost runs loses =
-      steps_so d f r below chip w s m y line fresh_history (record { table = d; place = Makes (stop_by d u g run lost) }) (record { table = d; place = Makes (record (stop_by d u g run lost) { made = 1 }) }) (step (Some events.Act))
-      (first_takes d events.Act deed (Set (words.Notified g) 0) (off_where wired (trigger_bit d g) ++ (taken_away run u ++ (claim_lost lost u ++ Set (words.Turn g) 0 ∷ []))) (Some (shapes.Drop (drop_start (order_of u) (entry g)))) None begins (value_of chip (deed_move d deed))) refl (record {
+      steps_so d f r below chip w s m y line fresh_history (record { table = d; place = Makes (stop_by d u g run lost) }) (record { table = d; place = Makes (record (stop_by d u g run lost) { made = 1 }) }) (step (Some Event.Act))
+      (first_takes d Event.Act deed (Set (Word.Notified g) 0) (off_where wired (trigger_bit d g) ++ (taken_away run u ++ (claim_lost lost u ++ Set (Word.Turn g) 0 ∷ []))) (Some (StructureOp.Drop (drop_start (order_of u) (entry g)))) None begins (value_of chip (deed_move d deed))) refl (record {
         may = refl;
         stands = tt;
         state = t;
@@ -528,17 +503,17 @@ module _ (d : AdcTable) (fits : FitsAdc d) (f r : AdcBody → ℕ) (below : Rese
         is = does;
         sends = tt;
         acts = tt;
-        reset = sym (asks_no (adc_machine d) (calls.Group g call) (Some events.Act) (Some (outcome t tells_nothing)) (not_reset (calls.Group g call)));
-        next = (settles, (refl, (Has_acted (calls.Group g call) Is_this_frame, few)));
+        reset = sym (asks_no (adc_machine d) (Call.Group g call) (Some Event.Act) (Some (outcome t tells_nothing)) (not_reset (Call.Group g call)));
+        next = (settles, (refl, (Has_acted (Call.Group g call) Is_this_frame, few)));
       })
     where
       there : is_there (entry g) xs ≡ true
       there = ap (λ n. is_there n xs) entry_is ∙ (unit_was.order.2.there g ∙ (ap (λ q. q && is_on u (group_of d g)) on ∙ at))
 
-      settles : (n : ℕ) × CommitsTo (making_owed d) n (record { table = d; order = Some (shapes.Drop (drop_start (order_of u) (entry g))); banks = None; deeds = ends_of d u g true wired run lost; after = begins }) acted (λ c. Agrees d (asking line (Some no_answer) u below false) c w t)
+      settles : (n : ℕ) × CommitsTo (making_owed d) n (record { table = d; order = Some (StructureOp.Drop (drop_start (order_of u) (entry g))); banks = None; deeds = ends_of d u g true wired run lost; after = begins }) acted (λ c. Agrees d (asking line (Some no_answer) u below false) c w t)
       settles =
-          settles_part dropping (own_of (order_of u)) (making_owed d) (λ q. record { table = d; order = Some (shapes.Drop q); banks = None; deeds = ends_of d u g true wired run lost; after = begins }) (λ ws. owed_of d None None (ends_of d u g true wired run lost) begins)
-          (drop_part d fits (own_of (order_of u)) (λ k e. order_words d u k few e) None (ends_of d u g true wired run lost) begins) (λ k e. word_there d fits k (order_words d u k few e)) (λ k ws. HoldsOrder (order_of u) k (left_of (entry g) xs) × (ws ≡ [])) (λ c. Agrees d (asking line (Some no_answer) u below false) c w t)
-          (if nat_lt 8 (length xs) then 6 else 4) (drop_start (order_of u) (entry g)) acted (whole_first d fits g u may.there few chip whole deed refl acted (differs_none (own_of (order_of u)) acted first_whole) [] tt)
-          (drop-ends (order_of u) (entry g) (word_of acted) xs (order_first d fits g u may.there few chip whole deed refl acted (differs_none (own_of (order_of u)) acted first_whole) [] tt xs unit_was.order.1) there)
+          settles_part dropping (order_own (order_of u)) (making_owed d) (λ q. record { table = d; order = Some (StructureOp.Drop q); banks = None; deeds = ends_of d u g true wired run lost; after = begins }) (λ ws. owed_of d None None (ends_of d u g true wired run lost) begins)
+          (drop_part d fits (order_own (order_of u)) (λ k e. order_words d u k few e) None (ends_of d u g true wired run lost) begins) (λ k e. word_there d fits k (order_words d u k few e)) (λ k ws. HoldsOrder (order_of u) k (left_of (entry g) xs) × (ws ≡ [])) (λ c. Agrees d (asking line (Some no_answer) u below false) c w t)
+          (if nat_lt 8 (length xs) then 6 else 4) (drop_start (order_of u) (entry g)) acted (whole_first d fits g u may.there few chip whole deed refl acted (differs_none (order_own (order_of u)) acted first_whole) [] tt)
+          (drop-ends (order_of u) (entry g) (word_of acted) xs (order_first d fits g u may.there few chip whole deed refl acted (differs_none (order_own (order_of u)) acted first_whole) [] tt xs unit_was.order.1) there)
           (λ c ws differs dd. comes true run lost on runs loses begins c differs (subst (λ n. HoldsOrder (order_of u) (word_of c) (left_of n xs)) entry_is dd.0))

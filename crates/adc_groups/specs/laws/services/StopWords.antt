@@ -1,29 +1,27 @@
 -- A group is stopped: the state after it, and what its window's moves make of words and of the block.
--- From words.StructureParts, hardware.PendingWritesStable, services.Decisions, hardware.HardwareCommutes and 4 more.
+-- From hardware.HardwareCommutes, words.StructureParts, services.Decisions, bookkeeping.RefinementRight and 6 more.
 -- Used by services.StopRight, adc_serving: services.ServeActRight, adc_serving: services.ServeWords and 1 more.
-use Rattle.std.proofs.Common.{◌≡◌, ◌≢◌, ◌+◌, ◌*◌, ◌^◌, ◌<◌, ◌≤◌, ◌&&◌, ◌||◌, ◌==◌, [], ◌∷◌, ◌++◌, ◌∙◌}
-use Rattle.std.proofs.Common.{if◌then◌else◌}
+use Rattle.std.proofs.Common.{◌≡◌, ◌≢◌, ◌+◌, ◌*◌, ◌^◌, ◌<◌, ◌≤◌, ◌&&◌, ◌||◌, ◌==◌, [], ◌∷◌, ◌++◌, ◌∙◌, if◌then◌else◌}
 use Rattle.adc_groups.specs.Terms
-use Terms.{Abort, ack_left, AdcState, AdcTable, after_deeds, after_list, AllMay, AllRight, and_false, and_first, ap}
-use Terms.{arith, bit_of_trigger, Bool, Chip, chip_after, claim_fits, claim_lost, claim_right, Claims, claims_on}
-use Terms.{Continuation, Converter, ConverterAck, Converters, deed_move, eq_self, false, Fills, FitsAdc, flag_left}
-use Terms.{Full, group_at, group_of, group_same, group_word, GroupState, has_bit, has_bit-without, HasWords}
-use Terms.{HeldRight, Idle, idle, is_some, is_word, IsBlock, IsDone, IsUnkept, Keeps, length, length-set, List}
-use Terms.{making_owed, nat_lt, nat_tests, None, not, off, off_where, Option, owed_of, owed_own, pow_below, quiet}
-use Terms.{refl, Reservation, Reservations, round_at, Set, Some, some_hold, STATE, stopped, Store, subst, suc, sym}
-use Terms.{taken_away, trigger_bit, trigger_input, true, unless_of, unmarked_group, unmarked_round, untouched, Whole}
-use Terms.{WindowWrite, without, without_mark, word_number, word_of, World, ℕ}
-use Rattle.adc_groups.specs.{PendingWrites.{IsSound}, declared.making.WindowWrite.TheVariants.{Write}}
-use Rattle.adc_groups.specs.laws.{hardware.HardwareCommutes.{unit_block, unit_set, unit_other}}
-use Rattle.adc_groups.specs.laws.{bookkeeping.TriggerListener.{input_small, bit_is}}
-use Rattle.adc_groups.specs.laws.{hardware.PendingWritesStable.{aborted_done, acknowledged_over, aborted_list}}
-use Rattle.adc_groups.specs.laws.{hardware.PendingWritesStable.{acknowledged_list, unkept_same}}
-use Rattle.adc_groups.specs.laws.{words.WordsOfModule.{low_words, running_words, claim_words}}
-use Rattle.adc_groups.specs.laws.{services.RequestRight.{past_untouched, other_at}, words.StructureParts.{set_at}}
-use Rattle.adc_groups.specs.laws.{words.StructureParts.{lows_set, units_set, AllOf, own_named, deeds_unit, deeds_whole}}
-use Rattle.chip_converter.specs.Converters as chips
-use Rattle.adc_groups.specs.declared.words.Word.TheVariants as words
+use Terms.{Abort, ack_left, AdcState, AdcTable, after_deeds, after_list, AllMay, AllRight, and_false, and_true, ap}
+use Terms.{arith, bit_of_trigger, Bool, Chip, chip_after, claim_fits, claim_lost, claim_right, claims_on, Continuation}
+use Terms.{Converter, ConverterAck, Converters, deed_move, eq_self, false, FitsAdc, flag_left, group_at, group_of}
+use Terms.{group_same, GroupState, has_bit, has_bit-without, HasWords, Idle, idle, is_some, is_word, IsBlock, IsDone}
+use Terms.{IsUnkept, Keeps, length, length-set, List, making_owed, nat_lt, nat_tests, None, not, off, off_where, Option}
+use Terms.{option_as, owed_of, pow_below, quiet, refl, Reservation, Reservations, round_at, Set, Some, some_hold, STATE}
+use Terms.{stopped, Store, subst, suc, sym, taken_away, trigger_bit, trigger_input, true, unless_of, unmarked_group}
+use Terms.{unmarked_round, untouched, Whole, WindowWrite, without, without_mark, Word, word_number, word_of, World, ℕ}
+use Rattle.adc_groups.specs.{declared.making.WindowWrite.TheVariants.{Write}, laws.bookkeeping.FrameRule.{claim_keeps}}
+use Rattle.adc_groups.specs.laws.bookkeeping.RefinementRight.{bit_is, input_small}
+use Rattle.adc_groups.specs.laws.hardware.HardwareCommutes.{aborted_done, aborted_list, acknowledged_list}
+use Rattle.adc_groups.specs.laws.hardware.HardwareCommutes.{acknowledged_over, unit_block, unit_other, unit_set}
+use Rattle.adc_groups.specs.{laws.hardware.HardwareCommutes.{unkept_same}, laws.services.RequestRight.{may_set}}
+use Rattle.adc_groups.specs.{laws.words.StoreOneWord.{other_at, past_untouched}, laws.words.StructureParts.{AllOf}}
+use Rattle.adc_groups.specs.laws.words.StructureParts.{deeds_unit, deeds_whole, lows_set, own_named, set_at}
+use Rattle.adc_groups.specs.{laws.words.StructureParts.{units_set}, laws.words.WordsOfModule.{claim_words}}
+use Rattle.adc_groups.specs.{laws.words.WordsOfModule.{running_words}, PendingWrites.{IsSound}}
 use Rattle.mcal_base.specs.facts.Truths.{or_true}
+use Rattle.chip_converter.specs.Converters as chips
 
 -- ---- the state
 
@@ -63,8 +61,8 @@ halted_rest d s g = by (trigger_input (group_of d g))
 -- what its window makes after the first deed and the order, by whether the group has a turn and a trigger, whether its round is
 -- taken away and whether a claim is lost
 abbrev pub ends_of : AdcTable → (unit group : ℕ) → (turned wired run lost : Bool) → List WindowWrite
-ends_of d u g true wired run lost = Set (words.Notified g) 0 ∷ (off_where wired (trigger_bit d g) ++ (taken_away run u ++ (claim_lost lost u ++ Set (words.Turn g) 0 ∷ [])))
-ends_of d u g false wired run lost = Set (words.Notified g) 0 ∷ off_where wired (trigger_bit d g)
+ends_of d u g true wired run lost = Set (Word.Notified g) 0 ∷ (off_where wired (trigger_bit d g) ++ (taken_away run u ++ (claim_lost lost u ++ Set (Word.Turn g) 0 ∷ [])))
+ends_of d u g false wired run lost = Set (Word.Notified g) 0 ∷ off_where wired (trigger_bit d g)
 
 pub ends_all : (d : AdcTable) (u g : ℕ) (q wired run lost : Bool) → AllOf g u (ends_of d u g q wired run lost)
 ends_all d u g false true run lost = (refl, (tt, (tt, tt)))
@@ -82,16 +80,12 @@ turn_set true j x = set_at 3 0 j x
 turn_set false j x = x
 
 pub ends_low : (d : AdcTable) (u g : ℕ) (q wired run lost : Bool) (j x : ℕ) → lows_set (ends_of d u g q wired run lost) j x ≡ turn_set q j (set_at 2 0 j x)
-ends_low d u g false true run lost j x = refl
 ends_low d u g false false run lost j x = refl
-ends_low d u g true true true true j x = refl
 ends_low d u g true true true false j x = refl
-ends_low d u g true true false true j x = refl
 ends_low d u g true true false false j x = refl
-ends_low d u g true false true true j x = refl
 ends_low d u g true false true false j x = refl
-ends_low d u g true false false true j x = refl
 ends_low d u g true false false false j x = refl
+ends_low d u g _ _ _ _ j x = refl
 
 abbrev where_set : Bool → (place value j x : ℕ) → ℕ
 where_set true i v j x = set_at i v j x
@@ -116,19 +110,17 @@ pub ends_claim : (d : AdcTable) (u g : ℕ) (q wired run lost : Bool) → (q ≡
 ends_claim d u g q wired run lost still x = ends_unit d u g q wired run lost still 1 x ∙ claim_set run lost
   where
     claim_set : (run lost : Bool) → where_set lost 1 1 1 (where_set run 0 0 1 x) ≡ (if lost then 1 else x)
-    claim_set true true = refl
     claim_set true false = refl
-    claim_set false true = refl
     claim_set false false = refl
+    claim_set _ _ = refl
 
 pub ends_running : (d : AdcTable) (u g : ℕ) (q wired run lost : Bool) → (q ≡ false → (run ≡ false) × (lost ≡ false)) → (x : ℕ) → units_set (ends_of d u g q wired run lost) 0 x ≡ (if run then 0 else x)
 ends_running d u g q wired run lost still x = ends_unit d u g q wired run lost still 0 x ∙ running_set run lost
   where
     running_set : (run lost : Bool) → where_set lost 1 1 0 (where_set run 0 0 0 x) ≡ (if run then 0 else x)
-    running_set true true = refl
     running_set true false = refl
-    running_set false true = refl
     running_set false false = refl
+    running_set _ _ = refl
 
 pub turn_kept : (q : Bool) (j x : ℕ) → (3 == j) ≡ false → turn_set q j x ≡ x
 turn_kept true j x e = ap (λ b. if b then 0 else x) e
@@ -152,28 +144,20 @@ away_block false u c = c
 
 pub ends_block : (d : AdcTable) (u g : ℕ) (q wired run lost : Bool) → (q ≡ false → (run ≡ false) × (lost ≡ false)) → (c : Chip) → (after_list (deed_move d) c (ends_of d u g q wired run lost)).converters ≡ away_block run u (off_block wired (trigger_bit d g) c.converters)
 ends_block d u g false wired true lost still c = absurd (let e = (still refl).0 in cc)
-ends_block d u g false true false lost still c = refl
 ends_block d u g false false false lost still c = refl
-ends_block d u g true true true true still c = refl
 ends_block d u g true true true false still c = refl
-ends_block d u g true true false true still c = refl
 ends_block d u g true true false false still c = refl
-ends_block d u g true false true true still c = refl
 ends_block d u g true false true false still c = refl
-ends_block d u g true false false true still c = refl
 ends_block d u g true false false false still c = refl
+ends_block d u g _ _ _ _ still c = refl
 
 pub ends_control : (d : AdcTable) (u g : ℕ) (q wired run lost : Bool) (c : Chip) → (after_list (deed_move d) c (ends_of d u g q wired run lost)).control ≡ c.control
-ends_control d u g false true run lost c = refl
 ends_control d u g false false run lost c = refl
-ends_control d u g true true true true c = refl
 ends_control d u g true true true false c = refl
-ends_control d u g true true false true c = refl
 ends_control d u g true true false false c = refl
-ends_control d u g true false true true c = refl
 ends_control d u g true false true false c = refl
-ends_control d u g true false false true c = refl
 ends_control d u g true false false false c = refl
+ends_control d u g _ _ _ _ c = refl
 
 -- what stays of the block
 pub record BlockStays (w : World) (u : ℕ) (c e : Converters) : Type 0 where
@@ -228,36 +212,13 @@ away_over u c lt sound =
 
 -- ---- claims
 
-not_zero : (k : ℕ) → (2 + k == 0) ≡ true → ⊥
-not_zero k e = grind (arith, nat_tests)
-
-not_one : (k : ℕ) → (2 + k == 1) ≡ true → ⊥
-not_one k e = grind (arith, nat_tests)
-
 -- where a frame keeps values of a group, no round is on the unit
 pub kept_free : (d : AdcTable) (chip : Chip) (w : World) (s : AdcState) (u k : ℕ) (hs : Reservations) → AllRight d chip w s hs → claim_right hs u (2 + k) ≡ true → round_at s u ≡ None
-kept_free d chip w s u k [] r e = absurd (not_zero k e)
-kept_free d chip w s u k (x ∷ xs) r e = one x.what r.0 (kept_free d chip w s u k xs r.1) e
-  where
-    plain : (q : Bool) → (claim_right xs u (2 + k) ≡ true → round_at s u ≡ None) → (if q then (2 + k == 1) && not (some_hold (claims_on u) xs) else claim_right xs u (2 + k)) ≡ true → round_at s u ≡ None
-    plain true rest f = absurd (not_one k (and_first (2 + k == 1) (not (some_hold (claims_on u) xs)) f))
-    plain false rest f = rest f
-
-    keeping : (v : ℕ) (p q : Bool) → (u == v) ≡ q → round_at s v ≡ None → (claim_right xs u (2 + k) ≡ true → round_at s u ≡ None) → (if q then p && not (some_hold (claims_on u) xs) else claim_right xs u (2 + k)) ≡ true → round_at s u ≡ None
-    keeping v p true i none rest f = let same : u ≡ v = grind (arith, nat_tests) in ap (λ n. round_at s n) same ∙ none
-    keeping v p false i none rest f = rest f
-
-    one : (z : Reservation) → HeldRight d chip w s x z → (claim_right xs u (2 + k) ≡ true → round_at s u ≡ None) → (if claims_on u z then claim_fits z (2 + k) && not (some_hold (claims_on u) xs) else claim_right xs u (2 + k)) ≡ true → round_at s u ≡ None
-    one (Fills v j n m i y) h rest f = plain (u == v) rest f
-    one (Full v j n) h rest f = plain (u == v) rest f
-    one (Claims v) h rest f = plain (u == v) rest f
-    one (Keeps v j n m i y) h rest f = keeping v ((2 + k == 2 + j) || (2 + k == 1)) (u == v) refl h.2 rest f
-    one (Whole v j n) h rest f = keeping v ((2 + k == 2 + j) || (2 + k == 1)) (u == v) refl h.2 rest f
-    one _ h rest f = rest f
+kept_free d chip w s u k hs r e = (claim_keeps d chip w s u k hs r e).0
 
 -- such a claim may be lost
 pub claim_loses : (u k : ℕ) (hs : Reservations) → claim_right hs u (2 + k) ≡ true → claim_right hs u 1 ≡ true
-claim_loses u k [] e = absurd (not_zero k e)
+claim_loses u k [] e = absurd (let none : (2 + k == 0) ≡ true = e in grind (arith, nat_tests))
 claim_loses u k (x ∷ xs) e = one x.what (claims_on u x.what) (claim_loses u k xs) e
   where
     fits : (z : Reservation) → claim_fits z (2 + k) ≡ true → claim_fits z 1 ≡ true
@@ -275,20 +236,14 @@ claim_loses u k (x ∷ xs) e = one x.what (claims_on u x.what) (claim_loses u k 
 
 -- ---- its moves may be made
 
-and_true : (q : Bool) → q ≡ true → q && true ≡ true
-and_true true e = refl
-and_true false e = absurd (cc)
-
 pub deeds_list : (d : AdcTable) (c : Chip) (ds : List WindowWrite) → after_deeds d c ds ≡ after_list (deed_move d) c ds
 deeds_list d c [] = refl
 deeds_list d c (x ∷ xs) = deeds_list d (chip_after c (deed_move d x) 0) xs
 
 pub bits_few : (d : AdcTable) → FitsAdc d → (g : ℕ) → trigger_bit d g < 2 ^ 32
-bits_few d fits g = by (trigger_input (group_of d g)) refl
-  where
-    by : (o : Option ℕ) → trigger_input (group_of d g) ≡ o → bit_of_trigger o < 2 ^ 32
-    by None e = omega arith
-    by (Some i) e = let few = input_small d fits g i e in subst (λ n. n < 2 ^ 32) (sym (bit_is i few)) (pow_below i 32 (omega (arith, few)))
+bits_few d fits g = option_as (trigger_input (group_of d g)) (λ o. bit_of_trigger o < 2 ^ 32)
+    (λ i e. let few = input_small d fits g i e in subst (λ n. n < 2 ^ 32) (sym (bit_is i few)) (pow_below i 32 (omega (arith, few))))
+    (λ e. omega arith)
 
 module _ (d : AdcTable) (fits : FitsAdc d) (g u : ℕ) (there : is_some (group_of d g) ≡ true) (few : u < 2) (after : Continuation) where
   abbrev May : Chip → List WindowWrite → Type 0
@@ -297,40 +252,37 @@ module _ (d : AdcTable) (fits : FitsAdc d) (g u : ℕ) (there : is_some (group_o
   there_unit : nat_lt u 2 ≡ true
   there_unit = grind (arith, nat_tests)
 
-  may_set : (i v : ℕ) → i < 32 → owed_own d (Store (group_word d g i) v) ≡ true
-  may_set i v less = own_named d fits (λ k. is_word d k) (λ k e. e) (Store (group_word d g i) v) (low_words d fits g i there less)
-
   may_off : (wired : Bool) (c : Chip) (rest : List WindowWrite) → length c.converters.units ≡ 2 → c.converters.pulses < 16 → May (after_list (deed_move d) c (off_where wired (trigger_bit d g))) rest → May c (off_where wired (trigger_bit d g) ++ rest)
   may_off false c rest all small m = m
   may_off true c rest all small m =
       let bits = bits_few d fits g in
       ((refl, record { all = all; bits = bits; few = small; flags = λ i lt e. ap (λ q. q || flag_left rest i) e }), ((refl, record { bits = bits; few = small; gates = λ i lt e. has_bit-without c.converters.gates (trigger_bit d g) i bits (omega (arith, lt)) ∙ (ap (λ q. has_bit c.converters.gates i && not q) e ∙ and_false (has_bit c.converters.gates i)) }), m))
 
-  may_away : (run : Bool) (c : Chip) (rest : List WindowWrite) → length c.converters.units ≡ 2 → (run ≡ true → IsSound (chips.unit_at c.converters u).round c.converters.time) → (run ≡ true → IsUnkept d u c (Set (words.Running u) 0 ∷ rest)) → May (after_list (deed_move d) c (taken_away run u)) rest → May c (taken_away run u ++ rest)
+  may_away : (run : Bool) (c : Chip) (rest : List WindowWrite) → length c.converters.units ≡ 2 → (run ≡ true → IsSound (chips.unit_at c.converters u).round c.converters.time) → (run ≡ true → IsUnkept d u c (Set (Word.Running u) 0 ∷ rest)) → May (after_list (deed_move d) c (taken_away run u)) rest → May c (taken_away run u ++ rest)
   may_away false c rest all sound free m = m
   may_away true c rest all sound free m =
       let x : Converter = chips.aborted c.converters.time (chips.unit_at c.converters u) in
       let is : chips.unit_at (aborted_block u c.converters) u ≡ x = unit_set c.converters.units u x (omega (arith, few, all)) in (
-        (and_true (nat_lt u 2) there_unit, record { all = all; round = sound refl; ack = ap (λ q. q || ack_left (Set (words.Running u) 0 ∷ rest) u) (eq_self u); unkept = unkept_same d u c (chip_after c (deed_move d (Write (ConverterAck u) 1)) 0) (Set (words.Running u) 0 ∷ rest) refl (free refl) }),
+        (and_true (nat_lt u 2) ∙ there_unit, record { all = all; round = sound refl; ack = ap (λ q. q || ack_left (Set (Word.Running u) 0 ∷ rest) u) (eq_self u); unkept = unkept_same d u c (chip_after c (deed_move d (Write (ConverterAck u) 1)) 0) (Set (Word.Running u) 0 ∷ rest) refl (free refl) }),
         (
-          (and_true (nat_lt u 2) there_unit, record { all = length-set c.converters.units u x ∙ all; round = subst (λ (z : Converter). IsDone z.round c.converters.time) (sym is) (aborted_done (chips.unit_at c.converters u) c.converters.time (sound refl)); unkept = unkept_same d u c (chip_after c (deed_move d (Abort u)) 0) (Set (words.Running u) 0 ∷ rest) refl (free refl) }),
-          ((own_named d fits (λ k. is_word d k) (λ k e. e) (Store (word_number d (words.Running u)) 0) (running_words d u few), tt), m),
+          (and_true (nat_lt u 2) ∙ there_unit, record { all = length-set c.converters.units u x ∙ all; round = subst (λ (z : Converter). IsDone z.round c.converters.time) (sym is) (aborted_done (chips.unit_at c.converters u) c.converters.time (sound refl)); unkept = unkept_same d u c (chip_after c (deed_move d (Abort u)) 0) (Set (Word.Running u) 0 ∷ rest) refl (free refl) }),
+          ((own_named d fits (λ k. is_word d k) (λ k e. e) (Store (word_number d (Word.Running u)) 0) (running_words d u few), tt), m),
         ),
       )
 
   may_lose : (lost : Bool) (c : Chip) (rest : List WindowWrite) → May (after_list (deed_move d) c (claim_lost lost u)) rest → May c (claim_lost lost u ++ rest)
   may_lose false c rest m = m
-  may_lose true c rest m = ((own_named d fits (λ k. is_word d k) (λ k e. e) (Store (word_number d (words.Claim u)) 1) (claim_words d u few), tt), m)
+  may_lose true c rest m = ((own_named d fits (λ k. is_word d k) (λ k e. e) (Store (word_number d (Word.Claim u)) 1) (claim_words d u few), tt), m)
 
   off_nil : (wired : Bool) → off_where wired (trigger_bit d g) ++ [] ≡ off_where wired (trigger_bit d g)
   off_nil true = refl
   off_nil false = refl
 
-  off_all : (wired : Bool) → AllOf g u (Set (words.Notified g) 0 ∷ off_where wired (trigger_bit d g))
+  off_all : (wired : Bool) → AllOf g u (Set (Word.Notified g) 0 ∷ off_where wired (trigger_bit d g))
   off_all true = (refl, (tt, (tt, tt)))
   off_all false = (refl, tt)
 
-  off_claim : (wired : Bool) (x : ℕ) → units_set (Set (words.Notified g) 0 ∷ off_where wired (trigger_bit d g)) 1 x ≡ x
+  off_claim : (wired : Bool) (x : ℕ) → units_set (Set (Word.Notified g) 0 ∷ off_where wired (trigger_bit d g)) 1 x ≡ x
   off_claim true x = refl
   off_claim false x = refl
 
@@ -342,25 +294,25 @@ module _ (d : AdcTable) (fits : FitsAdc d) (g u : ℕ) (there : is_some (group_o
   off_length true c = refl
   off_length false c = refl
 
-  last_all : (lost : Bool) → AllOf g u (Set (words.Running u) 0 ∷ (claim_lost lost u ++ Set (words.Turn g) 0 ∷ []))
+  last_all : (lost : Bool) → AllOf g u (Set (Word.Running u) 0 ∷ (claim_lost lost u ++ Set (Word.Turn g) 0 ∷ []))
   last_all true = (refl, (refl, (refl, tt)))
   last_all false = (refl, (refl, tt))
 
-  last_claim : (lost : Bool) (x : ℕ) → units_set (Set (words.Running u) 0 ∷ (claim_lost lost u ++ Set (words.Turn g) 0 ∷ [])) 1 x ≡ (if lost then 1 else x)
+  last_claim : (lost : Bool) (x : ℕ) → units_set (Set (Word.Running u) 0 ∷ (claim_lost lost u ++ Set (Word.Turn g) 0 ∷ [])) 1 x ≡ (if lost then 1 else x)
   last_claim true x = refl
   last_claim false x = refl
 
-  pub may_ends : (q wired run lost : Bool) (c : Chip) → HasWords c → length c.converters.units ≡ 2 → c.converters.pulses < 16 → (run ≡ true → IsSound (chips.unit_at c.converters u).round c.converters.time) → (run ≡ true → (k : ℕ) → word_of c (word_number d (words.Claim u)) ≢ 2 + k) → May c (ends_of d u g q wired run lost)
-  may_ends false wired run lost c whole all small sound free = ((may_set 2 0 (omega arith), tt), subst (λ zs. May (chip_after c (deed_move d (Set (words.Notified g) 0)) 0) zs) (off_nil wired) (may_off wired (chip_after c (deed_move d (Set (words.Notified g) 0)) 0) [] all small tt))
+  pub may_ends : (q wired run lost : Bool) (c : Chip) → HasWords c → length c.converters.units ≡ 2 → c.converters.pulses < 16 → (run ≡ true → IsSound (chips.unit_at c.converters u).round c.converters.time) → (run ≡ true → (k : ℕ) → word_of c (word_number d (Word.Claim u)) ≢ 2 + k) → May c (ends_of d u g q wired run lost)
+  may_ends false wired run lost c whole all small sound free = ((may_set d fits g there 2 0 (omega arith), tt), subst (λ zs. May (chip_after c (deed_move d (Set (Word.Notified g) 0)) 0) zs) (off_nil wired) (may_off wired (chip_after c (deed_move d (Set (Word.Notified g) 0)) 0) [] all small tt))
   may_ends true wired run lost c whole all small sound free = (
-    (may_set 2 0 (omega arith), tt),
-    may_off wired told (taken_away run u ++ (claim_lost lost u ++ Set (words.Turn g) 0 ∷ [])) all small
-        (may_away run later (claim_lost lost u ++ Set (words.Turn g) 0 ∷ []) (ap (λ (z : Converters). length z.units) (off_after wired told) ∙ (off_length wired c.converters ∙ all)) unit unkept
-        (may_lose lost (after_list (deed_move d) later (taken_away run u)) (Set (words.Turn g) 0 ∷ []) ((may_set 3 0 (omega arith), tt), tt))),
+    (may_set d fits g there 2 0 (omega arith), tt),
+    may_off wired told (taken_away run u ++ (claim_lost lost u ++ Set (Word.Turn g) 0 ∷ [])) all small
+        (may_away run later (claim_lost lost u ++ Set (Word.Turn g) 0 ∷ []) (ap (λ (z : Converters). length z.units) (off_after wired told) ∙ (off_length wired c.converters ∙ all)) unit unkept
+        (may_lose lost (after_list (deed_move d) later (taken_away run u)) (Set (Word.Turn g) 0 ∷ []) ((may_set d fits g there 3 0 (omega arith), tt), tt))),
   )
     where
       told : Chip
-      told = chip_after c (deed_move d (Set (words.Notified g) 0)) 0
+      told = chip_after c (deed_move d (Set (Word.Notified g) 0)) 0
 
       later : Chip
       later = after_list (deed_move d) told (off_where wired (trigger_bit d g))
@@ -369,22 +321,22 @@ module _ (d : AdcTable) (fits : FitsAdc d) (g u : ℕ) (there : is_some (group_o
       unit e = subst (λ (z : Converters). IsSound (chips.unit_at z u).round z.time) (sym (off_after wired told)) (subst (λ n. IsSound (chips.unit_at (off_block wired (trigger_bit d g) c.converters) u).round n) (sym (off_time wired (trigger_bit d g) c.converters)) (subst (λ (z : Converter). IsSound z.round c.converters.time) (sym (off_unit wired (trigger_bit d g) u c.converters)) (sound e)))
 
       whole_later : HasWords later
-      whole_later = deeds_whole d (Set (words.Notified g) 0 ∷ off_where wired (trigger_bit d g)) c whole
+      whole_later = deeds_whole d (Set (Word.Notified g) 0 ∷ off_where wired (trigger_bit d g)) c whole
 
-      at : STATE + 8 + 8 * u + 1 ≡ word_number d (words.Claim u)
+      at : STATE + 8 + 8 * u + 1 ≡ word_number d (Word.Claim u)
       at = omega arith
 
       before : word_of later (STATE + 8 + 8 * u + 1) ≡ word_of c (STATE + 8 + 8 * u + 1)
-      before = deeds_unit d fits g u there few (Set (words.Notified g) 0 ∷ off_where wired (trigger_bit d g)) (off_all wired) c whole 1 (omega arith) ∙ off_claim wired (word_of c (STATE + 8 + 8 * u + 1))
+      before = deeds_unit d fits g u there few (Set (Word.Notified g) 0 ∷ off_where wired (trigger_bit d g)) (off_all wired) c whole 1 (omega arith) ∙ off_claim wired (word_of c (STATE + 8 + 8 * u + 1))
 
-      last : word_of (after_deeds d later (Set (words.Running u) 0 ∷ (claim_lost lost u ++ Set (words.Turn g) 0 ∷ []))) (STATE + 8 + 8 * u + 1) ≡ (if lost then 1 else word_of c (STATE + 8 + 8 * u + 1))
+      last : word_of (after_deeds d later (Set (Word.Running u) 0 ∷ (claim_lost lost u ++ Set (Word.Turn g) 0 ∷ []))) (STATE + 8 + 8 * u + 1) ≡ (if lost then 1 else word_of c (STATE + 8 + 8 * u + 1))
       last =
-          ap (λ z. word_of z (STATE + 8 + 8 * u + 1)) (deeds_list d later (Set (words.Running u) 0 ∷ (claim_lost lost u ++ Set (words.Turn g) 0 ∷ [])))
-          ∙ (deeds_unit d fits g u there few (Set (words.Running u) 0 ∷ (claim_lost lost u ++ Set (words.Turn g) 0 ∷ [])) (last_all lost) later whole_later 1 (omega arith)
+          ap (λ z. word_of z (STATE + 8 + 8 * u + 1)) (deeds_list d later (Set (Word.Running u) 0 ∷ (claim_lost lost u ++ Set (Word.Turn g) 0 ∷ [])))
+          ∙ (deeds_unit d fits g u there few (Set (Word.Running u) 0 ∷ (claim_lost lost u ++ Set (Word.Turn g) 0 ∷ [])) (last_all lost) later whole_later 1 (omega arith)
           ∙ (last_claim lost (word_of later (STATE + 8 + 8 * u + 1)) ∙ ap (λ x. if lost then 1 else x) before))
 
-      unkept : run ≡ true → IsUnkept d u later (Set (words.Running u) 0 ∷ (claim_lost lost u ++ Set (words.Turn g) 0 ∷ []))
-      unkept e k same = by lost (sym last ∙ subst (λ n. word_of (after_deeds d later (Set (words.Running u) 0 ∷ (claim_lost lost u ++ Set (words.Turn g) 0 ∷ []))) n ≡ 2 + k) (sym at) same)
+      unkept : run ≡ true → IsUnkept d u later (Set (Word.Running u) 0 ∷ (claim_lost lost u ++ Set (Word.Turn g) 0 ∷ []))
+      unkept e k same = by lost (sym last ∙ subst (λ n. word_of (after_deeds d later (Set (Word.Running u) 0 ∷ (claim_lost lost u ++ Set (Word.Turn g) 0 ∷ []))) n ≡ 2 + k) (sym at) same)
         where
           by : (l : Bool) → (if l then 1 else word_of c (STATE + 8 + 8 * u + 1)) ≡ 2 + k → ⊥
           by true f = omega (arith, f)

@@ -1,27 +1,18 @@
 -- The moves that a window makes: which one is next, and what is left after it.
--- Used by adc_driver: bookkeeping.PendingWritesRight, adc_turns: services.WriteBatchRight and 35 more.
+-- Used by adc_driver: bookkeeping.MaskDiscipline, adc_driver: bookkeeping.PendingWritesRight and 28 more.
 use Rattle.std.specs.Prelude.{ℕ, ◌+◌, ◌==◌, ◌&&◌, not, nat_lt, nat_le, Bool, if◌then◌else◌, Option, Some, None, is_some, List, length, slice_get}
-use Rattle.mcal_base.specs.declared.moves.Event.{Event}
-use Rattle.mcal_base.specs.declared.moves.Move.{Move}
-use Rattle.mcal_base.specs.declared.moves.Move.TheVariants.{Read, Write, Store, Unmask}
-use Rattle.mcal_base.specs.declared.register.Reg.TheVariants.{ConverterAbort, EnableClear}
-use Rattle.word_shapes.specs.PriorityQueue.{add_move, add_left, add_gave, again_move, again_left, again_gave, drop_move, drop_left, drop_gave, next_move, next_left, next_gave}
-use Rattle.word_shapes.specs.TripleBuffer.{put_move, put_left, put_gave, take_move, take_left, take_gave}
-use Rattle.adc_groups.specs.Stored.{word_number}
-use Rattle.adc_machine.specs.declared.table.AdcTable.{AdcTable}
-use Rattle.adc_groups.specs.declared.making.WindowWrite.{WindowWrite}
-use Rattle.adc_groups.specs.declared.making.WindowWrite.TheVariants as deeds
-use Rattle.adc_groups.specs.declared.making.WriteBatch.{WriteBatch}
-use Rattle.adc_groups.specs.declared.making.StructureOp.{StructureOp}
-use Rattle.adc_groups.specs.declared.making.StructureOp.TheVariants.{Add, Again, Drop, Next, Put, Take}
-use Rattle.adc_groups.specs.declared.making.Continuation.{Continuation}
-use Rattle.adc_groups.specs.declared.words.TheConstants.{LINES}
+use Rattle.adc_groups.specs.StepTerms
+use StepTerms.{AdcTable, Add, add_gave, add_left, add_move, Again, again_gave, again_left, again_move, Continuation}
+use StepTerms.{ConverterAbort, Drop, drop_gave, drop_left, drop_move, EnableClear, Event, LINES, Move, Next}
+use StepTerms.{next_gave, next_left, next_move, put_gave, put_left, put_move, Read, Store, StructureOp, take_gave}
+use StepTerms.{take_left, take_move, Unmask, WindowWrite, word_number, Write, WriteBatch}
+use Rattle.adc_groups.specs.declared.making.StructureOp.TheVariants.{Put, Take}
 
 abbrev pub deed_move : AdcTable → WindowWrite → Move
-deed_move d (deeds.Set w v) = Store (word_number d w) v
-deed_move d (deeds.Write r v) = Write r v
-deed_move d (deeds.Abort u) = Read (ConverterAbort u)
-deed_move d deeds.Disable = Write EnableClear LINES
+deed_move d (WindowWrite.Set w v) = Store (word_number d w) v
+deed_move d (WindowWrite.Write r v) = Write r v
+deed_move d (WindowWrite.Abort u) = Read (ConverterAbort u)
+deed_move d WindowWrite.Disable = Write EnableClear LINES
 
 -- ---- changes of orders and banks
 

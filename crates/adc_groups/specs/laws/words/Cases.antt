@@ -1,7 +1,7 @@
 -- A proof by cases, told where it is needed: of one of two facts, of a test, and of a value that may be there.
--- Used by adc_driver: bookkeeping.SizeBounds, hardware.HardwareCommutes, services.RequestRight and 55 more.
-use Rattle.std.proofs.Common.{◌≡◌, ◌⊎◌}
-use Rattle.std.proofs.Common.{Bool, false, inl, inr, None, Option, refl, Some, true}
+-- Used by services.CallSteps, services.DeInitRight, adc_driver: bookkeeping.Rank, bookkeeping.FrameRule and 48 more.
+use Rattle.std.proofs.Common.{◌≡◌, ◌+◌, ◌<◌, ◌⊎◌}
+use Rattle.std.proofs.Common.{arith, Bool, false, inl, inr, None, Option, refl, Some, true, ℕ}
 
 pub cases : {A B C : Type 0} → A ⊎ B → (A → C) → (B → C) → C
 cases (inl a) one other = one a
@@ -19,3 +19,12 @@ whether_as false P on off = off refl
 pub some_or_none : {A C : Type 0} (o : Option A) → ((a : A) → o ≡ Some a → C) → (o ≡ None → C) → C
 some_or_none (Some a) there none = there a refl
 some_or_none None there none = none refl
+
+-- what is shown speaks of the value
+pub option_as : {A : Type 0} (o : Option A) (P : Option A → Type 0) → ((a : A) → o ≡ Some a → P (Some a)) → (o ≡ None → P None) → P o
+option_as (Some a) P there none = there a refl
+option_as None P there none = none refl
+
+-- below the next number is that number, or below it
+pub same_or_below : (i n : ℕ) → i < n + 1 → (i ≡ n) ⊎ (i < n)
+same_or_below i n less = grind arith

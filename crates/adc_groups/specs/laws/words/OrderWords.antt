@@ -1,14 +1,13 @@
 -- What an order of requests stands for after it was changed.
 -- From words.Cases.
--- Used by services.StopRight, adc_serving: services.ServeActRight, services.EnableTriggerRight and 5 more.
+-- Used by services.StopRight, adc_serving: services.ServeActRight, bookkeeping.FrameRule and 7 more.
 use Rattle.std.proofs.Common.{◌≡◌, ◌≢◌, ◌<◌, ◌&&◌, ◌||◌, ◌==◌, [], ◌∷◌, ◌++◌, ◌∙◌, ◌⊎◌, if◌then◌else◌}
 use Rattle.adc_groups.specs.Terms
-use Terms.{AdcState, AdcTable, added, and_parts, ap, arith, Bool, cases, Entry, eq_other, eq_self, false, group_at}
-use Terms.{group_of, has_turn, inl, inr, is_on, is_some, is_there, is_there-append, is_there-waiting, IsOnce, IsOrder}
-use Terms.{length, List, map, nat_tests, number-waiting, number_at, or_false, or_left, or_right, refl, same_or_other}
-use Terms.{slice_get, Some, subst, suc, sym, true, waiting, whether_as, with_wait, zero, ℕ}
+use Terms.{AdcState, AdcTable, added, and_parts, and_second, ap, arith, Bool, cases, Entry, eq_other, eq_self, false}
+use Terms.{group_at, group_of, has_turn, inl, inr, is_on, is_some, is_there, is_there-append, is_there-waiting, IsOnce}
+use Terms.{IsOrder, length, List, map, nat_tests, number-waiting, number_at, or_false, or_left, or_right, refl}
+use Terms.{same_or_other, slice_get, Some, subst, suc, sym, true, waiting, whether_as, with_wait, zero, ℕ}
 use Rattle.word_shapes.specs.Order.{without}
-use Rattle.mcal_base.specs.facts.Truths.{and_second}
 
 -- ---- lists
 
@@ -90,15 +89,13 @@ module _ (d : AdcTable) (s t : AdcState) (g u : ℕ) (at : is_on u (group_of d g
 
     pub order_added : IsOrder d t u (added g xs)
     order_added = record {
-      there = λ k. is_there-append k xs (record { number = g; waits = true } ∷ []) ∙ there_by k (same_or_other k g);
+      there = λ k. is_there-append k xs (record { number = g; waits = true } ∷ []) ∙ cases (same_or_other k g)
+          (λ e. subst (λ n. is_there n xs || ((g == n) || false) ≡ has_turn t n && is_on u (group_of d n)) (sym e) (or_right (is_there g xs) ((g == g) || false) (ap (λ q. q || false) (eq_self g)) ∙ sym (ap (λ q. q && is_on u (group_of d g)) turn ∙ at)))
+          (λ ne. ap (λ q. is_there k xs || (q || false)) (eq_other g k (λ e. ne (sym e))) ∙ (or_false (is_there k xs) ∙ (o.there k ∙ ap (λ q. q && is_on u (group_of d k)) (sym (turns k ne)))));
       waits = λ i x e. waits_by i x (last_or xs (record { number = g; waits = true }) i x e);
       sorted = λ i j x y lt e f. sorted_by i j x y lt (last_or xs (record { number = g; waits = true }) i x e) (last_or xs (record { number = g; waits = true }) j y f);
     }
       where
-        there_by : (k : ℕ) → (k ≡ g) ⊎ (k ≢ g) → is_there k xs || ((g == k) || false) ≡ has_turn t k && is_on u (group_of d k)
-        there_by k (inl e) = subst (λ n. is_there n xs || ((g == n) || false) ≡ has_turn t n && is_on u (group_of d n)) (sym e) (or_right (is_there g xs) ((g == g) || false) (ap (λ q. q || false) (eq_self g)) ∙ sym (ap (λ q. q && is_on u (group_of d g)) turn ∙ at))
-        there_by k (inr ne) = ap (λ q. is_there k xs || (q || false)) (eq_other g k (λ e. ne (sym e))) ∙ (or_false (is_there k xs) ∙ (o.there k ∙ ap (λ q. q && is_on u (group_of d k)) (sym (turns k ne))))
-
         waits_by : (i : ℕ) (x : Entry) → (slice_get xs i ≡ Some x) ⊎ ((i ≡ length xs) × (x ≡ record { number = g; waits = true })) → x.waits ≡ is_some (group_at t x.number).waiting
         waits_by i x (inl e) = o.waits i x e ∙ sym (waits x.number (other i x e))
         waits_by i x (inr e) = subst (λ (z : Entry). z.waits ≡ is_some (group_at t z.number).waiting) (sym e.1) (sym waiting_now)
@@ -113,15 +110,12 @@ module _ (d : AdcTable) (s t : AdcState) (g u : ℕ) (at : is_on u (group_of d g
   module _ (numbers : (k : ℕ) → has_turn s k ≡ true → is_on u (group_of d k) ≡ true → number_at d t k ≡ number_at d s k) (turn : has_turn t g ≡ has_turn s g) (q : Bool) (waiting_now : is_some (group_at t g).waiting ≡ q) where
     pub order_waiting : IsOrder d t u (waiting g q xs)
     order_waiting = record {
-      there = λ k. is_there-waiting k g q xs ∙ (o.there k ∙ ap (λ b. b && is_on u (group_of d k)) (sym (all_turns k (same_or_other k g))));
+      there = λ k. is_there-waiting k g q xs ∙ (o.there k ∙ ap (λ b. b && is_on u (group_of d k)) (sym (cases (same_or_other k g)
+          (λ e. subst (λ n. has_turn t n ≡ has_turn s n) (sym e) turn) (λ ne. turns k ne))));
       waits = λ i x e. waits_at i x (mapped (with_wait g q) xs i x e);
       sorted = λ i j x y lt e f. sorted_at i j x y lt (mapped (with_wait g q) xs i x e) (mapped (with_wait g q) xs j y f);
     }
       where
-        all_turns : (k : ℕ) → (k ≡ g) ⊎ (k ≢ g) → has_turn t k ≡ has_turn s k
-        all_turns k (inl e) = subst (λ n. has_turn t n ≡ has_turn s n) (sym e) turn
-        all_turns k (inr ne) = turns k ne
-
         waits_one : (i : ℕ) (z : Entry) → slice_get xs i ≡ Some z → (b : Bool) → (z.number == g) ≡ b → let x : Entry = (if b then record { number = z.number; waits = q } else z) in x.waits ≡ is_some (group_at t x.number).waiting
         waits_one i z e true f = let same : z.number ≡ g = grind (arith, nat_tests) in sym (ap (λ n. is_some (group_at t n).waiting) same ∙ waiting_now)
         waits_one i z e false f = let ne : z.number ≢ g = grind (arith, nat_tests) in o.waits i z e ∙ sym (waits z.number ne)

@@ -1,26 +1,148 @@
 -- A store of a group's word, with the change of the group that it stands for, leaves all else agreeing.
--- From services.StatusCalls, words.WordsOfModule, words.DisjointWords, hardware.StableUnderHardware and 2 more.
--- Used by services.SingleWordCalls, adc_serving: services.PinRight.
-use Rattle.std.proofs.Common.{◌≡◌, ◌≢◌, ◌+◌, ◌-◌, ◌*◌, ◌/◌, ◌%◌, ◌<◌, ◌≤◌, ◌&&◌, ◌||◌, ◌==◌, [], ◌∷◌, ◌∙◌, ◌⊎◌}
+-- From words.WordsOfModule, hardware.StableUnderHardware, words.Cases, service_outline: Words, words.OrderWords.
+-- Used by adc_serving: services.PinRight, services.SingleWordCalls, adc_driver: services.InitWords and 17 more.
+use Rattle.std.proofs.Common.{◌≡◌, ◌≢◌, ◌+◌, ◌-◌, ◌*◌, ◌/◌, ◌%◌, ◌<◌, ◌≤◌, ◌&&◌, ◌||◌, ◌==◌, [], ◌∷◌, ◌∙◌}
+use Rattle.std.proofs.Common.{if◌then◌else◌}
 use Rattle.adc_groups.specs.Terms
-use Terms.{aborts, aborts_by, AdcState, AdcTable, Agrees, all_groups, AllRight, ap, arith, Bank, bank_number}
-use Terms.{bank_word, BanksAgree, bit_of, Call, cases, Chip, chip_after, chosen_of, claim_right, Clears, comes_before}
-use Terms.{cond, Copies, Fills, first_of, FitsAdc, Full, group_at, group_of, group_word, GroupAgrees, GroupState}
-use Terms.{has_turn, HeldRight, holds-agree, Idle, inputs_of, is_finished, is_on, is_outranked, is_some, IsSound}
-use Terms.{IsSoundGroup, Keeps, kept_by, kept_in, kept_of_round, kept_word, length, List, list_any, min, nat_lt}
-use Terms.{nat_tests, newest, next_among, next_group, None, not, number_at, number_by, number_in, Option, order_of}
-use Terms.{own-control, own-word, phase_of, Promised, rank_of, Reads, refl, Reservation, Reservations, ReservedBy}
-use Terms.{result_word, Round, round_at, rounds_of, samples_of, Settled, slice_get, Some, stands-agree, stands-move}
-use Terms.{starts, starts_by, STATE, Store, stored_other, stored_same, subst, sym, trio_of, true, unit_of, UnitAgrees}
-use Terms.{values_of, waits_for, Whole, with_group, word_number, word_of, World, ℕ}
-use Rattle.adc_groups.specs.laws.words.DisjointWords.{groups_apart, unit_apart, place_apart, trio_apart, kept_apart}
-use Rattle.adc_groups.specs.laws.hardware.StableUnderHardware.{value_within, listed_agree, kept_within}
-use Rattle.adc_groups.specs.laws.words.WordsOfModule.{words_below, low_words, on_there, within, bank_below, unit_small}
-use Rattle.adc_groups.specs.laws.words.WordsOfModule.{unit_within}
-use Rattle.adc_groups.specs.laws.services.StatusCalls.{sound_by, Touches, others, same, waiting_same, trigger_same}
-use Rattle.adc_groups.specs.laws.services.StatusCalls.{rounds_same, turn_same, listener_same}
-use Rattle.word_shapes.specs.PriorityQueue as ranked
-use Rattle.adc_groups.specs.declared.words.Word.TheVariants as words
+use Terms.{aborts, aborts_by, AdcState, AdcTable, Agrees, all_groups, AllRight, ap, arith, Bank, bank_number, bank_word}
+use Terms.{BanksAgree, bit_of, Bool, Call, cases, cases_lt, Chip, chip_after, chosen_of, claim_right, Clears}
+use Terms.{comes_before, cond, Copies, end_of, false, Fills, first_of, FitsAdc, Full, Group, group_at, group_of}
+use Terms.{group_other, group_same, group_word, GroupAgrees, GroupState, has_input, has_turn, HeldRight, holds-agree}
+use Terms.{Idle, inl, inputs_of, inr, is_finished, is_on, is_outranked, is_round_of, is_some, IsSound, IsSoundGroup}
+use Terms.{Keeps, kept_by, kept_in, kept_of_round, kept_word, length, List, list_any, listener, listener_among, listens}
+use Terms.{min, nat_lt, nat_tests, newest, next_among, next_group, None, not, number_at, number_by, number_in, Option}
+use Terms.{order_of, order_own, own-control, own-word, own_of, phase_of, Promised, rank_of, Reads, refl, Reservation}
+use Terms.{Reservations, ReservedBy, result_word, ResultBuffer, Round, round_at, rounds_of, same_or_other, samples_of}
+use Terms.{Settled, slice_get, slice_index_or, Some, SoundGroup, stands-agree, stands-move, start_of, starts, starts_by}
+use Terms.{STATE, Store, stored_other, stored_same, subst, suc, sym, trio_of, true, unit_of, UnitAgrees, untouched}
+use Terms.{waits_for, whether, Whole, with_group, Word, word_number, word_of, World, ℕ}
+use Rattle.adc_groups.specs.laws.hardware.StableUnderHardware.{few_values, kept_within, listed_agree}
+use Rattle.adc_groups.specs.laws.{words.OrderWords.{order_kept}, words.WordsOfModule.{bank_below, low_words, on_there}}
+use Rattle.adc_groups.specs.laws.words.WordsOfModule.{unit_small, unit_within, within, words_below}
+
+-- what is so of a group is so in another state that has it, with the same turn
+pub sound_by : (d : AdcTable) (s t : AdcState) (g : ℕ) → group_at t g ≡ group_at s g → has_turn t g ≡ has_turn s g → IsSoundGroup d s g → IsSoundGroup d t g
+sound_by d s t g same turn h = subst (λ x. SoundGroup (group_of d g) (has_turn t g) x) (sym same) (subst (λ q. SoundGroup (group_of d g) q (group_at s g)) (sym turn) h)
+
+-- ---- groups of a changed state
+
+-- behind the last number no group is changed
+pub past_untouched : (s : AdcState) (g : ℕ) (y : GroupState) (k : ℕ) → 16 ≤ k → group_at (with_group s g y) k ≡ untouched
+past_untouched s g y k le = let at : k ≡ suc (suc (suc (suc (suc (suc (suc (suc (suc (suc (suc (suc (suc (suc (suc (suc (k - 16)))))))))))))))) = omega (arith, le) in ap (λ n. group_at (with_group s g y) n) at
+
+pub sound_past : (d : AdcTable) (s : AdcState) → ((g : ℕ) → IsSoundGroup d s g) → (k : ℕ) → 16 ≤ k → group_at s k ≡ untouched
+sound_past d s sound k le = (sound k).configured (whether (nat_lt k 16)
+    (λ e. let lt : k < 16 = grind (arith, nat_tests) in absurd (omega (arith, le, lt)))
+    (λ e. ap (λ q. if q then slice_index_or d.groups k None else None) e))
+
+pub other_at : (s : AdcState) (g : ℕ) (y : GroupState) → ((k : ℕ) → 16 ≤ k → group_at s k ≡ untouched) → (k : ℕ) → k ≢ g → group_at (with_group s g y) k ≡ group_at s k
+other_at s g y past k ne = whether (nat_lt k 16)
+    (λ e. group_other s g y k (grind (arith, nat_tests)) ne)
+    (λ e. let le : 16 ≤ k = grind (arith, nat_tests) in past_untouched s g y k le ∙ sym (past k le))
+
+-- the group with other values, of which these parts stay
+pub record Touches (s : AdcState) (g : ℕ) (y : GroupState) : Type 0 where
+  pub waiting : y.waiting ≡ (group_at s g).waiting
+  pub trigger : y.trigger ≡ (group_at s g).trigger
+  pub rounds : y.rounds ≡ (group_at s g).rounds
+
+module _ (d : AdcTable) (w : World) (s : AdcState) (sound : IsSound d w s) (g : ℕ) (lt : g < 16) (y : GroupState) (keeps : Touches s g y) where
+  -- every other group is as it was
+  pub others : (h : ℕ) → h ≢ g → group_at (with_group s g y) h ≡ group_at s h
+  others = other_at s g y (sound_past d s sound.groups)
+
+  pub same : group_at (with_group s g y) g ≡ y
+  same = group_same s g y lt
+
+  -- a part that stays is the same in each group
+  part : {A : Type 0} (see : GroupState → A) → see y ≡ see (group_at s g) → (h : ℕ) → see (group_at (with_group s g y) h) ≡ see (group_at s h)
+  part see e h = cases (same_or_other h g)
+      (λ i. subst (λ k. see (group_at (with_group s g y) k) ≡ see (group_at s k)) (sym i) (ap see same ∙ e))
+      (λ ne. ap see (others h ne))
+
+  pub waiting_same : (h : ℕ) → (group_at (with_group s g y) h).waiting ≡ (group_at s h).waiting
+  waiting_same = part (λ x. x.waiting) keeps.waiting
+
+  pub trigger_same : (h : ℕ) → (group_at (with_group s g y) h).trigger ≡ (group_at s h).trigger
+  trigger_same = part (λ x. x.trigger) keeps.trigger
+
+  pub rounds_same : (h : ℕ) → (group_at (with_group s g y) h).rounds ≡ (group_at s h).rounds
+  rounds_same = part (λ x. x.rounds) keeps.rounds
+
+  pub turn_same : (h : ℕ) → has_turn (with_group s g y) h ≡ has_turn s h
+  turn_same h = ap (λ q. is_some q || is_round_of h (round_at s 0) || is_round_of h (round_at s 1)) (waiting_same h)
+
+  listens_same : (i h : ℕ) → listens d (with_group s g y) i h ≡ listens d s i h
+  listens_same i h = ap (λ b. has_input i (group_of d h) && b) (trigger_same h)
+
+  listener_in : (i : ℕ) (gs : List ℕ) → listener_among d (with_group s g y) i gs ≡ listener_among d s i gs
+  listener_in i [] = refl
+  listener_in i (h ∷ hs) = ap (λ b. cond b (Some h) (listener_among d (with_group s g y) i hs)) (listens_same i h) ∙ ap (λ o. cond (listens d s i h) (Some h) o) (listener_in i hs)
+
+  pub listener_same : (i : ℕ) → listener d (with_group s g y) i ≡ listener d s i
+  listener_same i = listener_in i all_groups
+
+-- ---- The words of a group that calls change are apart from all others.
+
+module _ (d : AdcTable) (fits : FitsAdc d) where
+  -- the first word of a group and the one after its last, of one that is there
+  pub start_from : (g : ℕ) → is_some (group_of d g) ≡ true → (64 ≤ start_of (group_of d g)) × (start_of (group_of d g) + (32 + 6 * length (inputs_of (group_of d g))) ≤ 8192)
+  start_from g there = by (group_of d g) refl there
+    where
+      by : (k : Option Group) → group_of d g ≡ k → is_some k ≡ true → (64 ≤ start_of k) × (start_of k + (32 + 6 * length (inputs_of k)) ≤ 8192)
+      by None e h = absurd (cc)
+      by (Some k) e h = let f = fits.groups g k e in let last = f.words in let room = fits.room in (f.start, omega (arith, last, room))
+
+  -- words of two groups are two
+  pub groups_apart : (g h i j : ℕ) → is_some (group_of d g) ≡ true → is_some (group_of d h) ≡ true → g ≢ h → i < 32 → j < 32 + 6 * length (inputs_of (group_of d h)) → group_word d h j ≢ group_word d g i
+  groups_apart g h i j there here ne lt few = by (group_of d g) (group_of d h) refl refl there here few
+    where
+      less : (k l : Group) → (g ≡ h → ⊥) → ((a b : ℕ) (x y : Group) → group_of d a ≡ Some x → group_of d b ≡ Some y → a < b → end_of x ≤ y.start) → group_of d g ≡ Some k → group_of d h ≡ Some l → j < 32 + 6 * length l.inputs → STATE + l.start + j ≢ STATE + k.start + i
+      less k l unlike apart e f few same = elim (cases_lt g h) [
+        | inl lower ↦ (let le = apart g h k l e f lower in omega (arith, le, same, lt))
+        | inr above ↦ (let up : h < g = (let two : g ≢ h = unlike in omega (arith, above, two)) in let le = apart h g l k f e up in omega (arith, le, same, few))
+      ]
+
+      by : (k l : Option Group) → group_of d g ≡ k → group_of d h ≡ l → is_some k ≡ true → is_some l ≡ true → j < 32 + 6 * length (inputs_of l) → STATE + start_of l + j ≢ STATE + start_of k + i
+      by (Some k) (Some l) e f p q few = less k l ne fits.apart e f few
+      by _ _ e f p q few = absurd (cc)
+
+  -- one of the first 64 words is none of a group's
+  pub unit_apart : (g i j : ℕ) → is_some (group_of d g) ≡ true → j < 64 → STATE + j ≢ group_word d g i
+  unit_apart g i j there lt same = let low = (start_from g there).0 in omega (arith, low, lt, same)
+
+  -- a place of a user's buffer is none
+  pub place_apart : (g i h : ℕ) (b : ResultBuffer) (p : ℕ) → is_some (group_of d g) ≡ true → i < 32 → result_word h b p ≢ group_word d g i
+  place_apart g i h ResultBuffer.Zero p there lt same = let high = (start_from g there).1 in omega (arith, high, lt, same)
+  place_apart g i h ResultBuffer.One p there lt same = let high = (start_from g there).1 in omega (arith, high, lt, same)
+
+  pub kept_apart : (g i j : ℕ) → i < 7 → kept_word (rounds_of d g) j ≢ group_word d g i
+  kept_apart g i j lt same = omega (arith, same, lt)
+
+  -- the banks' words, with their control word, of any group
+  pub trio_apart : (g h i k : ℕ) → is_some (group_of d g) ≡ true → is_some (group_of d h) ≡ true → i < 7 → own_of (trio_of (rounds_of d h)) k ≡ true → k ≢ group_word d g i
+  trio_apart g h i k there here lt own same =
+      let start : ℕ = start_of (group_of d h) in
+      let len : ℕ = length (inputs_of (group_of d h)) in
+      cases (same_or_other g h)
+      (λ e.
+      let o = offset (k == STATE + start_of (group_of d h) + 7) refl in
+      let at = o.1 in
+      let le = o.2 in
+      let here : k ≡ group_word d h i = same ∙ ap (λ n. group_word d n i) e in
+      omega (arith, at, le, here, lt))
+      (λ ne.
+      let o = offset (k == STATE + start_of (group_of d h) + 7) refl in
+      groups_apart g h i o.0 there here ne (omega (arith, lt)) o.3 (sym o.1 ∙ same))
+    where
+      offset : (q : Bool) → (k == STATE + start_of (group_of d h) + 7) ≡ q → (j : ℕ) × (k ≡ STATE + start_of (group_of d h) + j) × (7 ≤ j) × (j < 32 + 6 * length (inputs_of (group_of d h)))
+      offset true e = (7, (let at : k ≡ STATE + start_of (group_of d h) + 7 = grind (arith, nat_tests) in at), omega arith, omega arith)
+      offset false e =
+          let low : STATE + start_of (group_of d h) + 32 ≤ k = grind (arith, nat_tests) in
+          let high : k < STATE + start_of (group_of d h) + 32 + 3 * length (inputs_of (group_of d h)) = grind (arith, nat_tests) in
+          (k - (STATE + start_of (group_of d h)), omega (arith, low), omega (arith, low), omega (arith, low, high))
+
+-- ---- A store of a group's word, with the change of the group that it stands for, leaves all else agreeing.
 
 -- a group that has no other request and no other turn is chosen as before
 module _ (d : AdcTable) (s t : AdcState) (rounds : (u : ℕ) → round_at t u ≡ round_at s u) (waiting : (h : ℕ) → (group_at t h).waiting ≡ (group_at s h).waiting) where
@@ -78,9 +200,6 @@ module _ (d : AdcTable) (fits : FitsAdc d) (held : Reservations) (a : Chip) (w :
   word : (k : ℕ) → k ≢ group_word d g i → word_of b k ≡ word_of a k
   word k ne = stored_other a (group_word d g i) v 0 k ne
 
-  same_or : (k : ℕ) → (k ≡ g) ⊎ (k ≢ g)
-  same_or k = grind arith
-
   other : (k : ℕ) → k ≢ g → group_at t k ≡ group_at s k
   other = others d w s h.sound g small y keeps
 
@@ -95,12 +214,12 @@ module _ (d : AdcTable) (fits : FitsAdc d) (held : Reservations) (a : Chip) (w :
   bank_stays k n j here few = word (bank_word (rounds_of d k) n j) (trio_apart d fits g k i (bank_word (rounds_of d k) n j) there here (omega (arith, lt)) (own-word (trio_of (rounds_of d k)) (bank_number n) j (bank_below d fits n) few))
 
   low_stays : (k j : ℕ) → is_some (group_of d k) ≡ true → (k ≡ g → j ≢ i) → j < 32 → word_of b (group_word d k j) ≡ word_of a (group_word d k j)
-  low_stays k j here ne few = cases (same_or k)
+  low_stays k j here ne few = cases (same_or_other k g)
       (λ e. word (group_word d k j) (λ q. ne e (let at : group_word d k j ≡ group_word d g j = ap (λ n. group_word d n j) e in omega (arith, q, at))))
       (λ unlike. word (group_word d k j) (groups_apart d fits g k i j there here (λ e. unlike (sym e)) (omega (arith, lt)) (omega (arith, few))))
 
   kept_stays : (k j : ℕ) → is_some (group_of d k) ≡ true → j < length (inputs_of (group_of d k)) → word_of b (kept_word (rounds_of d k) j) ≡ word_of a (kept_word (rounds_of d k) j)
-  kept_stays k j here few = cases (same_or k)
+  kept_stays k j here few = cases (same_or_other k g)
       (λ e. word (kept_word (rounds_of d k) j) (λ q. kept_apart d fits g i j (omega (arith, lt)) (ap (λ n. kept_word (rounds_of d n) j) (sym e) ∙ q)))
       (λ unlike. word (kept_word (rounds_of d k) j) (λ q. groups_apart d fits g k i (32 + 3 * length (inputs_of (group_of d k)) + j) there here (λ e. unlike (sym e)) (omega (arith, lt)) (omega (arith, few)) (sym at ∙ q)))
     where
@@ -110,8 +229,8 @@ module _ (d : AdcTable) (fits : FitsAdc d) (held : Reservations) (a : Chip) (w :
   unit_stays : (j : ℕ) → j < 64 → word_of b (STATE + j) ≡ word_of a (STATE + j)
   unit_stays j few = word (STATE + j) (unit_apart d fits g i j there few)
 
-  claim_stays : (u : ℕ) → u < 2 → word_of b (word_number d (words.Claim u)) ≡ word_of a (word_number d (words.Claim u))
-  claim_stays u few = let at : STATE + (9 + 8 * u) ≡ word_number d (words.Claim u) = omega arith in subst (λ k. word_of b k ≡ word_of a k) at (unit_stays (9 + 8 * u) (omega (arith, few)))
+  claim_stays : (u : ℕ) → u < 2 → word_of b (word_number d (Word.Claim u)) ≡ word_of a (word_number d (Word.Claim u))
+  claim_stays u few = let at : STATE + (9 + 8 * u) ≡ word_number d (Word.Claim u) = omega arith in subst (λ k. word_of b k ≡ word_of a k) at (unit_stays (9 + 8 * u) (omega (arith, few)))
 
   kept_same : (k : ℕ) → kept_in d t k ≡ kept_in d s k
   kept_same k = ap (λ q. kept_by q (kept_of_round k (round_at s (unit_of (group_of d k))))) (waiting k)
@@ -124,7 +243,7 @@ module _ (d : AdcTable) (fits : FitsAdc d) (held : Reservations) (a : Chip) (w :
   module _ (fresh : IsSoundGroup d t g) where
     sound_touched : IsSound d w t
     sound_touched = record {
-      groups = λ k. cases (same_or k)
+      groups = λ k. cases (same_or_other k g)
           (λ e. subst (λ n. IsSoundGroup d t n) (sym e) fresh)
           (λ ne. sound_by d s t k (other k ne) (turn k) (h.sound.groups k));
       waits = λ k q e. h.sound.waits k q (sym (waiting k) ∙ e);
@@ -137,13 +256,10 @@ module _ (d : AdcTable) (fits : FitsAdc d) (held : Reservations) (a : Chip) (w :
 
   -- ---- what is held
 
-  few_values : (u : ℕ) (r : Round) (k : ℕ) → round_at s u ≡ Some r → r.group ≡ k → (j n : ℕ) → slice_get (values_of w (group_of d k) r) j ≡ Some n → j < length (inputs_of (group_of d k))
-  few_values u r k e same j n is = value_within w (group_of d k) r j n (subst (λ z. length r.request.kept < length (inputs_of (group_of d z))) same (h.sound.runs u r e).4.2) is
-
   held_touched : (x : ReservedBy Call Reservation) (z : Reservation) → HeldRight d a w s x z → HeldRight d b w t x z
   held_touched x (Clears n) r = absurd (let f = r.1 in let e = on in cc)
-  held_touched x (Fills u k e n j p) r = (r.0, r.1, r.2, (let q = r.3 in record { same = q.same; filled = λ z m c o few is. bank_stays k n m (on_there u (group_of d k) r.2) (few_values u z k o (q.same z o).0 m c is) ∙ q.filled z m c o few is; next = q.next }))
-  held_touched x (Full u k n) r = (r.0, r.1, r.2, (let q = r.3 in record { same = q.same; filled = λ z m c o is. bank_stays k n m (on_there u (group_of d k) r.2) (few_values u z k o (q.same z o).0 m c is) ∙ q.filled z m c o is }))
+  held_touched x (Fills u k e n j p) r = (r.0, r.1, r.2, (let q = r.3 in record { same = q.same; filled = λ z m c o few is. bank_stays k n m (on_there u (group_of d k) r.2) (few_values d w s h.sound u z k o (q.same z o).0 m c is) ∙ q.filled z m c o few is; next = q.next }))
+  held_touched x (Full u k n) r = (r.0, r.1, r.2, (let q = r.3 in record { same = q.same; filled = λ z m c o is. bank_stays k n m (on_there u (group_of d k) r.2) (few_values d w s h.sound u z k o (q.same z o).0 m c is) ∙ q.filled z m c o is }))
   held_touched x (Whole u k n) r = (
     r.0,
     r.1,
@@ -215,7 +331,7 @@ module _ (d : AdcTable) (fits : FitsAdc d) (held : Reservations) (a : Chip) (w :
       rounds = rounds_same d w s h.sound g small y keeps
 
       status : (k : ℕ) → (group_at t k).status ≢ Idle → (group_at s k).status ≢ Idle
-      status k ne = cases (same_or k)
+      status k ne = cases (same_or_other k g)
           (λ e. subst (λ n. (group_at s n).status ≢ Idle) (sym e) (newest_too (λ idle. ne (ap (λ n. (group_at t n).status) e ∙ (ap (λ z. z.status) (same d w s h.sound g small y keeps) ∙ idle)))))
           (λ unlike. λ idle. ne (ap (λ z. z.status) (other k unlike) ∙ idle))
 
@@ -234,25 +350,16 @@ module _ (d : AdcTable) (fits : FitsAdc d) (held : Reservations) (a : Chip) (w :
       at : (j : ℕ) → j < 32 → word_of b (group_word d k j) ≡ word_of a (group_word d k j)
       at j few = low_stays k j here (λ e. absurd (ne e)) few
 
-      claim : word_of b (word_number d (words.Claim (unit_of (group_of d k)))) ≡ word_of a (word_number d (words.Claim (unit_of (group_of d k))))
+      claim : word_of b (word_number d (Word.Claim (unit_of (group_of d k)))) ≡ word_of a (word_number d (Word.Claim (unit_of (group_of d k))))
       claim = claim_stays (unit_of (group_of d k)) (unit_small d fits k here)
 
   unit_touched : (u : ℕ) → u < 2 → UnitAgrees d (word_of a) s u → UnitAgrees d (word_of b) t u
   unit_touched u few q = record {
-    running = (let at : STATE + (8 + 8 * u) ≡ word_number d (words.Running u) = omega arith in subst (λ k. word_of b k ≡ word_of a k) at (unit_stays (8 + 8 * u) (omega (arith, few)))) ∙ q.running;
-    order =
-        let o = q.order.2 in (
-          q.order.0,
-          holds-agree (order_of u) (word_of a) (word_of b) q.order.0 (λ k own. sym (order_stays k own)) q.order.1,
-          record {
-            there = λ k. o.there k ∙ ap (λ z. z && is_on u (group_of d k)) (sym (turn k));
-            waits = λ n x e. o.waits n x e ∙ ap (λ z. is_some z) (sym (waiting x.number));
-            sorted = λ n m x z less e f. subst (λ k. k < number_at d t z.number) (sym (number_same x.number)) (subst (λ k. number_at d s x.number < k) (sym (number_same z.number)) (o.sorted n m x z less e f));
-          },
-        );
+    running = (let at : STATE + (8 + 8 * u) ≡ word_number d (Word.Running u) = omega arith in subst (λ k. word_of b k ≡ word_of a k) at (unit_stays (8 + 8 * u) (omega (arith, few)))) ∙ q.running;
+    order = (q.order.0, holds-agree (order_of u) (word_of a) (word_of b) q.order.0 (λ k own. sym (order_stays k own)) q.order.1, order_kept d s t u turn (λ k. ap (λ z. is_some z) (waiting k)) (λ k on. number_same k) q.order.0 q.order.2);
   }
     where
-      order_stays : (k : ℕ) → ranked.own_of (order_of u) k ≡ true → word_of b k ≡ word_of a k
+      order_stays : (k : ℕ) → order_own (order_of u) k ≡ true → word_of b k ≡ word_of a k
       order_stays k own =
           let low : STATE + 10 + 8 * u ≤ k = grind (arith, nat_tests) in
           let high : k ≤ STATE + 12 + 8 * u = grind (arith, nat_tests) in
@@ -294,7 +401,7 @@ module _ (d : AdcTable) (fits : FitsAdc d) (held : Reservations) (a : Chip) (w :
       was : (group_at t g).status ≢ Idle → (group_at s g).status ≢ Idle
       was e = newest_too (λ idle. e (ap (λ (z : GroupState). z.status) is ∙ idle))
 
-      claim : word_of b (word_number d (words.Claim (unit_of (group_of d g)))) ≡ word_of a (word_number d (words.Claim (unit_of (group_of d g))))
+      claim : word_of b (word_number d (Word.Claim (unit_of (group_of d g)))) ≡ word_of a (word_number d (Word.Claim (unit_of (group_of d g))))
       claim = claim_stays (unit_of (group_of d g)) (unit_small d fits g there)
 
   module _ (fresh : IsSoundGroup d t g) (represents : GroupAgrees d (word_of b) t g) where
@@ -306,7 +413,7 @@ module _ (d : AdcTable) (fits : FitsAdc d) (held : Reservations) (a : Chip) (w :
 
     settled_touched : Settled d held a w s → Settled d held b w t
     settled_touched q = record {
-      groups = λ k here. cases (same_or k)
+      groups = λ k here. cases (same_or_other k g)
           (λ e. subst (λ n. GroupAgrees d (word_of b) t n) (sym e) represents)
           (λ ne. group_touched k ne here (q.groups k here));
       units = λ u few. unit_touched u few (q.units u few);
@@ -320,7 +427,7 @@ module _ (d : AdcTable) (fits : FitsAdc d) (held : Reservations) (a : Chip) (w :
     touched = record {
       sound = sound_touched fresh;
       outside = stands-move a w (Store (group_word d g i) v) 0 h.outside;
-      state = unit_word_stays ∙ h.state;
+      state = let unit_word_stays : word_of b STATE ≡ word_of a STATE = unit_stays 0 (omega arith) in unit_word_stays ∙ h.state;
       right = all_touched held h.right;
       banks = λ k here. banks_touched k here (h.banks k here);
       block = h.block;
@@ -331,6 +438,3 @@ module _ (d : AdcTable) (fits : FitsAdc d) (held : Reservations) (a : Chip) (w :
       settled = λ e. settled_touched (h.settled e);
       left = λ off. absurd (let q = on in cc);
     }
-      where
-        unit_word_stays : word_of b STATE ≡ word_of a STATE
-        unit_word_stays = unit_stays 0 (omega arith)

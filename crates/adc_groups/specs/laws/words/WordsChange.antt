@@ -1,27 +1,171 @@
--- Words change while the machine's state and all registers stay: what is held stays right, and so does the whole agreement.
--- From words.DisjointWords, words.StructureParts, words.WordsOfModule, hardware.StableUnderHardware, words.Cases.
--- Used by adc_serving: services.CopyRight, words.ControlWord, services.ClaimRight, services.TellRight and 2 more.
+-- Words of one group change: those of the others stand elsewhere, and all that frames hold stays right.
+-- From hardware.StableUnderHardware, words.StoreOneWord, words.StructureParts, words.WordsOfModule and 2 more.
+-- Used by bookkeeping.FrameRule, adc_serving: services.CopyRight, adc_serving: words.ControlWord and 4 more.
 use Rattle.std.proofs.Common.{◌≡◌, ◌≢◌, ◌+◌, ◌-◌, ◌*◌, ◌/◌, ◌%◌, ◌<◌, ◌≤◌, ◌&&◌, ◌||◌, ◌==◌, [], ◌∷◌, ◌∙◌}
+use Rattle.std.proofs.Common.{if◌then◌else◌}
 use Rattle.adc_groups.specs.Terms
 use Terms.{AdcState, AdcTable, Agrees, AllRight, ap, arith, Backed, Bank, bank_number, bank_word, BanksAgree, Bool}
 use Terms.{Call, cases, cases_lt, Chip, chip_after, claim_right, claims_on, Clears, Converters, Copies, end_of, eq_is}
-use Terms.{eq_other, eq_self, false, Fills, FitsAdc, Full, Group, group_of, group_word, GroupAgrees, has_bit}
-use Terms.{HasWords, HeldRight, holds-agree, inl, inputs_of, inr, is_on, is_some, IsBlock, Keeps, KeepsRight, kept_in}
-use Terms.{kept_word, length, length-set, nat_le, nat_lt, nat_tests, Option, or_parts, order_of, own-control}
-use Terms.{own-word, own_of, PlacesAgree, Promised, Reads, refl, Reservation, Reservations, ReservedBy, result_word}
-use Terms.{ResultBuffer, Round, round_at, RoundAgrees, rounds_of, same_or_other, slice_get, Some, some_hold, start_of}
-use Terms.{STATE, Store, stored_other, stored_same, subst, sym, TriggersAgree, trio_of, true, unit_of, UnitAgrees}
-use Terms.{values_of, Whole, WholeRight, word_number, word_of, World, ℕ}
-use Rattle.adc_groups.specs.laws.words.DisjointWords.{place_apart, start_from, trio_apart}
-use Rattle.adc_groups.specs.laws.words.OrderBetweenWrites.{order_within}
-use Rattle.adc_groups.specs.laws.words.StructureParts.{stands_words, word_there}
+use Terms.{eq_other, eq_self, false, Fills, FitsAdc, Full, Group, group_of, group_word, GroupAgrees, has_bit, HasWords}
+use Terms.{HeldRight, holds-agree, inl, inputs_of, inr, is_on, is_round_of, is_some, IsBlock, Keeps, KeepsRight}
+use Terms.{kept_in, kept_of_round, kept_word, length, length-set, nat_le, nat_lt, nat_tests, None, none_some, Option}
+use Terms.{or_parts, order_of, order_own, own-control, own-word, own_of, PlacesAgree, Promised, Reads, refl}
+use Terms.{Reservation, Reservations, ReservedBy, result_word, ResultBuffer, Round, round_at, RoundAgrees, rounds_of}
+use Terms.{same_or_other, slice_get, Some, some_hold, start_of, STATE, Store, stored_other, stored_same, subst, suc}
+use Terms.{sym, TriggersAgree, trio_of, true, unit_of, UnitAgrees, whether_as, Whole, WholeRight, Word, word_number}
+use Terms.{word_of, World, ℕ}
+use Rattle.adc_groups.specs.laws.hardware.StableUnderHardware.{few_values, kept_within, listed_agree}
+use Rattle.adc_groups.specs.laws.words.StoreOneWord.{place_apart, start_from, trio_apart}
+use Rattle.adc_groups.specs.laws.words.StructureParts.{order_within, stands_words, word_there}
 use Rattle.adc_groups.specs.laws.words.WordsOfModule.{bank_below, claim_words, on_there}
-use Rattle.adc_groups.specs.laws.hardware.StableUnderHardware.{kept_within, listed_agree, value_within}
-use Rattle.word_shapes.specs.PriorityQueue.{own_of as order_own}
 use Rattle.chip_converter.specs.Converters as chips
 use Rattle.chip_converter.specs.Rounds as rounds
-use Rattle.adc_machine.specs.declared.call.ResultBuffer.TheVariants as buffers
-use Rattle.adc_groups.specs.declared.words.Word.TheVariants as words
+
+-- ---- rounds of other groups
+
+-- of a unit's round that isn't this group's both see the same
+pub record SameRound (g : ℕ) (q p : Option Round) : Type 0 where
+  pub from : (x : Round) → q ≡ Some x → x.group ≢ g → p ≡ Some x
+  pub to : (x : Round) → p ≡ Some x → x.group ≢ g → q ≡ Some x
+
+-- what is seen of a round of a group
+abbrev pub look : {A : Type 0} → A → (Round → A) → ℕ → Option Round → A
+look e f k None = e
+look e f k (Some x) = if x.group == k then f x else e
+
+pub look_same : {A : Type 0} (e : A) (f : Round → A) (g k : ℕ) (q p : Option Round) → k ≢ g → SameRound g q p → look e f k q ≡ look e f k p
+look_same e f g k None None ne h = refl
+look_same e f g k None (Some y) ne h = whether_as (y.group == k) (λ b. e ≡ (if b then f y else e))
+    (λ i. let at : y.group ≡ k = grind (arith, nat_tests) in none_some (h.to y refl (λ z. ne (sym at ∙ z))))
+    (λ i. refl)
+look_same e f g k (Some x) None ne h = whether_as (x.group == k) (λ b. (if b then f x else e) ≡ e)
+    (λ i. let at : x.group ≡ k = grind (arith, nat_tests) in none_some (h.from x refl (λ z. ne (sym at ∙ z))))
+    (λ i. refl)
+look_same e f g k (Some x) (Some y) ne h = found_same (x.group == k) refl (y.group == k) refl
+  where
+    found_same : (b : Bool) → (x.group == k) ≡ b → (c : Bool) → (y.group == k) ≡ c → (if b then f x else e) ≡ (if c then f y else e)
+    found_same true i true j = let at : x.group ≡ k = grind (arith, nat_tests) in let same : y ≡ x = (let z = h.from x refl (λ z. ne (sym at ∙ z)) in cc) in ap f (sym same)
+    found_same true i false j = let at : x.group ≡ k = grind (arith, nat_tests) in let same : y ≡ x = (let z = h.from x refl (λ z. ne (sym at ∙ z)) in cc) in absurd (let c : (x.group == k) ≡ false = ap (λ (r : Round). r.group == k) (sym same) ∙ j in cc)
+    found_same false i true j = let at : y.group ≡ k = grind (arith, nat_tests) in let same : x ≡ y = (let z = h.to y refl (λ z. ne (sym at ∙ z)) in cc) in absurd (let c : (y.group == k) ≡ false = ap (λ (r : Round). r.group == k) (sym same) ∙ i in cc)
+    found_same false i false j = refl
+
+pub turn_look : (k : ℕ) (q : Option Round) → is_round_of k q ≡ look false (λ x. true) k q
+turn_look k None = refl
+turn_look k (Some x) = elim (x.group == k) as (λ b. b ≡ (if b then true else false)) [ true ↦ refl | false ↦ refl ]
+
+pub kept_look : (k : ℕ) (q : Option Round) → kept_of_round k q ≡ look [] (λ x. x.request.kept) k q
+kept_look k None = refl
+kept_look k (Some x) = refl
+
+-- ---- numbers
+
+pub in_banks : (control first len k : ℕ) → (k == control) ≡ false → k == control || (nat_le first k && nat_lt k (first + len)) ≡ true → first ≤ k
+in_banks control first len k off e = grind (arith, nat_tests)
+
+pub below_banks : (control first len k : ℕ) → (k == control) ≡ false → k == control || (nat_le first k && nat_lt k (first + len)) ≡ true → k < first + len
+below_banks control first len k off e = grind (arith, nat_tests)
+
+-- ---- numbers of words: `s` is a group's first word behind STATE
+
+pub past_unit : (s j u i : ℕ) → 64 ≤ s → u < 2 → i < 5 → STATE + s + j ≡ STATE + 8 + 8 * u + i → ⊥
+past_unit s j u i low most lt e = omega (arith, low, most, lt, e)
+
+pub past_state : (s j : ℕ) → 64 ≤ s → STATE ≡ STATE + s + j → ⊥
+past_state s j low e = omega (arith, low, e)
+
+pub past_eight : (s i j : ℕ) → i < 8 → 8 ≤ j → STATE + s + j ≡ STATE + s + i → ⊥
+past_eight s i j lt le e = omega (arith, lt, le, e)
+
+pub units_apart : (u v i j : ℕ) → i < 5 → j < 5 → v ≢ u → STATE + 8 + 8 * v + i ≡ STATE + 8 + 8 * u + j → ⊥
+units_apart u v i j lt less ne e = omega (arith, lt, less, ne, e)
+
+pub unit_low : (u j : ℕ) → STATE ≡ STATE + 8 + 8 * u + j → ⊥
+unit_low u j e = omega (arith, e)
+
+pub small_low : (i : ℕ) → nat_lt i 8 ≡ true → i < 32
+small_low i lt = grind (arith, nat_tests)
+
+pub at_most : (m n k : ℕ) → m ≤ n → n ≤ k → m ≤ k
+at_most m n k le up = omega (arith, le, up)
+
+pub eight_low : (i : ℕ) → i < 8 → i < 32
+eight_low i lt = omega (arith, lt)
+
+pub low_within : (j n : ℕ) → j < 32 → j < 32 + 6 * n
+low_within j n lt = omega (arith, lt)
+
+pub one_low : 1 < 5
+one_low = omega arith
+
+pub none_low : 0 < 5
+none_low = omega arith
+
+pub six_low : 6 < 32
+six_low = omega arith
+
+pub seven_low : 7 < 32
+seven_low = omega arith
+
+pub kept_inside : (j n : ℕ) → j < n → 32 + 3 * n + j < 32 + 6 * n
+kept_inside j n lt = omega (arith, lt)
+
+pub bank_place : (b n j : ℕ) → b < 3 → j < n → 32 + b * n + j < 32 + 6 * n
+bank_place (suc (suc (suc b))) n j lt less = absurd (omega (arith, lt))
+bank_place _ n j lt less = omega (arith, less)
+
+pub bank_past : (b n j : ℕ) → 8 ≤ 32 + b * n + j
+bank_past b n j = omega arith
+
+pub kept_past : (n j : ℕ) → 8 ≤ 32 + 3 * n + j
+kept_past n j = omega arith
+
+pub in_order : (u k : ℕ) → order_own (order_of u) k ≡ true → (STATE + 8 + 8 * u + (k - (STATE + 8 + 8 * u)) ≡ k) × (k - (STATE + 8 + 8 * u) < 5)
+in_order u k own =
+    let low : STATE + 10 + 8 * u ≤ k = grind (arith, nat_tests) in
+    let high : k ≤ STATE + 12 + 8 * u = grind (arith, nat_tests) in
+    (omega (arith, low), omega (arith, low, high))
+
+-- the words of banks and of kept values, as words of their group
+pub bank_is : (d : AdcTable) (k : ℕ) (n : Bank) (j : ℕ) → group_word d k (32 + bank_number n * length (inputs_of (group_of d k)) + j) ≡ bank_word (rounds_of d k) n j
+bank_is d k n j = omega arith
+
+pub kept_is : (d : AdcTable) (k j : ℕ) → group_word d k (32 + 3 * length (inputs_of (group_of d k)) + j) ≡ kept_word (rounds_of d k) j
+kept_is d k j = omega arith
+
+pub control_is : (d : AdcTable) (k : ℕ) → group_word d k 7 ≡ (trio_of (rounds_of d k)).control
+control_is d k = omega arith
+
+pub claim_is : (d : AdcTable) (v : ℕ) → STATE + 8 + 8 * v + 1 ≡ word_number d (Word.Claim v)
+claim_is d v = omega arith
+
+pub running_is : (d : AdcTable) (v : ℕ) → STATE + 8 + 8 * v + 0 ≡ word_number d (Word.Running v)
+running_is d v = omega arith
+
+pub banks_front : (d : AdcTable) (k : ℕ) (n : Bank) (m : ℕ) → bank_word (rounds_of d k) n m ≡ bank_word (rounds_of d k) n 0 + m
+banks_front d k n m = omega arith
+
+-- a word of a group's banks is one behind its first eight
+pub in_trio : (s n j : ℕ) → STATE + s + 32 ≤ j → j < STATE + s + 32 + 3 * n → (STATE + s + (j - (STATE + s)) ≡ j) × (8 ≤ j - (STATE + s)) × (j - (STATE + s) < 32 + 6 * n)
+in_trio s n j low high = (omega (arith, low), omega (arith, low), omega (arith, low, high))
+
+pub own_at : (d : AdcTable) (k j : ℕ) → (j == (trio_of (rounds_of d k)).control) ≡ false → own_of (trio_of (rounds_of d k)) j ≡ true
+    → (group_word d k (j - (STATE + start_of (group_of d k))) ≡ j) × (8 ≤ j - (STATE + start_of (group_of d k))) × (j - (STATE + start_of (group_of d k)) < 32 + 6 * length (inputs_of (group_of d k)))
+own_at d k j off own =
+    let trio = trio_of (rounds_of d k) in
+    let len = length (inputs_of (group_of d k)) in
+    in_trio (start_of (group_of d k)) len j (in_banks trio.control trio.banks (3 * len) j off own) (below_banks trio.control trio.banks (3 * len) j off own)
+
+-- a place of a user's buffer is behind the words of the units
+pub place_past : (k : ℕ) (n : ResultBuffer) (p u i : ℕ) → u < 2 → i < 5 → result_word k n p ≡ STATE + 8 + 8 * u + i → ⊥
+place_past k ResultBuffer.Zero p u i most lt e = omega (arith, most, lt, e)
+place_past k ResultBuffer.One p u i most lt e = omega (arith, most, lt, e)
+
+pub and_off : (x y z : Bool) → z ≡ false → x && z ≡ y && z
+and_off true false z e = e
+and_off false true z e = sym e
+and_off _ _ z e = refl
+
+-- ---- Words change while the machine's state and all registers stay: what is held stays right, and so does the whole agreement.
 
 -- ---- what stays
 
@@ -37,8 +181,8 @@ KeptStays d a b g = (j : ℕ) → j < length (inputs_of (group_of d g)) → word
 abbrev pub HoldStays : AdcTable → (a b : Chip) → Reservation → Type 0
 HoldStays d a b (Fills u g e n i x) = BankStays d a b g n
 HoldStays d a b (Full u g n) = BankStays d a b g n
-HoldStays d a b (Keeps u g e n i x) = (word_of b (word_number d (words.Claim u)) ≡ 2 + g → word_of a (word_number d (words.Claim u)) ≡ 2 + g) × (word_of a (word_number d (words.Claim u)) ≡ 2 + g → word_of b (word_number d (words.Claim u)) ≡ 2 + g) × KeptStays d a b g
-HoldStays d a b (Whole u g n) = (word_of b (word_number d (words.Claim u)) ≡ 2 + g → word_of a (word_number d (words.Claim u)) ≡ 2 + g) × KeptStays d a b g
+HoldStays d a b (Keeps u g e n i x) = (word_of b (word_number d (Word.Claim u)) ≡ 2 + g → word_of a (word_number d (Word.Claim u)) ≡ 2 + g) × (word_of a (word_number d (Word.Claim u)) ≡ 2 + g → word_of b (word_number d (Word.Claim u)) ≡ 2 + g) × KeptStays d a b g
+HoldStays d a b (Whole u g n) = (word_of b (word_number d (Word.Claim u)) ≡ 2 + g → word_of a (word_number d (Word.Claim u)) ≡ 2 + g) × KeptStays d a b g
 HoldStays d a b (Copies n c i x) = (word_of b (trio_of (rounds_of d c.group)).control % 4 ≡ word_of a (trio_of (rounds_of d c.group)).control % 4) × BankStays d a b c.group n
 HoldStays d a b (Reads g n vs) = (word_of b (trio_of (rounds_of d g)).control / 4 ≡ word_of a (trio_of (rounds_of d g)).control / 4) × BankStays d a b g n
 HoldStays d a b z = Unit {0}
@@ -53,7 +197,7 @@ pub record CoreStays (d : AdcTable) (a b : Chip) : Type 0 where
   pub whole : HasWords b
   pub first : word_of b STATE ≡ word_of a STATE
   pub low : (k j : ℕ) → is_some (group_of d k) ≡ true → j < 7 → word_of b (group_word d k j) ≡ word_of a (group_word d k j)
-  pub running : (u : ℕ) → u < 2 → word_of b (word_number d (words.Running u)) ≡ word_of a (word_number d (words.Running u))
+  pub running : (u : ℕ) → u < 2 → word_of b (word_number d (Word.Running u)) ≡ word_of a (word_number d (Word.Running u))
   pub order : (u k : ℕ) → u < 2 → order_own (order_of u) k ≡ true → word_of b k ≡ word_of a k
 
 -- what is new: what is held, the banks, places, claims and kept values
@@ -62,19 +206,16 @@ pub record Anew (d : AdcTable) (after : Reservations) (a b : Chip) (w : World) (
   pub banks : (g : ℕ) → is_some (group_of d g) ≡ true → BanksAgree d after (word_of b) s g
   pub places : PlacesAgree d after (word_of b) s
   pub backed : Backed after
-  pub claimed : (k : ℕ) → is_some (group_of d k) ≡ true → word_of b (word_number d (words.Claim (unit_of (group_of d k)))) ≢ 2 + k → word_of a (word_number d (words.Claim (unit_of (group_of d k)))) ≢ 2 + k
-  pub claims : (u : ℕ) → u < 2 → claim_right after u (word_of b (word_number d (words.Claim u))) ≡ true
+  pub claimed : (k : ℕ) → is_some (group_of d k) ≡ true → word_of b (word_number d (Word.Claim (unit_of (group_of d k)))) ≢ 2 + k → word_of a (word_number d (Word.Claim (unit_of (group_of d k)))) ≢ 2 + k
+  pub claims : (u : ℕ) → u < 2 → claim_right after u (word_of b (word_number d (Word.Claim u))) ≡ true
   pub promised : (u : ℕ) → Promised d after w s u
-  pub kept : (k : ℕ) → is_some (group_of d k) ≡ true → word_of a (word_number d (words.Claim (unit_of (group_of d k)))) ≢ 2 + k → (j v : ℕ) → slice_get (kept_in d s k) j ≡ Some v → word_of b (kept_word (rounds_of d k) j) ≡ word_of a (kept_word (rounds_of d k) j)
+  pub kept : (k : ℕ) → is_some (group_of d k) ≡ true → word_of a (word_number d (Word.Claim (unit_of (group_of d k)))) ≢ 2 + k → (j v : ℕ) → slice_get (kept_in d s k) j ≡ Some v → word_of b (kept_word (rounds_of d k) j) ≡ word_of a (kept_word (rounds_of d k) j)
 
 module _ (d : AdcTable) (fits : FitsAdc d) (before : Reservations) (a b : Chip) (w : World) (s : AdcState) (h : Agrees d before a w s) (on : s.initialised ≡ true) (c : CoreStays d a b) where
   block : b.converters ≡ a.converters
   block = ap (λ (x : Chip). x.converters) c.rest
 
   -- ---- what is held
-
-  few_values : (u : ℕ) (r : Round) (k : ℕ) → round_at s u ≡ Some r → r.group ≡ k → (j n : ℕ) → slice_get (values_of w (group_of d k) r) j ≡ Some n → j < length (inputs_of (group_of d k))
-  few_values u r k e same j n is = value_within w (group_of d k) r j n (subst (λ z. length r.request.kept < length (inputs_of (group_of d z))) same (h.sound.runs u r e).4.2) is
 
   keeps_stays : (u k e : ℕ) (n : Option ℕ) (i : ℕ) (x : Option ℕ) → is_on u (group_of d k) ≡ true → KeptStays d a b k → KeepsRight d a s u k e n i x → KeepsRight d b s u k e n i x
   keeps_stays u k e n i x on kept q = record {
@@ -92,8 +233,8 @@ module _ (d : AdcTable) (fits : FitsAdc d) (before : Reservations) (a b : Chip) 
 
   pub held_stays : (x : ReservedBy Call Reservation) (z : Reservation) → HoldStays d a b z → HeldRight d a w s x z → HeldRight d b w s x z
   held_stays x (Clears n) stays r = absurd (let none = r.1 in let some = on in cc)
-  held_stays x (Fills u k e n i y) stays r = (r.0, r.1, r.2, (let q = r.3 in record { same = q.same; filled = λ z m v o less is. stays m (few_values u z k o (q.same z o).0 m v is) ∙ q.filled z m v o less is; next = q.next }))
-  held_stays x (Full u k n) stays r = (r.0, r.1, r.2, (let q = r.3 in record { same = q.same; filled = λ z m v o is. stays m (few_values u z k o (q.same z o).0 m v is) ∙ q.filled z m v o is }))
+  held_stays x (Fills u k e n i y) stays r = (r.0, r.1, r.2, (let q = r.3 in record { same = q.same; filled = λ z m v o less is. stays m (few_values d w s h.sound u z k o (q.same z o).0 m v is) ∙ q.filled z m v o less is; next = q.next }))
+  held_stays x (Full u k n) stays r = (r.0, r.1, r.2, (let q = r.3 in record { same = q.same; filled = λ z m v o is. stays m (few_values d w s h.sound u z k o (q.same z o).0 m v is) ∙ q.filled z m v o is }))
   held_stays x (Keeps u k e n i y) stays r = (r.0, r.1, r.2, λ f. keeps_stays u k e n i y r.1 stays.2 (r.3 (stays.0 f)), λ f. r.4 (λ q. f (stays.1 q)))
   held_stays x (Whole u k n) stays r = (r.0, r.1, r.2, λ f. whole_stays u k n stays.1 (r.3 (stays.0 f)))
   held_stays x (Copies n k i y) stays r = (r.0, r.1, r.2, (let q = r.3 in record { newest = stays.0 ∙ q.newest; values = λ m less le. stays.1 m less ∙ q.values m less le; next = q.next }))
@@ -120,8 +261,8 @@ module _ (d : AdcTable) (fits : FitsAdc d) (before : Reservations) (a b : Chip) 
 
   -- ---- words of groups and units
 
-  group_stays : (k : ℕ) → is_some (group_of d k) ≡ true → (word_of b (word_number d (words.Claim (unit_of (group_of d k)))) ≢ 2 + k → word_of a (word_number d (words.Claim (unit_of (group_of d k)))) ≢ 2 + k)
-      → (word_of a (word_number d (words.Claim (unit_of (group_of d k)))) ≢ 2 + k → (j v : ℕ) → slice_get (kept_in d s k) j ≡ Some v → word_of b (kept_word (rounds_of d k) j) ≡ word_of a (kept_word (rounds_of d k) j)) → GroupAgrees d (word_of b) s k
+  group_stays : (k : ℕ) → is_some (group_of d k) ≡ true → (word_of b (word_number d (Word.Claim (unit_of (group_of d k)))) ≢ 2 + k → word_of a (word_number d (Word.Claim (unit_of (group_of d k)))) ≢ 2 + k)
+      → (word_of a (word_number d (Word.Claim (unit_of (group_of d k)))) ≢ 2 + k → (j v : ℕ) → slice_get (kept_in d s k) j ≡ Some v → word_of b (kept_word (rounds_of d k) j) ≡ word_of a (kept_word (rounds_of d k) j)) → GroupAgrees d (word_of b) s k
   group_stays k there claimed kept =
       let q = (h.settled on).groups k there in record {
         phase = c.low k 0 there (omega arith) ∙ q.phase;
@@ -228,7 +369,7 @@ module _ (d : AdcTable) (fits : FitsAdc d) where
         whole = whole_later at;
         first = stored_other a at v 0 STATE (λ e. (let i = is in let l = low in omega (arith, e, i, l)));
         low = λ k j there less. stored_other a at v 0 (group_word d k j) (λ e. trio_apart d fits k g j at there here less own (sym e));
-        running = λ u few. stored_other a at v 0 (word_number d (words.Running u)) (λ e. (let i = is in let l = low in omega (arith, e, i, l, few)));
+        running = λ u few. stored_other a at v 0 (word_number d (Word.Running u)) (λ e. (let i = is in let l = low in omega (arith, e, i, l, few)));
         order = λ u k few mine. stored_other a at v 0 k (λ e. (let i = is in let l = low in let both = order_within k (STATE + 10 + 8 * u) mine in let high = both.1 in omega (arith, e, i, l, few, high)));
       }
 
@@ -243,29 +384,29 @@ module _ (d : AdcTable) (fits : FitsAdc d) where
           let less = place.3 in
           ranges_apart g k place.0 other.0 here there (λ z. ne (sym z)) (omega (arith, less)) (omega (arith, few)) (sym other.1 ∙ (e ∙ is)))
 
-      pub trio_claim : (u : ℕ) → u < 2 → word_of (later at) (word_number d (words.Claim u)) ≡ word_of a (word_number d (words.Claim u))
-      trio_claim u few = stored_other a at v 0 (word_number d (words.Claim u)) (λ e. (let i = is in let l = low in omega (arith, e, i, l, few)))
+      pub trio_claim : (u : ℕ) → u < 2 → word_of (later at) (word_number d (Word.Claim u)) ≡ word_of a (word_number d (Word.Claim u))
+      trio_claim u few = stored_other a at v 0 (word_number d (Word.Claim u)) (λ e. (let i = is in let l = low in omega (arith, e, i, l, few)))
 
       pub trio_far : (k : ℕ) (n : ResultBuffer) (p : ℕ) → result_word k n p ≢ at
-      trio_far k buffers.Zero p e = let i = is in let few = place.3 in let high = (start_from d fits g here).1 in omega (arith, e, i, few, high)
-      trio_far k buffers.One p e = let i = is in let few = place.3 in let high = (start_from d fits g here).1 in omega (arith, e, i, few, high)
+      trio_far k ResultBuffer.Zero p e = let i = is in let few = place.3 in let high = (start_from d fits g here).1 in omega (arith, e, i, few, high)
+      trio_far k ResultBuffer.One p e = let i = is in let few = place.3 in let high = (start_from d fits g here).1 in omega (arith, e, i, few, high)
 
       pub trio_result : (k : ℕ) (n : ResultBuffer) (p : ℕ) → word_of (later at) (result_word k n p) ≡ word_of a (result_word k n p)
       trio_result k n p = stored_other a at v 0 (result_word k n p) (trio_far k n p)
 
-    pub core_claim : (u : ℕ) → u < 2 → CoreStays d a (later (word_number d (words.Claim u)))
+    pub core_claim : (u : ℕ) → u < 2 → CoreStays d a (later (word_number d (Word.Claim u)))
     core_claim u lt = record {
       rest = refl;
-      whole = whole_later (word_number d (words.Claim u));
-      first = stored_other a (word_number d (words.Claim u)) v 0 STATE (λ e. omega (arith, e));
-      low = λ k j there less. stored_other a (word_number d (words.Claim u)) v 0 (group_word d k j) (λ e. (let l = (start_from d fits k there).0 in omega (arith, e, l, lt)));
-      running = λ n few. stored_other a (word_number d (words.Claim u)) v 0 (word_number d (words.Running n)) (λ e. omega (arith, e));
-      order = λ n k few mine. stored_other a (word_number d (words.Claim u)) v 0 k (λ e. (let both = order_within k (STATE + 10 + 8 * n) mine in let low = both.0 in let high = both.1 in omega (arith, e, low, high)));
+      whole = whole_later (word_number d (Word.Claim u));
+      first = stored_other a (word_number d (Word.Claim u)) v 0 STATE (λ e. omega (arith, e));
+      low = λ k j there less. stored_other a (word_number d (Word.Claim u)) v 0 (group_word d k j) (λ e. (let l = (start_from d fits k there).0 in omega (arith, e, l, lt)));
+      running = λ n few. stored_other a (word_number d (Word.Claim u)) v 0 (word_number d (Word.Running n)) (λ e. omega (arith, e));
+      order = λ n k few mine. stored_other a (word_number d (Word.Claim u)) v 0 k (λ e. (let both = order_within k (STATE + 10 + 8 * n) mine in let low = both.0 in let high = both.1 in omega (arith, e, low, high)));
     }
 
     past : (g : ℕ) (n : ResultBuffer) (p j : ℕ) → STATE + j ≡ result_word g n p → j < 8192 → ⊥
-    past g buffers.Zero p j e lt = omega (arith, e, lt)
-    past g buffers.One p j e lt = omega (arith, e, lt)
+    past g ResultBuffer.Zero p j e lt = omega (arith, e, lt)
+    past g ResultBuffer.One p j e lt = omega (arith, e, lt)
 
     pub kept_place : (g : ℕ) (n : ResultBuffer) (p k : ℕ) → is_some (group_of d k) ≡ true → KeptStays d a (later (result_word g n p)) k
     kept_place g n p k there j less = stored_other a (result_word g n p) v 0 (kept_word (rounds_of d k) j) (λ e. (let high = (start_from d fits k there).1 in past g n p (start_of (group_of d k) + (32 + 3 * length (inputs_of (group_of d k)) + j)) (omega (arith, e)) (omega (arith, high, less))))
@@ -276,7 +417,7 @@ module _ (d : AdcTable) (fits : FitsAdc d) where
       whole = whole_later (result_word g n p);
       first = stored_other a (result_word g n p) v 0 STATE (λ e. past g n p 0 e (omega arith));
       low = λ k j there less. stored_other a (result_word g n p) v 0 (group_word d k j) (λ e. place_apart d fits k j g n p there (omega (arith, less)) (sym e));
-      running = λ u few. stored_other a (result_word g n p) v 0 (word_number d (words.Running u)) (λ e. past g n p (8 + 8 * u) (omega (arith, e)) (omega (arith, few)));
+      running = λ u few. stored_other a (result_word g n p) v 0 (word_number d (Word.Running u)) (λ e. past g n p (8 + 8 * u) (omega (arith, e)) (omega (arith, few)));
       order = λ u k few mine. stored_other a (result_word g n p) v 0 k (λ e. (let both = order_within k (STATE + 10 + 8 * u) mine in let low = both.0 in let high = both.1 in past g n p (k - STATE) (omega (arith, e, low)) (omega (arith, low, high, few))));
     }
 
@@ -284,23 +425,23 @@ module _ (d : AdcTable) (fits : FitsAdc d) where
 
 module _ (d : AdcTable) (fits : FitsAdc d) (u : ℕ) (few : u < 2) (c : Chip) (whole : HasWords c) (v : ℕ) where
   abbrev claimed : Chip
-  claimed = chip_after c (Store (word_number d (words.Claim u)) v) 0
+  claimed = chip_after c (Store (word_number d (Word.Claim u)) v) 0
 
-  pub claim_now : word_of (chip_after c (Store (word_number d (words.Claim u)) v) 0) (word_number d (words.Claim u)) ≡ v
-  claim_now = stored_same c (word_number d (words.Claim u)) v 0 (word_there d fits (word_number d (words.Claim u)) (claim_words d u few)) whole
+  pub claim_now : word_of (chip_after c (Store (word_number d (Word.Claim u)) v) 0) (word_number d (Word.Claim u)) ≡ v
+  claim_now = stored_same c (word_number d (Word.Claim u)) v 0 (word_there d fits (word_number d (Word.Claim u)) (claim_words d u few)) whole
 
-  pub claim_other : (n : ℕ) → n ≢ u → word_of (chip_after c (Store (word_number d (words.Claim u)) v) 0) (word_number d (words.Claim n)) ≡ word_of c (word_number d (words.Claim n))
-  claim_other n ne = stored_other c (word_number d (words.Claim u)) v 0 (word_number d (words.Claim n)) (λ e. omega (arith, e, ne))
+  pub claim_other : (n : ℕ) → n ≢ u → word_of (chip_after c (Store (word_number d (Word.Claim u)) v) 0) (word_number d (Word.Claim n)) ≡ word_of c (word_number d (Word.Claim n))
+  claim_other n ne = stored_other c (word_number d (Word.Claim u)) v 0 (word_number d (Word.Claim n)) (λ e. omega (arith, e, ne))
 
-  pub trio_claimed : (g j : ℕ) → is_some (group_of d g) ≡ true → own_of (trio_of (rounds_of d g)) j ≡ true → word_of (chip_after c (Store (word_number d (words.Claim u)) v) 0) j ≡ word_of c j
-  trio_claimed g j there own = stored_other c (word_number d (words.Claim u)) v 0 j (λ e. (let place = trio_place d fits g j own in let is = place.1 in let low = (start_from d fits g there).0 in omega (arith, e, is, low, few)))
+  pub trio_claimed : (g j : ℕ) → is_some (group_of d g) ≡ true → own_of (trio_of (rounds_of d g)) j ≡ true → word_of (chip_after c (Store (word_number d (Word.Claim u)) v) 0) j ≡ word_of c j
+  trio_claimed g j there own = stored_other c (word_number d (Word.Claim u)) v 0 j (λ e. (let place = trio_place d fits g j own in let is = place.1 in let low = (start_from d fits g there).0 in omega (arith, e, is, low, few)))
 
-  pub place_claimed : (g : ℕ) (n : ResultBuffer) (p : ℕ) → word_of (chip_after c (Store (word_number d (words.Claim u)) v) 0) (result_word g n p) ≡ word_of c (result_word g n p)
-  place_claimed g n p = stored_other c (word_number d (words.Claim u)) v 0 (result_word g n p) (far n)
+  pub place_claimed : (g : ℕ) (n : ResultBuffer) (p : ℕ) → word_of (chip_after c (Store (word_number d (Word.Claim u)) v) 0) (result_word g n p) ≡ word_of c (result_word g n p)
+  place_claimed g n p = stored_other c (word_number d (Word.Claim u)) v 0 (result_word g n p) (far n)
     where
-      far : (n : ResultBuffer) → result_word g n p ≢ word_number d (words.Claim u)
-      far buffers.Zero e = omega (arith, e, few)
-      far buffers.One e = omega (arith, e, few)
+      far : (n : ResultBuffer) → result_word g n p ≢ word_number d (Word.Claim u)
+      far ResultBuffer.Zero e = omega (arith, e, few)
+      far ResultBuffer.One e = omega (arith, e, few)
 
   bank_claimed : (g : ℕ) (n : Bank) → is_some (group_of d g) ≡ true → BankStays d c claimed g n
   bank_claimed g n there j less = trio_claimed g (bank_word (rounds_of d g) n j) there (own-word (trio_of (rounds_of d g)) (bank_number n) j (bank_below d fits n) less)
@@ -308,18 +449,18 @@ module _ (d : AdcTable) (fits : FitsAdc d) (u : ℕ) (few : u < 2) (c : Chip) (w
   control_claimed : (g : ℕ) → is_some (group_of d g) ≡ true → word_of claimed (trio_of (rounds_of d g)).control ≡ word_of c (trio_of (rounds_of d g)).control
   control_claimed g there = trio_claimed g (trio_of (rounds_of d g)).control there (own-control (trio_of (rounds_of d g)))
 
-  pub kept_claimed : (k : ℕ) → is_some (group_of d k) ≡ true → KeptStays d c (chip_after c (Store (word_number d (words.Claim u)) v) 0) k
-  kept_claimed k there j less = stored_other c (word_number d (words.Claim u)) v 0 (kept_word (rounds_of d k) j) (λ e. (let l = (start_from d fits k there).0 in omega (arith, e, l, few)))
+  pub kept_claimed : (k : ℕ) → is_some (group_of d k) ≡ true → KeptStays d c (chip_after c (Store (word_number d (Word.Claim u)) v) 0) k
+  kept_claimed k there j less = stored_other c (word_number d (Word.Claim u)) v 0 (kept_word (rounds_of d k) j) (λ e. (let l = (start_from d fits k there).0 in omega (arith, e, l, few)))
 
   -- what is held below stays right, where the claim keeps no values now
   module _ (low : v < 2) where
-    kept_before : (n k : ℕ) → word_of claimed (word_number d (words.Claim n)) ≡ 2 + k → word_of c (word_number d (words.Claim n)) ≡ 2 + k
+    kept_before : (n k : ℕ) → word_of claimed (word_number d (Word.Claim n)) ≡ 2 + k → word_of c (word_number d (Word.Claim n)) ≡ 2 + k
     kept_before n k e = cases (same_or_other n u)
-        (λ same. absurd (let now : v ≡ 2 + k = sym claim_now ∙ subst (λ z. word_of claimed (word_number d (words.Claim z)) ≡ 2 + k) same e in omega (arith, now, low)))
+        (λ same. absurd (let now : v ≡ 2 + k = sym claim_now ∙ subst (λ z. word_of claimed (word_number d (Word.Claim z)) ≡ 2 + k) same e in omega (arith, now, low)))
         (λ ne. sym (claim_other n ne) ∙ e)
 
     -- and where no frame below claims the unit, other claims stay too
-    kept_after : (n k : ℕ) → (u == n) ≡ false → word_of c (word_number d (words.Claim n)) ≡ 2 + k → word_of claimed (word_number d (words.Claim n)) ≡ 2 + k
+    kept_after : (n k : ℕ) → (u == n) ≡ false → word_of c (word_number d (Word.Claim n)) ≡ 2 + k → word_of claimed (word_number d (Word.Claim n)) ≡ 2 + k
     kept_after n k off e = claim_other n (λ same. absurd (let on : (u == n) ≡ true = ap (λ z. u == z) same ∙ eq_self u in cc)) ∙ e
 
     one_stays : (w : World) (s : AdcState) (x : ReservedBy Call Reservation) (z : Reservation) → HeldRight d c w s x z → claims_on u z ≡ false → HoldStays d c claimed z
@@ -331,6 +472,6 @@ module _ (d : AdcTable) (fits : FitsAdc d) (u : ℕ) (few : u < 2) (c : Chip) (w
     one_stays w s x (Reads k n vs) r free = (ap (λ z. z / 4) (control_claimed k r.2), bank_claimed k n r.2)
     one_stays w s x _ r free = tt
 
-    pub claim_stays_below : (w : World) (s : AdcState) (hs : Reservations) → AllRight d c w s hs → some_hold (claims_on u) hs ≡ false → AllStay d c (chip_after c (Store (word_number d (words.Claim u)) v) 0) hs
+    pub claim_stays_below : (w : World) (s : AdcState) (hs : Reservations) → AllRight d c w s hs → some_hold (claims_on u) hs ≡ false → AllStay d c (chip_after c (Store (word_number d (Word.Claim u)) v) 0) hs
     claim_stays_below w s [] r free = tt
     claim_stays_below w s (x ∷ xs) r free = let both = or_parts (claims_on u x.what) (some_hold (claims_on u) xs) free in (one_stays w s x x.what r.0 both.0, claim_stays_below w s xs r.1 both.1)

@@ -1,19 +1,16 @@
 -- Which words are the module's: those of units and groups, the banks and kept values, and the places of the users' buffers.
 -- From services.InitSteps, words.Cases.
--- Used by hardware.StableUnderHardware, adc_driver: bookkeeping.MayMove, services.RequestRight and 51 more.
+-- Used by hardware.StableUnderHardware, adc_driver: bookkeeping.MayMove, services.RequestRight and 38 more.
 use Rattle.std.proofs.Common.{◌≡◌, ◌+◌, ◌-◌, ◌*◌, ◌/◌, ◌%◌, ◌<◌, ◌≤◌, ◌&&◌, ◌||◌, ◌==◌, [], ◌∷◌, ◌∙◌, if◌then◌else◌}
 use Rattle.adc_groups.specs.Terms
-use Terms.{AdcTable, all_groups, ap, arith, Bank, bank_number, bank_word, Bool, buffer_number, clear_at}
-use Terms.{cleared_group, cleared_word, drop, false, FitsAdc, Group, group_clear, group_of, group_start, group_word}
-use Terms.{input_count, inputs_of, is_full, is_in_buffer, is_linear_stream, is_on, is_own_word, is_result_word}
-use Terms.{is_some, is_word, kept_word, length, List, list_any, listed, Load, Move, mul-le-mul_right, nat_le, nat_lt}
-use Terms.{nat_tests, None, not, object_count, One, Option, or_left, or_right, order_of, own_of, place_count, refl}
+use Terms.{AdcTable, all_groups, ap, arith, Bank, bank_number, bank_word, Bool, buffer_number, clear_at, cleared_group}
+use Terms.{cleared_word, drop, false, FitsAdc, Group, group_clear, group_of, group_start, group_word, input_count}
+use Terms.{inputs_of, is_full, is_in_buffer, is_linear_stream, is_on, is_own_word, is_result_word, is_some, is_word}
+use Terms.{kept_word, length, List, list_any, listed, Load, Move, mul-le-mul_right, nat_le, nat_lt, nat_tests, None}
+use Terms.{not, object_count, Option, option_as, or_left, or_right, order_of, order_own, own_of, place_count, refl}
 use Terms.{result_word, ResultBuffer, rounds_of, samples_of, slice_get, slice_index_or, Some, SOURCES, STATE, Store}
-use Terms.{subst, suc, trio_of, true, unit_level, unit_of, unit_word, whether_as, word_number, Zero, zero, ℕ}
-use Rattle.mcal_base.specs.{Layout.{start_of}, declared.layout.Array.TheVariants.{Round}}
-use Rattle.word_shapes.specs.PriorityQueue as ranked
-use Rattle.adc_machine.specs.declared.call.ResultBuffer.TheVariants as buffers
-use Rattle.adc_groups.specs.declared.words.Word.TheVariants as words
+use Terms.{subst, suc, trio_of, true, unit_level, unit_of, unit_word, whether_as, Word, word_number, Zero, zero, ℕ}
+use Rattle.mcal_base.specs.{declared.layout.Array.TheVariants.{Round}, Layout.{start_of}}
 
 -- ---- truth values
 
@@ -43,11 +40,8 @@ all_small = (omega arith, (omega arith, (omega arith, (omega arith, (omega arith
 
 -- a group that is there is below 16
 pub within : (d : AdcTable) (g : ℕ) → is_some (group_of d g) ≡ true → g < 16
-within d g h = by (nat_lt g 16) refl h
-  where
-    by : (q : Bool) → nat_lt g 16 ≡ q → is_some (if q then slice_index_or d.groups g None else None) ≡ true → g < 16
-    by true e h = grind (arith, nat_tests)
-    by false e h = absurd (cc)
+within d g h = whether_as (nat_lt g 16) (λ q. is_some (if q then slice_index_or d.groups g None else None) ≡ true → g < 16)
+    (λ e h. grind (arith, nat_tests)) (λ e h. absurd (cc)) h
 
 pub on_there : (u : ℕ) (k : Option Group) → is_on u k ≡ true → is_some k ≡ true
 on_there u None e = absurd (cc)
@@ -66,16 +60,16 @@ pub first_words : (d : AdcTable) (j : ℕ) → j < 64 → is_word d (STATE + j) 
 first_words d j lt = own_word d (STATE + j) (omega arith) (omega (arith, lt))
 
 -- those of a unit, and its order
-pub running_words : (d : AdcTable) (u : ℕ) → u < 2 → is_word d (word_number d (words.Running u)) ≡ true
-running_words d u lt = own_word d (word_number d (words.Running u)) (omega arith) (omega (arith, lt))
+pub running_words : (d : AdcTable) (u : ℕ) → u < 2 → is_word d (word_number d (Word.Running u)) ≡ true
+running_words d u lt = own_word d (word_number d (Word.Running u)) (omega arith) (omega (arith, lt))
 
-pub claim_words : (d : AdcTable) (u : ℕ) → u < 2 → is_word d (word_number d (words.Claim u)) ≡ true
-claim_words d u lt = own_word d (word_number d (words.Claim u)) (omega arith) (omega (arith, lt))
+pub claim_words : (d : AdcTable) (u : ℕ) → u < 2 → is_word d (word_number d (Word.Claim u)) ≡ true
+claim_words d u lt = own_word d (word_number d (Word.Claim u)) (omega arith) (omega (arith, lt))
 
 tally_words : (d : AdcTable) (u : ℕ) → u < 2 → is_word d ((order_of u).at + 2) ≡ true
 tally_words d u lt = own_word d ((order_of u).at + 2) (omega arith) (omega (arith, lt))
 
-pub order_words : (d : AdcTable) (u k : ℕ) → u < 2 → ranked.own_of (order_of u) k ≡ true → is_word d k ≡ true
+pub order_words : (d : AdcTable) (u k : ℕ) → u < 2 → order_own (order_of u) k ≡ true → is_word d k ≡ true
 order_words d u k lt own =
     let both : (40970 + 8 * u ≤ k) × (k ≤ 40972 + 8 * u) = (grind (arith, nat_tests), grind (arith, nat_tests)) in
     let low = both.0 in
@@ -93,18 +87,15 @@ in_range : (first count p : ℕ) → p < count → not (nat_lt (first + p) first
 in_range first count p lt = grind (arith, nat_tests)
 
 pub place_words : (d : AdcTable) (g : ℕ) (b : ResultBuffer) (p : ℕ) → p < place_count d g → is_word d (result_word g b p) ≡ true
-place_words d g b p lt = or_right (is_own_word d (result_word g b p)) (is_result_word d (result_word g b p)) (any_in (λ h. is_in_buffer d (result_word g b p) h buffers.Zero || is_in_buffer d (result_word g b p) h buffers.One) all_groups g g (listed g small) (by b))
+place_words d g b p lt = or_right (is_own_word d (result_word g b p)) (is_result_word d (result_word g b p)) (any_in (λ h. is_in_buffer d (result_word g b p) h ResultBuffer.Zero || is_in_buffer d (result_word g b p) h ResultBuffer.One) all_groups g g (listed g small) (by b))
   where
-    there : (k : Option Group) → p < length (inputs_of k) * samples_of k → is_some k ≡ true
-    there None few = absurd (omega (arith, few))
-    there (Some k) few = refl
-
     small : g < 16
-    small = within d g (there (group_of d g) lt)
+    small = within d g (option_as (group_of d g) (λ k. p < length (inputs_of k) * samples_of k → is_some k ≡ true)
+        (λ _ _ _. refl) (λ _ few. absurd (omega (arith, few))) lt)
 
-    by : (c : ResultBuffer) → is_in_buffer d (result_word g c p) g buffers.Zero || is_in_buffer d (result_word g c p) g buffers.One ≡ true
-    by buffers.Zero = or_left _ _ (in_range (start_of (Round g 0)) (place_count d g) p lt)
-    by buffers.One = or_right _ _ (in_range (start_of (Round g 1)) (place_count d g) p lt)
+    by : (c : ResultBuffer) → is_in_buffer d (result_word g c p) g ResultBuffer.Zero || is_in_buffer d (result_word g c p) g ResultBuffer.One ≡ true
+    by ResultBuffer.Zero = or_left _ _ (in_range (start_of (Round g 0)) (place_count d g) p lt)
+    by ResultBuffer.One = or_right _ _ (in_range (start_of (Round g 1)) (place_count d g) p lt)
 
 module _ (d : AdcTable) (fits : FitsAdc d) where
   -- a word of a group
@@ -169,16 +160,14 @@ module _ (d : AdcTable) (fits : FitsAdc d) where
   own_below k n e le = let lt : k < 40960 + n = grind (arith, nat_tests) in omega (arith, lt, le)
 
   few_places : (g : ℕ) → place_count d g ≤ 2048
-  few_places g = places_bound (group_of d g) refl
-    where
-      places_bound : (k : Option Group) → group_of d g ≡ k → length (inputs_of k) * samples_of k ≤ 2048
-      places_bound None e = omega arith
-      places_bound (Some k) e =
-          let f = fits.groups g k e in
-          let few = f.few in
-          let most = f.places.1 in
-          let row : length k.inputs * k.samples ≤ 32 * k.samples = mul-le-mul_right k.samples few in
-          omega (arith, row, most)
+  few_places g = option_as (group_of d g) (λ k. length (inputs_of k) * samples_of k ≤ 2048)
+      (λ k e.
+      let f = fits.groups g k e in
+      let few = f.few in
+      let most = f.places.1 in
+      let row : length k.inputs * k.samples ≤ 32 * k.samples = mul-le-mul_right k.samples few in
+      omega (arith, row, most))
+      (λ e. omega arith)
 
   buffer_below : (k g : ℕ) (b : ResultBuffer) → g < 16 → is_in_buffer d k g b ≡ true → k < SOURCES
   buffer_below k g b lt e =
@@ -188,37 +177,31 @@ module _ (d : AdcTable) (fits : FitsAdc d) where
       omega (arith, few, number, high, lt)
     where
       buffer_few : (b : ResultBuffer) → buffer_number b < 2
-      buffer_few buffers.Zero = omega arith
-      buffer_few buffers.One = omega arith
+      buffer_few ResultBuffer.Zero = omega arith
+      buffer_few ResultBuffer.One = omega arith
 
       in_high : (k first count : ℕ) → not (nat_lt k first) && nat_lt k (first + count) ≡ true → k < first + count
       in_high k first count e = grind (arith, nat_tests)
 
-  results_below : (k : ℕ) (gs : List ℕ) → AllSmall gs → list_any (λ g. is_in_buffer d k g buffers.Zero || is_in_buffer d k g buffers.One) gs ≡ true → k < SOURCES
+  results_below : (k : ℕ) (gs : List ℕ) → AllSmall gs → list_any (λ g. is_in_buffer d k g ResultBuffer.Zero || is_in_buffer d k g ResultBuffer.One) gs ≡ true → k < SOURCES
   results_below k [] small e = absurd (cc)
-  results_below k (g ∷ gs) small e = by (is_in_buffer d k g buffers.Zero) refl (is_in_buffer d k g buffers.One) refl (λ f. results_below k gs small.1 f) e
+  results_below k (g ∷ gs) small e = by (is_in_buffer d k g ResultBuffer.Zero) refl (is_in_buffer d k g ResultBuffer.One) refl (λ f. results_below k gs small.1 f) e
     where
-      by : (p : Bool) → is_in_buffer d k g buffers.Zero ≡ p → (q : Bool) → is_in_buffer d k g buffers.One ≡ q → (list_any (λ g. is_in_buffer d k g buffers.Zero || is_in_buffer d k g buffers.One) gs ≡ true → k < SOURCES) → (p || q) || list_any (λ g. is_in_buffer d k g buffers.Zero || is_in_buffer d k g buffers.One) gs ≡ true → k < SOURCES
-      by true i q j rest f = buffer_below k g buffers.Zero small.0 i
-      by false i true j rest f = buffer_below k g buffers.One small.0 j
+      by : (p : Bool) → is_in_buffer d k g ResultBuffer.Zero ≡ p → (q : Bool) → is_in_buffer d k g ResultBuffer.One ≡ q → (list_any (λ g. is_in_buffer d k g ResultBuffer.Zero || is_in_buffer d k g ResultBuffer.One) gs ≡ true → k < SOURCES) → (p || q) || list_any (λ g. is_in_buffer d k g ResultBuffer.Zero || is_in_buffer d k g ResultBuffer.One) gs ≡ true → k < SOURCES
+      by true i q j rest f = buffer_below k g ResultBuffer.Zero small.0 i
+      by false i true j rest f = buffer_below k g ResultBuffer.One small.0 j
       by false i false j rest f = rest f
 
   pub words_below : (k : ℕ) → is_word d k ≡ true → k < SOURCES
-  words_below k e = by (is_own_word d k) refl e
-    where
-      by : (q : Bool) → is_own_word d k ≡ q → q || is_result_word d k ≡ true → k < SOURCES
-      by true i f = own_below k (64 + 32 * object_count d + 6 * input_count d) i fits.room
-      by false i f = results_below k all_groups all_small f
+  words_below k e = whether_as (is_own_word d k) (λ q. q || is_result_word d k ≡ true → k < SOURCES)
+      (λ i _. own_below k (64 + 32 * object_count d + 6 * input_count d) i fits.room)
+      (λ _ f. results_below k all_groups all_small f) e
 
   -- ---- what is known of groups that are there
 
   module _ (g : ℕ) (there : is_some (group_of d g) ≡ true) where
     known : (P : Option Group → Type 0) → ((k : Group) → group_of d g ≡ Some k → P (Some k)) → P (group_of d g)
-    known P h = by (group_of d g) refl there
-      where
-        by : (k : Option Group) → group_of d g ≡ k → is_some k ≡ true → P k
-        by None e i = absurd (cc)
-        by (Some k) e i = h k e
+    known P h = option_as (group_of d g) (λ k. is_some k ≡ true → P k) (λ k e _. h k e) (λ e i. absurd (cc)) there
 
     pub few_inputs : length (inputs_of (group_of d g)) ≤ 32
     few_inputs = known (λ k. length (inputs_of k) ≤ 32) (λ k e. (fits.groups g k e).few)
@@ -228,11 +211,8 @@ module _ (d : AdcTable) (fits : FitsAdc d) where
 
     -- without a round its stream isn't full
     pub none_full : is_full (group_of d g) 0 ≡ false
-    none_full = by (is_linear_stream (group_of d g)) (samples_of (group_of d g)) some_samples
-      where
-        by : (q : Bool) (n : ℕ) → 0 < n → q && nat_le n 0 ≡ false
-        by false n some = refl
-        by true n some = grind (arith, nat_tests)
+    none_full = whether_as (is_linear_stream (group_of d g)) (λ q. q && nat_le (samples_of (group_of d g)) 0 ≡ false)
+        (λ _. let some = some_samples in grind (arith, nat_tests)) (λ _. refl)
 
     pub some_inputs : 0 < length (inputs_of (group_of d g))
     some_inputs = known (λ k. 0 < length (inputs_of k)) (λ k e. (fits.groups g k e).some)
@@ -241,11 +221,8 @@ module _ (d : AdcTable) (fits : FitsAdc d) where
     unit_small = known (λ k. unit_of k < 2) (λ k e. configured k.unit (fits.groups g k e).unit)
       where
         configured : (u : ℕ) → is_some (unit_level d u) ≡ true → u < 2
-        configured u h = by (nat_lt u 2) refl h
-          where
-            by : (q : Bool) → nat_lt u 2 ≡ q → is_some (if q then slice_index_or d.units u None else None) ≡ true → u < 2
-            by true e h = grind (arith, nat_tests)
-            by false e h = absurd (cc)
+        configured u h = whether_as (nat_lt u 2) (λ q. is_some (if q then slice_index_or d.units u None else None) ≡ true → u < 2)
+            (λ e h. grind (arith, nat_tests)) (λ e h. absurd (cc)) h
 
   pub unit_is : (u : ℕ) (k : Option Group) → is_on u k ≡ true → unit_of k ≡ u
   unit_is u None e = absurd (cc)

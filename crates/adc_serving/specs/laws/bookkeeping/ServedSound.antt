@@ -1,12 +1,13 @@
 -- A group whose round was served is one that a state may have.
 -- From adc_groups: words.Cases.
--- Used by services.ServeActRight.
+-- Used by services.ServeActRight, services.ServeRight.
 use Rattle.std.proofs.Common.{◌≡◌, ◌≢◌, ◌+◌, ◌%◌, ◌<◌, ◌≤◌, ◌&&◌, ◌||◌, ◌==◌, [], ◌∷◌, ◌++◌, ◌∙◌, ◌⊎◌}
 use Rattle.adc_serving.specs.Terms
 use Terms.{ap, arith, Bool, cases, cond, ends_with_stream, eq_is, false, Group, GroupState, Idle, inl, inputs_of, inr}
 use Terms.{is_continuous, is_full, is_linear_stream, is_some, length, length_push, List, mod-le, nat_le, nat_tests}
 use Terms.{None, not, Option, refl, Request, samples_of, slice_get, Some, SoundGroup, Status, status_after}
-use Terms.{StreamCompleted, suc, sym, trigger_input, true, whether, zero, ℕ}
+use Terms.{StreamCompleted, suc, sym, trigger_input, true, whether, whether_as, zero, ℕ}
+use Rattle.mcal_base.specs.facts.Truths.{and_first}
 
 -- the status after a round
 pub not_idle : (last : Bool) (x : Status) → status_after last x ≡ Idle → ⊥
@@ -21,6 +22,12 @@ completed_by _ _ e = absurd (cc)
 
 lt_of : (x y : ℕ) → nat_le x y ≡ false → y < x
 lt_of x y e = grind (arith, nat_tests)
+
+-- two tests of which each gives the other
+pub both_ways : (a b : Bool) → (a ≡ true → b ≡ true) → (b ≡ true → a ≡ true) → a ≡ b
+both_ways true b on back = sym (on refl)
+both_ways false true on back = back refl
+both_ways false false on back = refl
 
 -- one more round of the group is whole
 pushed : {A : Type 0} (xs : List A) (y : A) (i : ℕ) (z : A) → slice_get (xs ++ y ∷ []) i ≡ Some z → (slice_get xs i ≡ Some z) ⊎ (z ≡ y)
@@ -47,11 +54,7 @@ module _ (k : Option Group) (x : GroupState) (there : is_some k ≡ true) (some 
 
   -- a full stream is linear, and a linear one that isn't completed isn't full
   full_linear : is_full k (length x.rounds + 1) ≡ true → is_linear_stream k ≡ true
-  full_linear e = by (is_linear_stream k) e
-    where
-      by : (q : Bool) → q && nat_le (samples_of k) (length x.rounds + 1) ≡ true → q ≡ true
-      by true i = refl
-      by false i = absurd (cc)
+  full_linear e = and_first (is_linear_stream k) (nat_le (samples_of k) (length x.rounds + 1)) e
 
   going_on : is_full k (length x.rounds + 1) ≡ false → is_linear_stream k ≡ true → status ≡ StreamCompleted → ⊥
   going_on e linear is = let le = all_there is in let lt = lt_of (samples_of k) (length x.rounds + 1) (sym (ap (λ q. q && nat_le (samples_of k) (length x.rounds + 1)) linear) ∙ e) in omega (arith, le, lt)
@@ -61,11 +64,9 @@ module _ (k : Option Group) (x : GroupState) (there : is_some k ≡ true) (some 
 
   -- which groups end with their stream
   ends_linear : is_linear_stream k ≡ true → ends_with_stream k ≡ true
-  ends_linear e = by k e
-    where
-      by : (o : Option Group) → is_linear_stream o ≡ true → ends_with_stream o ≡ true
-      by None i = absurd (cc)
-      by (Some z) i = ap (λ q. cond q true (not z.continuous && not (is_some z.trigger))) i
+  ends_linear e =
+      (elim k as (λ o. is_linear_stream o ≡ true → ends_with_stream o ≡ true)
+      [ None ↦ λ i. absurd (cc) | Some z ↦ λ i. ap (λ q. cond q true (not z.continuous && not (is_some z.trigger))) i ]) e
 
   ends_other : is_linear_stream k ≡ false → ends_with_stream k ≡ not (is_continuous k) && not (is_some (trigger_input k))
   ends_other e = by k there e
@@ -75,12 +76,7 @@ module _ (k : Option Group) (x : GroupState) (there : is_some k ≡ true) (some 
       by (Some z) i j = ap (λ q. cond q true (not z.continuous && not (is_some z.trigger))) j
 
   hears_same : x.trigger ≡ is_some (trigger_input k)
-  hears_same = by x.trigger refl (is_some (trigger_input k)) refl
-    where
-      by : (a : Bool) → x.trigger ≡ a → (b : Bool) → is_some (trigger_input k) ≡ b → a ≡ b
-      by true e false i = absurd (let on = sound.input e in cc)
-      by false e true i = absurd (let on = hears i in cc)
-      by _ e _ i = refl
+  hears_same = both_ways x.trigger (is_some (trigger_input k)) sound.input hears
 
   -- by whether its turn goes on, and its trigger
   pub served_sound : (turned trigger : Bool) (waiting : Option Request) → (trigger ≡ true → x.trigger ≡ true) → (status ≡ StreamCompleted → turned || trigger ≡ not (ends_with_stream k)) → (turned || trigger ≡ true → is_full k (length x.rounds + 1) ≡ false) → SoundGroup k turned (record x { status = status; rounds = x.rounds ++ values ∷ []; trigger = trigger; waiting = waiting })
@@ -113,11 +109,7 @@ module _ (k : Option Group) (x : GroupState) (there : is_some k ≡ true) (some 
   pub rest_going : is_full k (length x.rounds + 1) ≡ false → is_continuous k ≡ false → status ≡ StreamCompleted → x.trigger ≡ not (ends_with_stream k)
   rest_going e off is = whether (is_linear_stream k)
       (λ i. absurd (going_on e i is))
-      (λ i. hears_same ∙ (twice (is_some (trigger_input k)) ∙ sym (ap (λ q. not q) (ends_other i ∙ ap (λ q. not q && not (is_some (trigger_input k))) off))))
-    where
-      twice : (q : Bool) → q ≡ not (not q)
-      twice true = refl
-      twice false = refl
+      (λ i. hears_same ∙ (whether_as (is_some (trigger_input k)) (λ q. q ≡ not (not q)) (λ _. refl) (λ _. refl) ∙ sym (ap (λ q. not q) (ends_other i ∙ ap (λ q. not q && not (is_some (trigger_input k))) off))))
 
   -- the three ways on: its stream is full, it waits again, or it has no turn any more
   pub after_full : is_full k (length x.rounds + 1) ≡ true → SoundGroup k false (record x { status = status_after (length x.rounds % samples_of k + 1 == samples_of k) x.status; rounds = x.rounds ++ values ∷ []; trigger = false })

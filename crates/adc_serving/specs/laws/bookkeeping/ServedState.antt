@@ -1,14 +1,21 @@
 -- The machine's state after a round was served: its unit is free, its group has the round, and waits again where it is continuous.
--- From adc_groups: services.RequestRight.
--- Used by services.ServeActRight, services.ServeActSteps.
-use Rattle.std.proofs.Common.{◌≡◌, ◌≢◌, ◌<◌, ◌≤◌, [], ◌∙◌, ◌&&◌, ◌+◌}
+-- From adc_groups: words.StoreOneWord.
+-- Used by services.ServeActRight, services.ServeRight.
+use Rattle.std.proofs.Common.{◌≡◌, ◌≢◌, ◌+◌, ◌%◌, ◌<◌, ◌≤◌, ◌&&◌, ◌==◌, [], ◌∷◌, ◌++◌, ◌∙◌}
 use Rattle.adc_serving.specs.Terms
 use Terms.{AdcState, AdcTable, after_round, ap, arith, Bool, cond, false, group_at, group_of, group_same, GroupState}
-use Terms.{happens, is_continuous, is_done, is_finished, is_full, length, List, mark_at, no_answer, None, notes, Option}
-use Terms.{other_at, Outcome, outcome, past_untouched, refl, Round, round_at, round_same, served_round, Some, suc, sym}
-use Terms.{trigger_input, true, unmarked_group, unmarked_round, untouched, values_of, with_group, with_round}
-use Terms.{with_round_of, with_values, without_mark, World, zero, ℕ}
+use Terms.{happens, is_continuous, is_done, is_finished, is_full, length, List, mark_at, no_answer, None, notes}
+use Terms.{Option, other_at, Outcome, outcome, past_untouched, refl, Round, round_at, round_same, samples_of}
+use Terms.{served_round, Some, status_after, suc, sym, trigger_input, true, unmarked_group, unmarked_round, untouched}
+use Terms.{values_of, with_group, with_round, with_round_of, with_values, without_mark, World, zero, ℕ}
 use Rattle.run_model.specs.Machine.{Serves}
+
+-- What a group has once a round of it was served.
+pub record HasServed (d : AdcTable) (s : AdcState) (g : ℕ) (values : List ℕ) (z : GroupState) : Type 0 where
+  pub rounds : z.rounds ≡ (group_at s g).rounds ++ values ∷ []
+  pub status : z.status ≡ status_after (length (group_at s g).rounds % samples_of (group_of d g) + 1 == samples_of (group_of d g)) (group_at s g).status
+  pub chosen : z.chosen ≡ (group_at s g).chosen
+  pub notification : z.notification ≡ (group_at s g).notification
 
 module _ (d : AdcTable) (s : AdcState) (g u : ℕ) (few : u < 2) (lt : g < 16) (past : (k : ℕ) → 16 ≤ k → group_at s k ≡ untouched) (number : ℕ) (values : List ℕ) where
   abbrev added : GroupState
@@ -26,6 +33,10 @@ module _ (d : AdcTable) (s : AdcState) (g u : ℕ) (few : u < 2) (lt : g < 16) (
   served_group true c = record (with_values (group_of d g) (group_at s g) values) { trigger = false }
   served_group false true = record (with_values (group_of d g) (group_at s g) values) { waiting = Some (record { number = number; kept = [] }) }
   served_group false false = with_values (group_of d g) (group_at s g) values
+
+  pub served_fields : (f c : Bool) → HasServed d s g values (served_group f c)
+  served_fields false true = record { rounds = refl; status = refl; chosen = refl; notification = refl }
+  served_fields _ _ = record { rounds = refl; status = refl; chosen = refl; notification = refl }
 
   stored_group : group_at stored g ≡ added
   stored_group = group_same (with_round s u None) g added lt

@@ -1,27 +1,29 @@
 -- A handler copies a finished round to its bank value by value, with the mask open: what words and registers agree with meanwhile.
--- From adc_groups: words.WordsChange, adc_groups: words.WordsOfModule, services.ClaimRight, service_outline: Words and 5 more.
--- Used by services.CopySteps, adc_driver: services.KeepCopySteps, services.ServeActRight.
+-- From adc_groups: words.WordsChange, adc_groups: words.WordsOfModule, adc_groups: bookkeeping.FrameRule and 8 more.
+-- Used by adc_driver: services.KeepCopySteps, services.ServeActRight, services.TellRight.
 use Rattle.std.proofs.Common.{◌≡◌, ◌≢◌, ◌+◌, ◌-◌, ◌*◌, ◌/◌, ◌%◌, ◌<◌, ◌≤◌, ◌==◌, [], ◌∷◌, ◌++◌, ◌∙◌, ◌⊎◌}
 use Rattle.std.proofs.Common.{if◌then◌else◌, length-drop}
 use Rattle.adc_serving.specs.Terms
-use Terms.{AdcState, AdcTable, Agrees, all_stay, AllRight, AllStay, ap, arith, Bank, bank_below, bank_number}
-use Terms.{bank_word, banks-apart, banks_stay, BanksAgree, BankStays, Bool, Call, cases, Chip, chip_after}
-use Terms.{claim_right, claimed_parts, claims_on, control-apart, Copies, core_trio, CoreStays, ends_at, eq_is}
-use Terms.{eq_other, eq_self, false, filling, Fills, fills, FillsRight, finish_of, first_held, FitsAdc, Full}
-use Terms.{FullRight, group_at, group_of, HasValues, HasWords, HeldRight, holds_anew, HoldStays, inl, inputs_left}
-use Terms.{inputs_of, inr, is_finished, is_on, is_round_of, is_some, IsNext, IsRound, Keeps, kept_by, kept_in}
-use Terms.{kept_of_round, kept_trio, kept_within, kept_word, KeptStays, length, length_push, List, nat_le, nat_tests}
-use Terms.{newest-in, None, on_there, Option, option_map, or_else, or_parts, own-control, own-word, own_of, pin_of}
-use Terms.{put_of, PutIn, PutStands, Putting, Reads, refl, Reservation, Reservations, ReservedBy, result_of, Round}
-use Terms.{round_at, round_turn, RoundAgrees, rounds_of, same_or_other, sample_at, slice_get, Some, some_hold, Stands}
-use Terms.{stands-agree, stays_agree, Store, stored, stored_other, stored_same, subst, suc, sym, trio_claim, trio_of}
-use Terms.{trio_other, trio_result, trio_words, TripleBuffer, true, unit_is, unit_of, unit_small, unit_within}
-use Terms.{value_within, values_of, Whole, whole_values, word_at, word_number, word_of, word_there, words-after}
-use Terms.{World, zero, ℕ}
-use Rattle.adc_serving.specs.laws.services.ClaimRight.{claiming}
-use Rattle.adc_serving.specs.laws.words.ControlWord.{trio_fits}
+use Terms.{adc_bodies, adc_machine, AdcBody, AdcGround, AdcState, AdcTable, Agrees, all_stay, AllRight, AllStay, ap}
+use Terms.{arith, AssertedAt, Bank, bank_below, bank_number, bank_word, banks-apart, banks_stay, BanksAgree}
+use Terms.{BankStays, body_ends, body_work, Bool, Call, cases, Chip, chip_after, claim_right, claimed_parts}
+use Terms.{claims_on, control-apart, ConverterResult, Copies, copies_on, Copying, core_trio, CoreStays, ended_at}
+use Terms.{ends_at, Entered, eq_is, eq_other, eq_self, false, filling, Fills, fills, FillsRight, finish_of}
+use Terms.{first_held, FitsAdc, fresh_history, Full, FullRight, goes, group_of, HasValues, HasWords, HeldRight}
+use Terms.{holds_anew, HoldStays, inl, inputs_left, inputs_of, inr, is_finished, is_on, is_round_of, is_some}
+use Terms.{Is_this_frame, IsAlone, IsNext, IsRound, Keeps, kept_in, kept_round, kept_trio, kept_within, kept_word}
+use Terms.{KeptStays, length, length_push, List, Load, lt_is, MakesTo, missed_after, Move, nat_le, nat_lt, nat_tests}
+use Terms.{newest-in, None, on_there, Option, or_else, or_parts, Out, Outside, own-control, own-word, own_of, pin_of}
+use Terms.{put_of, PutIn, PutStands, Putting, Read, Reads, refl, Reservation, Reservations, ReservedBy, result_of}
+use Terms.{RightOr, Round, round_at, round_turn, RoundAgrees, rounds_of, same_or_other, sample_at, Serves, slice_get}
+use Terms.{Some, some_hold, Stands, stands-agree, stays_agree, Store, stored, stored_other, stored_same, subst, suc}
+use Terms.{sym, Taken, trio_claim, trio_of, trio_other, trio_result, trio_words, TripleBuffer, true, unit_is, unit_of}
+use Terms.{unit_small, unit_within, value_of, value_within, values_of, Whole, whole_values, Word, word_at}
+use Terms.{word_number, word_of, word_there, words-after, World, zero, ℕ}
+use Rattle.adc_serving.specs.laws.{services.ClaimRight.{claiming}, words.ControlWord.{open_put, trio_fits}}
 use Rattle.chip_converter.specs.Converters as chips
-use Rattle.adc_groups.specs.declared.words.Word.TheVariants as words
+use Rattle.adc_stream.specs.declared.copying.Copied.TheVariants as copied
+use Rattle.mcal_base.specs.facts.Numbers.{lt_isnt}
 
 pub got : {A : Type 0} (xs : List A) (n : ℕ) → n < length xs → (x : A) × (slice_get xs n ≡ Some x)
 got [] n lt = absurd (omega (arith, lt))
@@ -71,8 +73,8 @@ module _ (d : AdcTable) (fits : FitsAdc d) (below : Reservations) (chip : Chip) 
   right : FillsRight d chip w s u g e b i v
   right = h.right.0.3
 
-  parts : (word_of chip (word_number d (words.Claim u)) ≡ 1) × (some_hold (claims_on u) below ≡ false)
-  parts = claimed_parts u (word_of chip (word_number d (words.Claim u))) below (claim_right below u (word_of chip (word_number d (words.Claim u)))) ((h.settled on).claims u few)
+  parts : (word_of chip (word_number d (Word.Claim u)) ≡ 1) × (some_hold (claims_on u) below ≡ false)
+  parts = claimed_parts u (word_of chip (word_number d (Word.Claim u))) below (claim_right below u (word_of chip (word_number d (Word.Claim u)))) ((h.settled on).claims u few)
 
   pub alone_claims : some_hold (claims_on u) below ≡ false
   alone_claims = parts.1
@@ -84,9 +86,6 @@ module _ (d : AdcTable) (fits : FitsAdc d) (below : Reservations) (chip : Chip) 
     of_group : is_round_of g (round_at s u) ≡ true
     of_group = ap (λ q. is_round_of g q) is ∙ (ap (λ m. m == g) same.0 ∙ eq_self g)
 
-    few_kept : length r.request.kept < length (inputs_of (group_of d g))
-    few_kept = subst (λ m. length r.request.kept < length (inputs_of (group_of d m))) same.0 (h.sound.runs u r is).4.2
-
     values : HasValues w (group_of d g) r (values_of w (group_of d g) r)
     values = whole_values w (group_of d g) r
 
@@ -94,12 +93,10 @@ module _ (d : AdcTable) (fits : FitsAdc d) (below : Reservations) (chip : Chip) 
     one m f = let both : Some m ≡ Some n = sym f ∙ at in cc
 
     kept_is : kept_in d s g ≡ r.request.kept
-    kept_is =
-        ap (λ q. kept_by q (kept_of_round g (round_at s (unit_of (group_of d g))))) (subst (λ m. (group_at s m).waiting ≡ None) same.0 (h.sound.runs u r is).2)
-        ∙ (ap (λ m. kept_of_round g (round_at s m)) unit ∙ (ap (λ q. kept_of_round g q) is ∙ ap (λ q. if q then r.request.kept else []) (ap (λ m. m == g) same.0 ∙ eq_self g)))
+    kept_is = subst (λ m. kept_in d s m ≡ r.request.kept) same.0 (kept_round d fits w s h.sound u r is)
 
-    unkept : word_of chip (word_number d (words.Claim (unit_of (group_of d g)))) ≢ 2 + g
-    unkept f = let one : word_of chip (word_number d (words.Claim (unit_of (group_of d g)))) ≡ 1 = ap (λ m. word_of chip (word_number d (words.Claim m))) unit ∙ parts.0 in omega (arith, f, one)
+    unkept : word_of chip (word_number d (Word.Claim (unit_of (group_of d g)))) ≢ 2 + g
+    unkept f = let one : word_of chip (word_number d (Word.Claim (unit_of (group_of d g)))) ≡ 1 = ap (λ m. word_of chip (word_number d (Word.Claim m))) unit ∙ parts.0 in omega (arith, f, one)
 
     -- one that was kept
     pub kept_value : i < e → word_of chip (kept_word (rounds_of d g) i) ≡ n
@@ -128,14 +125,6 @@ module _ (d : AdcTable) (fits : FitsAdc d) (below : Reservations) (chip : Chip) 
         let place : length r.request.kept + (i - e) ≡ i = omega (arith, count, le) in
         round.values (i - e) x.0 x.1 (omega (arith, lt, le, count, many, ended))
         ∙ one (sample_at w.samples x.0 (ends_at r (i - e))) (subst (λ m. slice_get (values_of w (group_of d g) r) m ≡ Some (sample_at w.samples x.0 (ends_at r (i - e)))) place (values.levels (i - e) x.0 x.1))
-
--- the put that is open, where it has this bank and so many values
-abbrev put_parts : Putting → ℕ × ℕ
-put_parts p = (p.bank, length p.filled)
-
-open_put : (q : Option Putting) (m n : ℕ) → option_map put_parts q ≡ Some (m, n) → (p : Putting) × (q ≡ Some p) × (p.bank ≡ m) × (length p.filled ≡ n)
-open_put None m n e = absurd (cc)
-open_put (Some p) m n e = let same : put_parts p ≡ (m, n) = cc in (p, refl, ap (λ z. z.0) same, ap (λ z. z.1) same)
 
 -- the pin of a control word
 pinned_part : (n p : ℕ) → n < 3 → (n + 4 * p) / 4 ≡ p
@@ -260,10 +249,6 @@ module _ (d : AdcTable) (fits : FitsAdc d) (below : Reservations) (chip : Chip) 
       (ap (λ z. or_else (if z then Some (bank_number b, i) else None) (first_held (put_of d k) below)) (eq_other k g ne) ∙ sym (ap (λ z. or_else (if z then Some (bank_number b, i + 1) else None) (first_held (put_of d k) below)) (eq_other k g ne)))
       refl
 
-  banks_by : (k : ℕ) → is_some (group_of d k) ≡ true → (k ≡ g) ⊎ (k ≢ g) → BanksAgree d after (word_of now) s k
-  banks_by k here (inl f) = subst (λ n. BanksAgree d after (word_of now) s n) (sym f) agreed
-  banks_by k here (inr ne) = others k here ne
-
   -- ---- all of it
 
   was : FillsRight d chip w s u g e b i (Some x)
@@ -281,7 +266,9 @@ module _ (d : AdcTable) (fits : FitsAdc d) (below : Reservations) (chip : Chip) 
       (h.right.0.0, h.right.0.1, h.right.0.2, record { same = was.same; filled = λ r j n is less at. filled_by r j n is less at (same_or_other j i); next = λ r n is at. tt }),
       (h.right.1.0, all_stay d fits (filler u g e b i (Some x) below) chip now w s h h.right.0.1 core below (below_stay below h.right.1.1 (alone_claims d fits below chip w s u g e b i (Some x) h few)) h.right.1.1),
     );
-    banks = λ k here. banks_by k here (same_or_other k g);
+    banks = λ k here. cases (same_or_other k g)
+        (λ f. subst (λ n. BanksAgree d after (word_of now) s n) (sym f) agreed)
+        (λ ne. others k here ne);
     places = λ k n p less free. trio_result d fits chip x whole g word there own k n p ∙ h.places k n p less free;
     backed = (h.backed.0, h.backed.1);
     claimed = λ k here ne same. ne (trio_claim d fits chip x whole g word there own (unit_of (group_of d k)) (unit_small d fits k here) ∙ same);
@@ -289,3 +276,58 @@ module _ (d : AdcTable) (fits : FitsAdc d) (below : Reservations) (chip : Chip) 
     promised = λ v. (let q = (h.settled h.right.0.1).promised v in record { starts = q.starts; yields = q.yields });
     kept = λ k here off j v is. kept_stays k here j (kept_within d w s h.sound k j v is);
   })
+
+-- ---- Each step of a handler that copies a finished round to its bank, with the mask open.
+
+module _ (d : AdcTable) (fits : FitsAdc d) (f r : AdcBody → ℕ) (below : Reservations) (chip : Chip) (w : World) (s : AdcState) (m : ℕ → Bool) (y : ℕ) (t : Taken) (e i : ℕ) where
+  abbrev copying_at : ℕ → Option ℕ → Copying
+  copying_at n v = record { what = copied.Round (rounds_of d t.group) t.unit e t.bank; done = n; value = v }
+
+  abbrev body : Option ℕ → AdcBody
+  body v = record { table = d; place = Out (Outside.Copies (copying_at i v) (Serves t)) }
+
+  abbrev StepRight : Option ℕ → Type 0
+  StepRight v = RightOr (AdcGround d) (adc_bodies d f r) below chip w s (body v) (Entered (24 + t.unit)) y fresh_history m (ended_at (adc_bodies d f r) body_ends (body v) (value_of chip (body_work (body v))))
+
+  module _ (few : t.unit < 2) (alone : IsAlone (24 + t.unit) below) (kept : e < length (inputs_of (group_of d t.group))) (less : i < length (inputs_of (group_of d t.group))) where
+    -- ---- the next value
+
+    abbrev Gets : Move → Type 0
+    Gets made = MakesTo (AdcGround d) (adc_bodies d f r) below chip (chip_after chip made y) w s (Entered (24 + t.unit)) made false (value_of chip made) y fresh_history (missed_after (adc_machine d) w s m) (body (Some (value_of chip made)), goes)
+
+    module _ (h : Agrees d (filler t.unit t.group e t.bank i None below) chip w s) where
+      at : is_on t.unit (group_of d t.group) ≡ true
+      at = filler_at d fits below chip w s t.unit t.group e t.bank i None h few
+
+      stands_got : (x : ℕ) → ((q : Round) (n : ℕ) → round_at s t.unit ≡ Some q → slice_get (values_of w (group_of d t.group) q) i ≡ Some n → IsNext (Some x) n) → AssertedAt (AdcGround d) (adc_bodies d f r) below chip w s (body (Some x)) (Entered (24 + t.unit)) fresh_history
+      stands_got x next = (fills_value d below chip w s t.unit t.group e t.bank i None (Some x) next h, (refl, ((refl, refl, refl, kept), less, (Is_this_frame, alone, few, at))))
+
+      gets_by : (q : Bool) → nat_lt i e ≡ q → Gets (if q then Load (kept_word (rounds_of d t.group) i) else Read (ConverterResult t.unit (i - e)))
+      gets_by true z = stands_got (word_of chip (kept_word (rounds_of d t.group) i)) (λ q n is at. kept_value d fits below chip w s t.unit t.group e t.bank i None h few q n is at (lt_is i e z))
+      gets_by false z = stands_got (result_of chip t.unit (i - e)) (λ q n is at. result_value d fits below chip w s t.unit t.group e t.bank i None h few q n is at less (lt_isnt i e z))
+
+      pub gets_right : StepRight None
+      gets_right = gets_by (nat_lt i e) refl
+
+    -- ---- it is stored
+
+    module _ (x : ℕ) (h : Agrees d (filler t.unit t.group e t.bank i (Some x) below) chip w s) where
+      unit_on : is_on t.unit (group_of d t.group) ≡ true
+      unit_on = filler_at d fits below chip w s t.unit t.group e t.bank i (Some x) h few
+
+      filled : Agrees d (filler t.unit t.group e t.bank (i + 1) None below) (chip_after chip (Store (bank_word (rounds_of d t.group) t.bank i) x) 0) w s
+      filled = filled_agrees d fits below chip w s t.unit t.group e t.bank i x h few less
+
+      abbrev next : Bool → AdcBody
+      next q = record { table = d; place = Out (copies_on (Serves t) (if q then Some (copying_at (i + 1) None) else None)) }
+
+      stands_put : (q : Bool) → nat_lt (i + 1) (length (inputs_of (group_of d t.group))) ≡ q → AssertedAt (AdcGround d) (adc_bodies d f r) below (chip_after chip (Store (bank_word (rounds_of d t.group) t.bank i) x) 0) w s (next q) (Entered (24 + t.unit)) fresh_history
+      stands_put true z = (filled, (refl, ((refl, refl, refl, kept), lt_is (i + 1) (length (inputs_of (group_of d t.group))) z, (Is_this_frame, alone, few, unit_on))))
+      stands_put false z = (fills_full d below (chip_after chip (Store (bank_word (rounds_of d t.group) t.bank i) x) 0) w s t.unit t.group e t.bank (subst (λ n. Agrees d (filler t.unit t.group e t.bank n None below) (chip_after chip (Store (bank_word (rounds_of d t.group) t.bank i) x) 0) w s) (let le = lt_isnt (i + 1) (length (inputs_of (group_of d t.group))) z in omega (arith, le, less)) filled), (refl, (Is_this_frame, alone, few, unit_on)))
+
+      pub puts_right : StepRight (Some x)
+      puts_right = stands_put (nat_lt (i + 1) (length (inputs_of (group_of d t.group)))) refl
+
+    pub fills_step : (v : Option ℕ) → Agrees d (filler t.unit t.group e t.bank i v below) chip w s → StepRight v
+    fills_step None h = gets_right h
+    fills_step (Some x) h = puts_right x h

@@ -1,28 +1,22 @@
 -- Adc_ReadGroup of a group that has a round: it looks which bank is the newest, acts, and pins that.
--- From adc_groups: words.StoreOneWord, adc_groups: services.BodySteps, adc_groups: services.StatusCalls and 10 more.
--- Used by adc_driver: services.ChooseBankSteps, adc_driver: services.MakeRight.
+-- From adc_groups: words.StoreOneWord, adc_groups: services.SingleWordCalls, adc_groups: services.BodySteps and 7 more.
+-- Used by adc_driver: services.AllSteps.
 use Rattle.std.proofs.Common.{◌≡◌, ◌≢◌, ◌+◌, ◌*◌, ◌%◌, ◌<◌, ◌||◌, [], ◌∷◌, ◌∙◌, ◌⊎◌}
 use Rattle.adc_serving.specs.Terms
 use Terms.{acts_by, adc_bodies, adc_machine, AdcBody, AdcGround, AdcState, AdcTable, Agrees, answers, ap, arith}
 use Terms.{asks_no, bank_of, Banks, body_ends, body_work, Bool, Call, Called, cases, Chip, chip_after, circumstances}
-use Terms.{CommitsTo, Completed, ended_at, ends_with_stream, EOk, error_by, false, first_error, FitsAdc, foot_of}
-use Terms.{FrameHistory, fresh_history, group_at, group_errors, group_of, group_with, group_word, GroupAgrees}
-use Terms.{GroupState, has_turn, Idle, inl, inr, is_idle, Is_this_frame, IsCalling, IsOnlyReader, IsPinning}
+use Terms.{CommitsTo, Completed, Continuation, ended_at, ends_with_stream, EOk, error_by, Event, false, first_error}
+use Terms.{FitsAdc, foot_of, FrameHistory, fresh_history, group_at, group_errors, group_of, group_with, group_word}
+use Terms.{GroupAgrees, has_turn, Idle, inl, inr, is_idle, Is_this_frame, IsCalling, IsOnlyReader, IsPinning}
 use Terms.{IsSoundGroup, length, List, Makes, making_owed, MayCall, MayPin, named_with, newest, None, not_reset}
-use Terms.{one_owed, Origin, others_here, outcome, own-control, own_named, own_of, PendingWrites, Phase, phase_number}
-use Terms.{phase_of, Pins, Place, read_from, read_phase, read_sound, ReadGroup, reads, refl, Reservations, RightOr}
-use Terms.{rounds_of, same, Some, some_samples, SoundGroup, Stands, stands-agree, Status, status_read, step, steps_so}
-use Terms.{Store, stored_here, stored_other, StreamCompleted, subst, sym, touched, Touches, trio_apart, trio_of}
-use Terms.{trio_words, TripleBuffer, true, turn_same, value_of, within, word_of, World, WriteBatch, ℕ}
-use Rattle.adc_groups.specs.Places.{pinning}
+use Terms.{one_owed, Origin, others_here, outcome, Outside, own-control, own_named, own_of, PendingWrites, Phase}
+use Terms.{phase_number, phase_of, Pins, Place, read_from, read_phase, read_sound, ReadGroup, reads, refl}
+use Terms.{Reservations, RightOr, rounds_of, same, Service, Some, some_samples, SoundGroup, Stands, stands-agree}
+use Terms.{Status, status_read, step, steps_so, Store, stored_here, stored_other, StreamCompleted, StructureOp, subst}
+use Terms.{sym, Take, touched, Touches, trio_apart, trio_of, trio_words, TripleBuffer, true, turn_same, value_of}
+use Terms.{within, word_of, World, WriteBatch, ℕ}
 use Rattle.adc_serving.specs.laws.words.ControlWord.{newest_listed, pin_agrees, reader}
-use Rattle.mcal_base.specs.declared.moves.Event.TheVariants as events
-use Rattle.mcal_base.specs.declared.service.Service.TheVariants as services
-use Rattle.word_shapes.specs.declared.take.Take.TheVariants as takes
-use Rattle.adc_machine.specs.declared.call.Call.TheVariants as calls
-use Rattle.adc_groups.specs.declared.making.StructureOp.TheVariants as shapes
-use Rattle.adc_groups.specs.declared.making.Continuation.TheVariants as thens
-use Rattle.adc_groups.specs.declared.outside.Outside.TheVariants as outsides
+use Rattle.adc_groups.specs.Places.{pinning}
 
 module _ (d : AdcTable) (fits : FitsAdc d) (f r : AdcBody → ℕ) (below : Reservations) (chip : Chip) (w : World) (s : AdcState) (h : Agrees d below chip w s) (m : ℕ → Bool) (y : ℕ) (g : ℕ) (x : Phase) (may : MayCall d s g ReadGroup) (alone : IsOnlyReader g below) (pins : IsPinning d s g x) where
   abbrev trio : TripleBuffer
@@ -32,15 +26,12 @@ module _ (d : AdcTable) (fits : FitsAdc d) (f r : AdcBody → ℕ) (below : Rese
   v = word_of chip (trio_of (rounds_of d g)).control
 
   abbrev line : Origin Call
-  line = Called (calls.Group g ReadGroup)
+  line = Called (Call.Group g ReadGroup)
 
   abbrev ends : Bool
   ends = ends_with_stream (group_of d g)
 
   -- ---- the machine's step
-
-  read_group : GroupState
-  read_group = record (group_at s g) { status = status_read (ends_with_stream (group_of d g)) (group_at s g).status }
 
   abbrev t : AdcState
   t = read_from d s g
@@ -64,11 +55,11 @@ module _ (d : AdcTable) (fits : FitsAdc d) (f r : AdcBody → ℕ) (below : Rese
       (λ e. (h.sound.groups g).rounds (pins.is ∙ e))
       (λ e. let le = (h.sound.groups g).stream (pins.is ∙ e) in let some = some_samples d fits g may.there in omega (arith, le, some))
 
-  none_error : error_by d (calls.Group g ReadGroup) (circumstances d s (calls.Group g ReadGroup)) ≡ None
-  none_error = group_errors d s g ReadGroup may ∙ ap (λ z. first_error services.AdcReadGroup (false ∷ false ∷ z ∷ false ∷ false ∷ false ∷ [])) (by_status (λ z. is_idle z ≡ false) refl refl)
+  none_error : error_by d (Call.Group g ReadGroup) (circumstances d s (Call.Group g ReadGroup)) ≡ None
+  none_error = group_errors d s g ReadGroup may ∙ ap (λ z. first_error Service.AdcReadGroup (false ∷ false ∷ z ∷ false ∷ false ∷ false ∷ [])) (by_status (λ z. is_idle z ≡ false) refl refl)
 
-  does : Some (acts_by d s (calls.Group g ReadGroup) (error_by d (calls.Group g ReadGroup) (circumstances d s (calls.Group g ReadGroup)))) ≡ Some (outcome t (answers (named_with EOk whole)))
-  does = ap (λ z. Some (acts_by d s (calls.Group g ReadGroup) z)) none_error ∙ ap (λ z. Some z) (by_status (λ z. reads d s g z ≡ outcome t (answers (named_with EOk whole))) refl refl)
+  does : Some (acts_by d s (Call.Group g ReadGroup) (error_by d (Call.Group g ReadGroup) (circumstances d s (Call.Group g ReadGroup)))) ≡ Some (outcome t (answers (named_with EOk whole)))
+  does = ap (λ z. Some (acts_by d s (Call.Group g ReadGroup) z)) none_error ∙ ap (λ z. Some z) (by_status (λ z. reads d s g z ≡ outcome t (answers (named_with EOk whole))) refl refl)
 
   -- ---- the words after the phase is stored
 
@@ -108,7 +99,7 @@ module _ (d : AdcTable) (fits : FitsAdc d) (f r : AdcBody → ℕ) (below : Rese
   -- ---- the step
 
   abbrev later : PendingWrites
-  later = record { table = d; order = None; banks = Some (shapes.Take (takes.Hold (trio_of (rounds_of d g)).control (v % 4 + 4 * (v % 4 + 1)) (v % 4))); deeds = []; after = thens.Goes (outsides.Reads g (bank_of (v % 4))) }
+  later = record { table = d; order = None; banks = Some (StructureOp.Take (Take.Hold (trio_of (rounds_of d g)).control (v % 4 + 4 * (v % 4 + 1)) (v % 4))); deeds = []; after = Continuation.Goes (Outside.Reads g (bank_of (v % 4))) }
 
   abbrev held : Reservations
   held = reader g (bank_of (v % 4)) [] whole ∷ below
@@ -122,9 +113,9 @@ module _ (d : AdcTable) (fits : FitsAdc d) (f r : AdcBody → ℕ) (below : Rese
   abbrev body : AdcBody
   body = record { table = d; place = Makes (pinning d g x v) }
 
-  pub pin_right : RightOr (AdcGround d) (adc_bodies d f r) below chip w s (record { table = d; place = Makes (pinning d g x (word_of chip (trio_of (rounds_of d g)).control)) }) (Called (calls.Group g ReadGroup)) y fresh_history m (ended_at (adc_bodies d f r) body_ends (record { table = d; place = Makes (pinning d g x (word_of chip (trio_of (rounds_of d g)).control)) }) (value_of chip (body_work (record { table = d; place = Makes (pinning d g x (word_of chip (trio_of (rounds_of d g)).control)) }))))
+  pub pin_right : RightOr (AdcGround d) (adc_bodies d f r) below chip w s (record { table = d; place = Makes (pinning d g x (word_of chip (trio_of (rounds_of d g)).control)) }) (Called (Call.Group g ReadGroup)) y fresh_history m (ended_at (adc_bodies d f r) body_ends (record { table = d; place = Makes (pinning d g x (word_of chip (trio_of (rounds_of d g)).control)) }) (value_of chip (body_work (record { table = d; place = Makes (pinning d g x (word_of chip (trio_of (rounds_of d g)).control)) }))))
   pin_right =
-      steps_so d f r below chip w s m y line fresh_history body (record { table = d; place = Makes (record (pinning d g x v) { made = 1 }) }) (step (Some events.Act)) refl refl (record {
+      steps_so d f r below chip w s m y line fresh_history body (record { table = d; place = Makes (record (pinning d g x v) { made = 1 }) }) (step (Some Event.Act)) refl refl (record {
         may = refl;
         stands = tt;
         state = t;
@@ -133,12 +124,12 @@ module _ (d : AdcTable) (fits : FitsAdc d) (f r : AdcBody → ℕ) (below : Rese
         is = does;
         sends = tt;
         acts = tt;
-        reset = sym (asks_no (adc_machine d) (calls.Group g ReadGroup) (Some events.Act) (Some (outcome t (answers (named_with EOk whole)))) (not_reset (calls.Group g ReadGroup)));
+        reset = sym (asks_no (adc_machine d) (Call.Group g ReadGroup) (Some Event.Act) (Some (outcome t (answers (named_with EOk whole)))) (not_reset (Call.Group g ReadGroup)));
         next = (settles, (refl, (alone, (whole, Is_this_frame))));
       })
 
   -- it looks which bank is the newest
-  pub pins_step : RightOr (AdcGround d) (adc_bodies d f r) below chip w s (record { table = d; place = Pins g x }) (Called (calls.Group g ReadGroup)) y fresh_history m (ended_at (adc_bodies d f r) body_ends (record { table = d; place = Pins g x }) (value_of chip (body_work (record { table = d; place = Pins g x }))))
+  pub pins_step : RightOr (AdcGround d) (adc_bodies d f r) below chip w s (record { table = d; place = Pins g x }) (Called (Call.Group g ReadGroup)) y fresh_history m (ended_at (adc_bodies d f r) body_ends (record { table = d; place = Pins g x }) (value_of chip (body_work (record { table = d; place = Pins g x }))))
   pins_step =
       steps_so d f r below chip w s m y line fresh_history (record { table = d; place = Pins g x }) body (record { event = None; done = None }) refl refl
       (h, (refl, (g, x, (Is_this_frame, may), alone, pins, refl)))
@@ -152,4 +143,4 @@ module _ (d : AdcTable) (fits : FitsAdc d) (f r : AdcBody → ℕ) (below : Rese
   pins_from g x _ _ (Is_this_frame, may) alone pins = pins_step d fits f r below chip w s h m y g x may alone pins
 
   pub pin_makes : (k : WriteBatch) (o : Origin Call) (p : FrameHistory) → MayPin d below (foot_of chip) s o p k → StepRight (Makes k) o p
-  pin_makes k _ _ (g, x, (Is_this_frame, may), alone, pins, e) = subst (λ z. StepRight (Makes z) (Called (calls.Group g ReadGroup)) fresh_history) (sym e) (pin_right d fits f r below chip w s h m y g x may alone pins)
+  pin_makes k _ _ (g, x, (Is_this_frame, may), alone, pins, e) = subst (λ z. StepRight (Makes z) (Called (Call.Group g ReadGroup)) fresh_history) (sym e) (pin_right d fits f r below chip w s h m y g x may alone pins)

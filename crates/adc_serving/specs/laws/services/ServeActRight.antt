@@ -1,47 +1,46 @@
 -- A finished round is served: all agrees after the acknowledgement, the change of the unit's order, the new newest bank and the deeds.
--- From words.PlainFacts, services.ServeWords, words.CommittedWords, bookkeeping.ServedState and 19 more.
--- Used by services.ServeActSteps, services.ServeRight.
-use Rattle.std.proofs.Common.{◌≡◌, ◌≢◌, ◌+◌, ◌*◌, ◌/◌, ◌%◌, ◌<◌, ◌≤◌, ◌&&◌, ◌||◌, ◌==◌, [], ◌∷◌, ◌++◌, ◌∙◌, ◌⊎◌}
+-- From words.PlainFacts, bookkeeping.ServedState, services.ServeWords, adc_groups: bookkeeping.FrameRule and 17 more.
+-- Used by services.ServeRight.
+use Rattle.std.proofs.Common.{◌≡◌, ◌≢◌, ◌+◌, ◌*◌, ◌/◌, ◌%◌, ◌<◌, ◌≤◌, ◌&&◌, ◌||◌, ◌==◌, [], ◌∷◌, ◌∙◌, ◌⊎◌}
 use Rattle.std.proofs.Common.{if◌then◌else◌}
 use Rattle.adc_serving.specs.Terms
 use Terms.{aborts_by, acknowledged_list, acknowledged_over, AdcState, AdcTable, Agrees, all_changed, AllRight}
 use Terms.{AllSpare, ap, Bank, bank_below, bank_number, bank_word, BanksAgree, bit_of, Bool, buffer_by, Call, cases}
-use Terms.{changed, Chip, chip_after, chosen_of, claim_right, claim_stays, claimed_parts, claims_on, clash, Column}
-use Terms.{Converter, ConverterAck, Converters, Copies, CopiesRight, deed_move, DiffersIn, Entered, Entry, eq_is}
-use Terms.{eq_other, eq_self, false, finished_here, first_held, FitsAdc, Fresh, Full, group_at, group_of, group_word}
-use Terms.{GroupAgrees, GroupState, has_bit, has_turn, HasWords, held_in, HeldRight, HoldsOrder, inl, inputs_of, inr}
-use Terms.{is_continuous, is_done, Is_finished, is_finished, is_full, is_on, is_owed, is_round_of, is_some, IsAlone}
-use Terms.{IsBlock, IsOrder, IsOver, IsSoundGroup, IsSoundRequest, kept_by, kept_in, kept_of_round, le_since, left_of}
-use Terms.{length, length-drop, length_push, List, listener, listener_as, mark_at, marks_off, min, mod-lt, newest}
-use Terms.{None, none_past, none_some, not, number_at, number_by, off_block, off_group, off_on, off_time, off_unit}
-use Terms.{on_there, Option, or_else, or_parts, order_of, order_waiting, order_without, own_of, phase_of, place_count}
-use Terms.{place_stays, place_value, Promised, promised_same, put_of, refl, Request, Reservation, Reservations}
-use Terms.{ReservedBy, result_word, ResultBuffer, Round, round_at, round_turn, RoundAgrees, rounds_of, running_of}
-use Terms.{same_or_other, samples_of, slice_get, Some, some_hold, some_same, some_samples, sound_past, SoundGroup}
-use Terms.{start_from, starts_on, STATE, status_after, Stays, subst, sym, trigger_bit, trigger_input, triggers_off}
-use Terms.{TriggersAgree, trio_of, true, turn_round, unit_block, unit_is, unit_of, unit_of_round, unit_other}
-use Terms.{unit_set, UnitAgrees, untouched, values_of, waiting, waits_other, whole_values, with_round_of, within}
-use Terms.{without_mark, word_number, word_of, World, ℕ}
-use Rattle.adc_groups.specs.laws.bookkeeping.FrameRule.{turn_same}
-use Rattle.adc_serving.specs.laws.{services.ClaimRight.{claiming}, words.CommittedWords.{part_of}}
-use Rattle.adc_serving.specs.laws.{words.CommittedWords.{newest_pushed, quarter_left, rest_left, committed}}
-use Rattle.adc_serving.specs.laws.{words.CommittedWords.{stands_committed, newest_committed, value_stored}}
-use Rattle.adc_serving.specs.laws.{words.CommittedWords.{group_unstored, place_unstored}, services.CopyRight.{got}}
+use Terms.{changed, Chip, chip_after, chosen_of, claim_past, claim_right, claim_stays, claimed_parts, claims_on}
+use Terms.{clash, Column, Converter, ConverterAck, Converters, Copies, CopiesRight, deed_move, DiffersIn, Entered}
+use Terms.{Entry, eq_is, eq_other, eq_self, false, finished_here, first_held, FitsAdc, Fresh, Full, group_at}
+use Terms.{group_of, group_word, GroupAgrees, GroupState, has_bit, has_turn, HasWords, held_in, HeldRight, HoldsOrder}
+use Terms.{inl, inputs_of, inr, is_continuous, is_done, Is_finished, is_finished, is_full, is_on, is_owed}
+use Terms.{is_round_of, is_some, IsAlone, IsBlock, IsOrder, IsOver, IsSoundGroup, IsSoundRequest, kept_by, kept_in}
+use Terms.{kept_of_round, le_since, left_of, length, length-drop, length_push, List, listener, listener_as, mark_at}
+use Terms.{marks_off, min, mod-lt, newest, None, none_past, none_some, not, number_at, number_by, off_block}
+use Terms.{off_group, off_on, off_time, off_unit, on_there, Option, or_else, or_parts, order_of, order_waiting}
+use Terms.{order_without, own_of, phase_of, place_count, place_stays, place_value, Promised, promised_same, put_of}
+use Terms.{refl, Request, Reservation, Reservations, ReservedBy, result_word, ResultBuffer, Round, round_at}
+use Terms.{round_turn, RoundAgrees, rounds_of, running_of, same_or_other, samples_of, slice_get, Some, some_hold}
+use Terms.{some_same, some_samples, sound_past, SoundGroup, start_from, starts_on, STATE, status_after, Stays, subst}
+use Terms.{sym, trigger_bit, trigger_input, triggers_off, TriggersAgree, trio_of, true, turn_round, unit_block}
+use Terms.{unit_is, unit_of, unit_of_round, unit_other, unit_set, UnitAgrees, untouched, values_of, waiting}
+use Terms.{waits_other, whether, whole_values, WindowWrite, with_round_of, within, without_mark, Word, word_number}
+use Terms.{word_of, World, ℕ}
+use Rattle.adc_serving.specs.laws.{services.ClaimRight.{claiming}, words.CommittedWords.{part_of, newest_pushed}}
+use Rattle.adc_serving.specs.laws.words.CommittedWords.{quarter_left, rest_left, committed, stands_committed}
+use Rattle.adc_serving.specs.laws.words.CommittedWords.{newest_committed, value_stored, group_unstored}
+use Rattle.adc_serving.specs.laws.{words.CommittedWords.{place_unstored}, services.CopyRight.{got}}
 use Rattle.adc_serving.specs.laws.{services.GiveUpRight.{no_puts, none_right}, services.ServeWords.{turn_set, last}}
-use Rattle.adc_serving.specs.laws.{services.ServeWords.{low_served, control_served, running_served, claim_served}}
-use Rattle.adc_serving.specs.laws.{services.ServeWords.{other_served, order_served, block_served, lines_served}}
+use Rattle.adc_serving.specs.laws.services.ServeWords.{low_served, control_served, running_served, claim_served}
+use Rattle.adc_serving.specs.laws.services.ServeWords.{other_served, order_served, block_served, lines_served}
 use Rattle.adc_serving.specs.laws.{services.ServeWords.{stands_served}, words.PlainFacts.{three_off, some_left}}
-use Rattle.adc_serving.specs.laws.{words.PlainFacts.{whole_count, three_four, below_seven, zero_claims, one_claims}}
-use Rattle.adc_serving.specs.laws.{words.PlainFacts.{past_order, control_past, control_word, in_banks, past_eight}}
+use Rattle.adc_serving.specs.laws.words.PlainFacts.{whole_count, three_four, below_seven, zero_claims, one_claims}
+use Rattle.adc_serving.specs.laws.words.PlainFacts.{past_order, control_past, control_word, in_banks, past_eight}
 use Rattle.adc_serving.specs.laws.{words.PlainFacts.{past_unit, bank_from}, bookkeeping.ServedState.{served}}
-use Rattle.adc_serving.specs.laws.{bookkeeping.ServedState.{served_group, is_group, is_other, is_free, other_round}}
-use Rattle.adc_serving.specs.laws.{bookkeeping.ServedState.{is_rest, marks_full, marks_rest}}
-use Rattle.adc_serving.specs.laws.{bookkeeping.ServedSound.{after_full, after_again, after_rest}}
+use Rattle.adc_serving.specs.laws.bookkeeping.ServedState.{HasServed, served_fields, served_group, is_group, is_other}
+use Rattle.adc_serving.specs.laws.bookkeeping.ServedState.{is_free, other_round, is_rest, marks_full, marks_rest}
+use Rattle.adc_serving.specs.laws.bookkeeping.ServedSound.{after_full, after_again, after_rest}
+use Rattle.adc_groups.specs.laws.bookkeeping.FrameRule.{turn_same}
 use Rattle.chip_converter.specs.Converters as chips
 use Rattle.word_shapes.specs.PriorityQueue as ranked
-use Rattle.adc_groups.specs.declared.making.WindowWrite.TheVariants as deeds
-use Rattle.adc_groups.specs.declared.words.Word.TheVariants as words
-use Rattle.mcal_base.specs.facts.Truths.{and_false, and_true}
+use Rattle.mcal_base.specs.facts.Truths.{and_false, and_true, and_second}
 
 module _ (d : AdcTable) (fits : FitsAdc d) (below : Reservations) (chip : Chip) (w : World) (s : AdcState) (u g : ℕ) (b : Bank) (few : u < 2) (alone : IsAlone (24 + u) below) (x : Round) (is : round_at s u ≡ Some x) (h : Agrees d (claiming u (Full u g b) below) chip w s) where
   abbrev before : Reservations
@@ -93,8 +92,8 @@ module _ (d : AdcTable) (fits : FitsAdc d) (below : Reservations) (chip : Chip) 
   was_sound : SoundGroup (group_of d g) true (group_at s g)
   was_sound = subst (λ q. SoundGroup (group_of d g) q (group_at s g)) turn_was (h.sound.groups g)
 
-  claim_parts : (word_of chip (word_number d (words.Claim u)) ≡ 1) × (some_hold (claims_on u) below ≡ false)
-  claim_parts = claimed_parts u (word_of chip (word_number d (words.Claim u))) below (claim_right below u (word_of chip (word_number d (words.Claim u)))) ((h.settled on).claims u few)
+  claim_parts : (word_of chip (word_number d (Word.Claim u)) ≡ 1) × (some_hold (claims_on u) below ≡ false)
+  claim_parts = claimed_parts u (word_of chip (word_number d (Word.Claim u))) below (claim_right below u (word_of chip (word_number d (Word.Claim u)))) ((h.settled on).claims u few)
 
   was : GroupAgrees d (word_of chip) s g
   was = (h.settled on).groups g there
@@ -153,45 +152,16 @@ module _ (d : AdcTable) (fits : FitsAdc d) (below : Reservations) (chip : Chip) 
     turn_now = three_off (is_some (group_at t g).waiting) (is_round_of g (round_at t 0)) (is_round_of g (round_at t 1)) (none_of_group 0) (none_of_group 1) ∙ waits_now
 
     -- what is new of the group
-    rounds_now : (group_at t g).rounds ≡ (group_at s g).rounds ++ values ∷ []
-    rounds_now = ap (λ (z : GroupState). z.rounds) group_now ∙ by f c
-      where
-        by : (f c : Bool) → (served_group d s g u few lt past x.request.number values f c).rounds ≡ (group_at s g).rounds ++ values ∷ []
-        by false true = refl
-        by _ _ = refl
-
-    status_now : (group_at t g).status ≡ status_after (length (group_at s g).rounds % samples_of (group_of d g) + 1 == samples_of (group_of d g)) (group_at s g).status
-    status_now = ap (λ (z : GroupState). z.status) group_now ∙ by f c
-      where
-        by : (f c : Bool) → (served_group d s g u few lt past x.request.number values f c).status ≡ status_after (length (group_at s g).rounds % samples_of (group_of d g) + 1 == samples_of (group_of d g)) (group_at s g).status
-        by false true = refl
-        by _ _ = refl
-
-    chosen_now : (group_at t g).chosen ≡ (group_at s g).chosen
-    chosen_now = ap (λ (z : GroupState). z.chosen) group_now ∙ by f c
-      where
-        by : (f c : Bool) → (served_group d s g u few lt past x.request.number values f c).chosen ≡ (group_at s g).chosen
-        by false true = refl
-        by _ _ = refl
-
-    notified_now : (group_at t g).notification ≡ (group_at s g).notification
-    notified_now = ap (λ (z : GroupState). z.notification) group_now ∙ by f c
-      where
-        by : (f c : Bool) → (served_group d s g u few lt past x.request.number values f c).notification ≡ (group_at s g).notification
-        by false true = refl
-        by _ _ = refl
+    now : HasServed d s g values (group_at t g)
+    now = subst (λ z. HasServed d s g values z) (sym group_now) (served_fields d s g u few lt past x.request.number values f c)
 
     trigger_now : (group_at t g).trigger ≡ (group_at s g).trigger && not f
     trigger_now = ap (λ (z : GroupState). z.trigger) group_now ∙ by f c
       where
-        and_on : (q : Bool) → q ≡ q && true
-        and_on true = refl
-        and_on false = refl
-
         by : (f c : Bool) → (served_group d s g u few lt past x.request.number values f c).trigger ≡ (group_at s g).trigger && not f
-        by true c = elim (group_at s g).trigger as (λ q. false ≡ q && false) [ true ↦ refl | false ↦ refl ]
-        by false true = and_on (group_at s g).trigger
-        by false false = and_on (group_at s g).trigger
+        by true c = sym (and_false (group_at s g).trigger)
+        by false true = sym (and_true (group_at s g).trigger)
+        by false false = sym (and_true (group_at s g).trigger)
 
     sound : is_full (group_of d g) (length (group_at s g).rounds + 1) ≡ f → is_continuous (group_of d g) ≡ c → IsSoundGroup d t g
     sound ef ec = subst (λ z. SoundGroup (group_of d g) (has_turn t g) z) (sym group_now) (subst (λ q. SoundGroup (group_of d g) q (served_group d s g u few lt past x.request.number values f c)) (sym turn_now) (sound_after f c ef ec))
@@ -207,7 +177,7 @@ module _ (d : AdcTable) (fits : FitsAdc d) (below : Reservations) (chip : Chip) 
 
   -- ---- the chip after all moves
 
-  module _ (f c : Bool) (ef : is_full (group_of d g) (length (group_at s g).rounds + 1) ≡ f) (ec : is_continuous (group_of d g) ≡ c) (a : Chip) (differs : DiffersIn (ranked.own_of (order_of u)) (chip_after chip (deed_move d (deeds.Write (ConverterAck u) 1)) 0) a)
+  module _ (f c : Bool) (ef : is_full (group_of d g) (length (group_at s g).rounds + 1) ≡ f) (ec : is_continuous (group_of d g) ≡ c) (a : Chip) (differs : DiffersIn (ranked.own_of (order_of u)) (chip_after chip (deed_move d (WindowWrite.Write (ConverterAck u) 1)) 0) a)
       (holds : HoldsOrder (order_of u) (word_of a) (if c && not f then waiting g true unit_was.order.0 else left_of g unit_was.order.0)) (count place phase : ℕ) (count_is : count ≡ min (length (group_at s g).rounds + 1) (samples_of (group_of d g))) (place_is : place ≡ (length (group_at s g).rounds + 1) % samples_of (group_of d g))
       (phase_is : phase ≡ phase_of (status_after (length (group_at s g).rounds % samples_of (group_of d g) + 1 == samples_of (group_of d g)) (group_at s g).status) (c && not f || (group_at s g).trigger && not f)) (second : Bool) (chosen : (group_at s g).chosen ≡ Some (buffer_by second)) where
     abbrev v : ℕ
@@ -231,10 +201,10 @@ module _ (d : AdcTable) (fits : FitsAdc d) (below : Reservations) (chip : Chip) 
     low : (j : ℕ) → j ≢ 7 → word_of z (group_word d g j) ≡ turn_set (c && not f) j (if 0 == j then phase else (if 5 == j then place else (if 4 == j then count else word_of chip (group_word d g j))))
     low = low_served d fits g u there few chip whole a differs value count place phase (c && not f) (f && is_some (trigger_input (group_of d g)))
 
-    claim_now : word_of z (word_number d (words.Claim u)) ≡ 0
+    claim_now : word_of z (word_number d (Word.Claim u)) ≡ 0
     claim_now = claim_served d fits g u there few chip whole a differs value count place phase (c && not f) (f && is_some (trigger_input (group_of d g)))
 
-    running_now : word_of z (word_number d (words.Running u)) ≡ 0
+    running_now : word_of z (word_number d (Word.Running u)) ≡ 0
     running_now = running_served d fits g u there few chip whole a differs value count place phase (c && not f) (f && is_some (trigger_input (group_of d g)))
 
     control_now : word_of z (group_word d g 7) ≡ value
@@ -324,14 +294,6 @@ module _ (d : AdcTable) (fits : FitsAdc d) (below : Reservations) (chip : Chip) 
             others = h.triggers.others;
           })
 
-    triggers : (q : Bool) → f ≡ q → TriggersAgree d z.converters t1
-    triggers true e = full_triggers e
-    triggers false e = rest_triggers e
-
-    marks_now : (q : Bool) → f ≡ q → (i : ℕ) → mark_at t1 i ≡ true → is_some (listener d t1 i) ≡ true
-    marks_now true e i m = full_marks e i m
-    marks_now false e i m = ap (λ q. is_some q) (listens_as e i) ∙ h.sound.marks i (sym (marks_same e i) ∙ m)
-
     -- ---- what stays
 
     -- the new results are those of a stored round
@@ -352,9 +314,9 @@ module _ (d : AdcTable) (fits : FitsAdc d) (below : Reservations) (chip : Chip) 
       to = λ y i ne. absurd (ne (ap (λ (r : Round). r.group) (sym (some_same (sym is ∙ i))) ∙ group_is));
       results = results_other;
       elsewhere = elsewhere;
-      claim_from = λ k ne i. absurd (zero_claims (word_of z (word_number d (words.Claim u))) k claim_now i);
-      claim_to = λ k ne i. absurd (one_claims (word_of chip (word_number d (words.Claim u))) k claim_parts.0 i);
-      unit = λ k ne i. absurd (zero_claims (word_of z (word_number d (words.Claim u))) k claim_now i);
+      claim_from = λ k ne i. absurd (zero_claims (word_of z (word_number d (Word.Claim u))) k claim_now i);
+      claim_to = λ k ne i. absurd (one_claims (word_of chip (word_number d (Word.Claim u))) k claim_parts.0 i);
+      unit = λ k ne i. absurd (zero_claims (word_of z (word_number d (Word.Claim u))) k claim_now i);
       units = λ k less ne. unit_z k ∙ other_units k ne;
       levels = ap (λ (e : Converters). e.levels) block ∙ off_levels (f && is_some (trigger_input (group_of d g))) (trigger_bit d g) acked;
       time = time_z;
@@ -420,7 +382,7 @@ module _ (d : AdcTable) (fits : FitsAdc d) (below : Reservations) (chip : Chip) 
         let k = h.banks g there in record {
           banks = committed d fits g there (word_of chip) (word_of z) b values whole_round filled_is k.banks k.stands put_is control_is trio_other;
           stands = stands_committed d fits g there (word_of chip) (word_of z) b values whole_round filled_is k.banks k.stands put_is control_is trio_other;
-          newest = λ ne more. newest_committed d fits g there (word_of chip) (word_of z) b values whole_round filled_is k.banks k.stands put_is control_is trio_other ∙ sym (ap (λ r. newest r) (rounds_now f c) ∙ newest_pushed (group_at s g).rounds values);
+          newest = λ ne more. newest_committed d fits g there (word_of chip) (word_of z) b values whole_round filled_is k.banks k.stands put_is control_is trio_other ∙ sym (ap (λ r. newest r) (now f c).rounds ∙ newest_pushed (group_at s g).rounds values);
           put = sym (no_puts d fits chip w s u g at below h.right.1.1 claim_parts.1);
           take = k.take;
         }
@@ -457,34 +419,34 @@ module _ (d : AdcTable) (fits : FitsAdc d) (below : Reservations) (chip : Chip) 
     -- ---- the group's words
 
     count_word : min (length (group_at t1 g).rounds) (samples_of (group_of d g)) ≡ count
-    count_word = ap (λ r. min (length r) (samples_of (group_of d g))) (rounds_now f c) ∙ (ap (λ n. min n (samples_of (group_of d g))) (length_push (group_at s g).rounds values) ∙ sym count_is)
+    count_word = ap (λ r. min (length r) (samples_of (group_of d g))) (now f c).rounds ∙ (ap (λ n. min n (samples_of (group_of d g))) (length_push (group_at s g).rounds values) ∙ sym count_is)
 
     place_word : length (group_at t1 g).rounds % samples_of (group_of d g) ≡ place
-    place_word = ap (λ r. length r % samples_of (group_of d g)) (rounds_now f c) ∙ (ap (λ n. n % samples_of (group_of d g)) (length_push (group_at s g).rounds values) ∙ sym place_is)
+    place_word = ap (λ r. length r % samples_of (group_of d g)) (now f c).rounds ∙ (ap (λ n. n % samples_of (group_of d g)) (length_push (group_at s g).rounds values) ∙ sym place_is)
 
     phase_word : phase_of (group_at t1 g).status (has_turn t1 g || (group_at t1 g).trigger) ≡ phase
     phase_word =
-        ap (λ q. phase_of q (has_turn t1 g || (group_at t1 g).trigger)) (status_now f c)
+        ap (λ q. phase_of q (has_turn t1 g || (group_at t1 g).trigger)) (now f c).status
         ∙ (ap (λ q. phase_of (status_after (length (group_at s g).rounds % samples_of (group_of d g) + 1 == samples_of (group_of d g)) (group_at s g).status) (q || (group_at t1 g).trigger)) (turn_now f c)
         ∙ (ap (λ q. phase_of (status_after (length (group_at s g).rounds % samples_of (group_of d g) + 1 == samples_of (group_of d g)) (group_at s g).status) (c && not f || q)) (trigger_now f c) ∙ sym phase_is))
+
+    asks : (f c : Bool) → c && not f ≡ true → (served_group d s g u few lt past x.request.number values f c).waiting ≡ Some (record { number = x.request.number; kept = [] })
+    asks true true i = off_on i
+    asks false true i = refl
+    asks _ _ i = off_on i
 
     kept_by_turn : (q : Bool) → c && not f ≡ q → (has_turn t1 g ≡ true → word_of z (group_word d g 6) ≡ length (kept_in d t1 g)) × ((i n : ℕ) → has_turn t1 g ≡ true → slice_get (kept_in d t1 g) i ≡ Some n → ⊥)
     kept_by_turn false e = (λ k. clash (turn_now f c ∙ e) k, λ i n k. clash (turn_now f c ∙ e) k)
     kept_by_turn true e = (λ k. low 6 (below_seven 6 refl) ∙ (ap (λ q. turn_set q 6 (word_of chip (group_word d g 6))) e ∙ sym (ap length none)), λ i n k o. none_some (sym (ap (λ vs. slice_get vs i) none) ∙ o))
       where
-        asks : (f c : Bool) → c && not f ≡ true → (served_group d s g u few lt past x.request.number values f c).waiting ≡ Some (record { number = x.request.number; kept = [] })
-        asks true true i = off_on i
-        asks false true i = refl
-        asks _ _ i = off_on i
-
         none : kept_in d t1 g ≡ []
         none = ap (λ q. kept_by q (kept_of_round g (round_at t1 (unit_of (group_of d g))))) (ap (λ (q : GroupState). q.waiting) (group_now f c) ∙ asks f c e)
 
     group : GroupAgrees d (word_of z) t1 g
     group = record {
       phase = low 0 (below_seven 0 refl) ∙ (by_turn (c && not f) 0 phase refl refl ∙ sym phase_word);
-      chosen = low 1 (below_seven 1 refl) ∙ (by_turn (c && not f) 1 (word_of chip (group_word d g 1)) refl refl ∙ (was.chosen ∙ sym (ap (λ o. chosen_of o) (chosen_now f c))));
-      notified = low 2 (below_seven 2 refl) ∙ (by_turn (c && not f) 2 (word_of chip (group_word d g 2)) refl refl ∙ (was.notified ∙ sym (ap (λ q. bit_of q) (notified_now f c))));
+      chosen = low 1 (below_seven 1 refl) ∙ (by_turn (c && not f) 1 (word_of chip (group_word d g 1)) refl refl ∙ (was.chosen ∙ sym (ap (λ o. chosen_of o) (now f c).chosen)));
+      notified = low 2 (below_seven 2 refl) ∙ (by_turn (c && not f) 2 (word_of chip (group_word d g 2)) refl refl ∙ (was.notified ∙ sym (ap (λ q. bit_of q) (now f c).notification)));
       turn = low 3 (below_seven 3 refl) ∙ (turn_word (c && not f) ∙ sym (ap (λ q. bit_of q) (turn_now f c)));
       count = λ ne. low 4 (below_seven 4 refl) ∙ (by_turn (c && not f) 4 count refl refl ∙ sym count_word);
       place = λ ne. low 5 (below_seven 5 refl) ∙ (by_turn (c && not f) 5 place refl refl ∙ sym place_word);
@@ -518,16 +480,11 @@ module _ (d : AdcTable) (fits : FitsAdc d) (below : Reservations) (chip : Chip) 
     order_by : (q : Bool) → c && not f ≡ q → IsOrder d t1 u (if q then waiting g true unit_was.order.0 else left_of g unit_was.order.0)
     order_by true e = order_waiting d s t1 g u at turns waits unit_was.order.0 unit_was.order.2 (λ k turned unit. numbers k turned unit (same_or_other k g)) (turn_now f c ∙ (e ∙ sym turn_was)) true (waits_now f c ∙ e)
       where
-        own : (f c : Bool) → c && not f ≡ true → number_by (served_group d s g u few lt past x.request.number values f c).waiting (round_at t1 (unit_of (group_of d g))) ≡ x.request.number
-        own true true i = off_on i
-        own false true i = refl
-        own _ _ i = off_on i
-
         own_was : number_at d s g ≡ x.request.number
         own_was = ap (λ q. number_by q (round_at s (unit_of (group_of d g)))) waits_none ∙ (ap (λ n. number_by None (round_at s n)) here ∙ ap (λ q. number_by None q) is)
 
         numbers : (k : ℕ) → has_turn s k ≡ true → is_on u (group_of d k) ≡ true → (k ≡ g) ⊎ (k ≢ g) → number_at d t1 k ≡ number_at d s k
-        numbers k turned unit (inl i) = subst (λ n. number_at d t1 n ≡ number_at d s n) (sym i) (ap (λ (q : GroupState). number_by q.waiting (round_at t1 (unit_of (group_of d g)))) (group_now f c) ∙ (own f c e ∙ sym own_was))
+        numbers k turned unit (inl i) = subst (λ n. number_at d t1 n ≡ number_at d s n) (sym i) (ap (λ (q : GroupState). number_by q.waiting (round_at t1 (unit_of (group_of d g)))) (group_now f c) ∙ (ap (λ q. number_by q (round_at t1 (unit_of (group_of d g)))) (asks f c e) ∙ sym own_was))
         numbers k turned unit (inr ne) = numbers_other k ne turned unit
     order_by false e = order_without d s t1 g u at turns waits unit_was.order.0 unit_was.order.2 numbers_other unit_was.order.1.once (turn_now f c ∙ e)
 
@@ -536,11 +493,11 @@ module _ (d : AdcTable) (fits : FitsAdc d) (below : Reservations) (chip : Chip) 
 
     -- ---- claims and promises
 
-    claims : (k : ℕ) → k < 2 → (k ≡ u) ⊎ (k ≢ u) → claim_right after k (word_of z (word_number d (words.Claim k))) ≡ true
-    claims k less (inl i) = subst (λ n. claim_right below n (word_of z (word_number d (words.Claim n))) ≡ true) (sym i) (none_right u (word_of z (word_number d (words.Claim u))) below claim_parts.1 claim_now)
+    claims : (k : ℕ) → k < 2 → (k ≡ u) ⊎ (k ≢ u) → claim_right after k (word_of z (word_number d (Word.Claim k))) ≡ true
+    claims k less (inl i) = subst (λ n. claim_right below n (word_of z (word_number d (Word.Claim n))) ≡ true) (sym i) (none_right u (word_of z (word_number d (Word.Claim u))) below claim_parts.1 claim_now)
     claims k less (inr ne) =
         ap (λ n. claim_right below k n) (claim_stays d fits before after chip z w s t1 h g u at stays k less ne)
-        ∙ (sym (ap (λ q. if q then (word_of chip (word_number d (words.Claim k)) == 1) && not (some_hold (claims_on k) below) else claim_right below k (word_of chip (word_number d (words.Claim k)))) (eq_other k u ne)) ∙ (h.settled on).claims k less)
+        ∙ (sym (claim_past k u _ _ ne) ∙ (h.settled on).claims k less)
 
     promised : (k : ℕ) → (k ≡ u) ⊎ (k ≢ u) → Promised d after w t1 k
     promised k (inl i) = subst (λ n. Promised d after w t1 n) (sym i) (record {
@@ -565,12 +522,7 @@ module _ (d : AdcTable) (fits : FitsAdc d) (below : Reservations) (chip : Chip) 
         request_sound _ _ i same = absurd (none (group_at s g).waiting waits_none i)
 
     hears_now : has_turn t1 g ≡ true → is_some (trigger_input (group_of d g)) ≡ true → (group_at t1 g).trigger ≡ true
-    hears_now turned i = trigger_now f c ∙ (ap (λ q. q && not f) (h.sound.hears g turn_was i) ∙ by f c (sym (turn_now f c) ∙ turned))
-      where
-        by : (f c : Bool) → c && not f ≡ true → not f ≡ true
-        by true true e = off_on e
-        by true false e = off_on e
-        by false c e = refl
+    hears_now turned i = trigger_now f c ∙ (ap (λ q. q && not f) (h.sound.hears g turn_was i) ∙ and_second c (not f) (sym (turn_now f c) ∙ turned))
 
     -- ---- all of it
 
@@ -579,12 +531,14 @@ module _ (d : AdcTable) (fits : FitsAdc d) (below : Reservations) (chip : Chip) 
       sound = sound f c ef ec;
       waits = waits_fresh;
       runs = λ r i same. none_some (sym (free f c) ∙ i);
-      marks = marks_now f refl;
+      marks = λ i m. whether f
+          (λ e. full_marks e i m)
+          (λ e. ap (λ q. is_some q) (listens_as e i) ∙ h.sound.marks i (sym (marks_same e i) ∙ m));
       hears = hears_now;
       outside = stands_served d fits g u there few chip whole a differs value count place phase (c && not f) (f && is_some (trigger_input (group_of d g))) w h.outside;
       block = subst (λ e. IsBlock e w) (sym block) (off_same (f && is_some (trigger_input (group_of d g))) (trigger_bit d g) acked acked_block);
       round = subst (λ q. RoundAgrees d z.converters w (chips.unit_at z.converters u) q) (sym (free f c)) round_over;
-      triggers = triggers f refl;
+      triggers = whether f full_triggers rest_triggers;
       right = right;
       banks = banks;
       places = places;

@@ -4,13 +4,13 @@
 use Rattle.std.proofs.Common.{◌≡◌, ◌≢◌, ◌+◌, ◌-◌, ◌*◌, ◌/◌, ◌%◌, ◌<◌, ◌&&◌, ◌==◌, [], ◌∷◌, ◌++◌, ◌∙◌, ◌⊎◌}
 use Rattle.std.proofs.Common.{if◌then◌else◌}
 use Rattle.adc_serving.specs.Terms
-use Terms.{AdcTable, ap, arith, Bank, bank_number, bank_word, Banks, Bool, buffer_by, Column, commits, committing}
-use Terms.{Copies, eq_is, eq_self, false, FitsAdc, Group, group_of, held_in, inl, inputs_of, inr, is_owed, is_same}
-use Terms.{is_some, IsStored, length, List, listed, mod-mul-add, nat_le, nat_tests, newest, None, One, Option}
-use Terms.{option_map, own_of, PutIn, PutStands, Putting, refl, ResultBuffer, Results, round_stored, rounds_of}
-use Terms.{same_or_other, samples_of, slice_get, slice_index_or, Some, Stands, stands-agree, stored, subst, suc, sym}
-use Terms.{trio_of, TripleBuffer, true, with_round_of, Zero, ℕ}
-use Rattle.adc_serving.specs.laws.words.ControlWord.{trio_fits}
+use Terms.{AdcTable, ap, arith, Bank, bank_number, bank_word, Banks, Bool, buffer_by, commits, committing, Copies}
+use Terms.{eq_is, eq_self, false, FitsAdc, Group, group_of, held_in, inl, inputs_of, inr, is_owed, is_same, is_some}
+use Terms.{IsStored, length, List, listed, mod-mul-add, nat_le, nat_tests, newest, None, One, Option, option_map}
+use Terms.{own_of, PutIn, PutStands, Putting, refl, ResultBuffer, Results, round_stored, rounds_of, same_or_other}
+use Terms.{samples_of, slice_get, slice_index_or, Some, Stands, stands-agree, stored, subst, suc, sym, trio_of}
+use Terms.{TripleBuffer, true, with_round_of, Zero, ℕ}
+use Rattle.adc_serving.specs.laws.words.ControlWord.{open_put, trio_fits}
 
 -- ---- lists
 
@@ -23,7 +23,7 @@ listed_is m (x ∷ xs) k h =
 
 -- the newest round of a list with one more
 pub newest_pushed : (xs : List (List ℕ)) (y : List ℕ) → newest (xs ++ y ∷ []) ≡ y
-newest_pushed xs y = by xs
+newest_pushed xs y = at_end xs
   where
     at_end : (zs : List (List ℕ)) → slice_index_or (zs ++ y ∷ []) (length (zs ++ y ∷ []) - 1) [] ≡ y
     at_end [] = refl
@@ -31,9 +31,6 @@ newest_pushed xs y = by xs
     at_end (z ∷ z1 ∷ zs) =
         let back : length (z ∷ z1 ∷ (zs ++ y ∷ [])) - 1 ≡ suc (length (z1 ∷ (zs ++ y ∷ [])) - 1) = omega arith in
         ap (λ n. slice_index_or (z ∷ z1 ∷ (zs ++ y ∷ [])) n []) back ∙ at_end (z1 ∷ zs)
-
-    by : (zs : List (List ℕ)) → newest (zs ++ y ∷ []) ≡ y
-    by zs = at_end zs
 
 -- ---- the banks
 
@@ -54,11 +51,7 @@ module _ (d : AdcTable) (fits : FitsAdc d) (g : ℕ) (there : is_some (group_of 
   trio = trio_of (rounds_of d g)
 
   pub the_put : (p : Putting) × (q.put ≡ Some p) × (p.bank ≡ bank_number b) × (length p.filled ≡ length (inputs_of (group_of d g)))
-  the_put = by q.put refl put
-    where
-      by : (o : Option Putting) → q.put ≡ o → part_of o ≡ Some (bank_number b, length (inputs_of (group_of d g))) → (p : Putting) × (q.put ≡ Some p) × (p.bank ≡ bank_number b) × (length p.filled ≡ length (inputs_of (group_of d g)))
-      by None e i = absurd (cc)
-      by (Some p) e i = let both : ◌≡◌ {A = ℕ × ℕ} (p.bank, length p.filled) (bank_number b, length (inputs_of (group_of d g))) = cc in (p, e, ap (λ (z : ℕ × ℕ). z.0) both, ap (λ (z : ℕ × ℕ). z.1) both)
+  the_put = open_put q.put (bank_number b) (length (inputs_of (group_of d g))) put
 
   abbrev pub committed : Banks
   committed = committing the_put.0 q
@@ -83,9 +76,6 @@ module _ (d : AdcTable) (fits : FitsAdc d) (g : ℕ) (there : is_some (group_of 
 module _ (k : Option Group) (some : 0 < samples_of k) (n g : ℕ) (second : Bool) (values : List ℕ) (held : Results) where
   abbrev pub results_of : Results
   results_of = with_round_of k n g (Some (buffer_by second)) values held
-
-  abbrev column : Column
-  column = record { group = g; second = second; samples = samples_of k; place = n % samples_of k }
 
   is : IsStored k n g (buffer_by second) values held results_of
   is = round_stored k n g (buffer_by second) values held some

@@ -1,21 +1,19 @@
 -- The control word of a group's banks is stored: the newest bank is pinned, or a pin ends.
--- From adc_groups: words.WordsChange, adc_groups: words.WordsOfModule, service_outline: Words, adc_groups: words.Cases and 2 more.
--- Used by services.PinRight, services.ReadRight, services.CopyRight, services.TakeRoundSteps, words.CommittedWords.
-use Rattle.std.proofs.Common.{◌≡◌, ◌≢◌, ◌+◌, ◌*◌, ◌/◌, ◌%◌, ◌<◌, ◌==◌, [], ◌∷◌, ◌∙◌, ◌⊎◌, if◌then◌else◌}
+-- From adc_groups: words.WordsChange, adc_groups: words.WordsOfModule, service_outline: Words and 5 more.
+-- Used by services.PinRight, services.CopyRight, services.ReadRight, words.CommittedWords, services.ClaimRight.
+use Rattle.std.proofs.Common.{◌≡◌, ◌≢◌, ◌+◌, ◌*◌, ◌/◌, ◌%◌, ◌<◌, ◌==◌, [], ◌∷◌, ◌∙◌, if◌then◌else◌}
 use Rattle.adc_serving.specs.Terms
 use Terms.{AdcState, AdcTable, Agrees, all_stay, AllRight, AllStay, ap, arith, Bank, bank_below, bank_number, bank_of}
 use Terms.{bank_word, Banks, banks_stay, BanksAgree, BankStays, Bool, Call, Called, cases, Chip, chip_after}
 use Terms.{claim_right, control-apart, Copies, core_trio, CoreStays, EOk, eq_other, eq_self, false, Fills, first_held}
-use Terms.{Fits, FitsAdc, Full, group_of, HasWords, HeldRight, HoldStays, inl, inputs_of, inr, is_some, IsBank, Keeps}
+use Terms.{Fits, FitsAdc, Full, group_of, HasWords, HeldRight, HoldStays, inputs_of, is_some, IsBank, Keeps}
 use Terms.{kept_trio, kept_within, KeptStays, length, List, listed, named_with, nat_tests, newest-in, None, on_there}
-use Terms.{Option, option_map, or_else, own-control, own-word, own_of, pinning, pins, put_of, ReadGroup, Reads, refl}
-use Terms.{releases, releasing, Reservation, Reservations, ReservedBy, result_word, ResultBuffer, rounds_of}
-use Terms.{same_or_other, Some, Stands, stands-agree, start_from, stays_agree, Store, stored, stored_other}
+use Terms.{Option, option_map, or_else, own-control, own-word, own_of, pinning, pins, put_of, Putting, ReadGroup}
+use Terms.{Reads, refl, releases, releasing, Reservation, Reservations, ReservedBy, result_word, ResultBuffer}
+use Terms.{rounds_of, same_or_other, Some, Stands, stands-agree, start_from, stays_agree, Store, stored, stored_other}
 use Terms.{stored_same, subst, sym, take_of, Taking, trio_claim, trio_of, trio_other, trio_result, trio_words}
-use Terms.{TripleBuffer, true, unit_of, unit_small, unit_within, Whole, word_at, word_number, word_of, word_there}
-use Terms.{WORDS, words-after, World, ℕ}
-use Rattle.adc_machine.specs.declared.call.Call.TheVariants as calls
-use Rattle.adc_groups.specs.declared.words.Word.TheVariants as words
+use Terms.{TripleBuffer, true, unit_of, unit_small, unit_within, Whole, Word, word_at, word_number, word_of}
+use Terms.{word_there, words-after, World, ℕ}
 
 -- the first that is held gives nothing where none does
 pub none_first : {T : Type 0} (x y : Option T) → or_else x y ≡ None → (x ≡ None) × (y ≡ None)
@@ -30,14 +28,19 @@ number_of_bank n lt = by (n == 0) refl (n == 1) refl
     by false e true f = let is : 1 ≡ n = grind (arith, nat_tests) in subst (λ k. bank_number (bank_of k) ≡ k) is refl
     by false e false f = let is : 2 ≡ n = grind (arith, nat_tests) in subst (λ k. bank_number (bank_of k) ≡ k) is refl
 
+-- the put that is open, where it has this bank and so many values
+abbrev pub put_parts : Putting → ℕ × ℕ
+put_parts p = (p.bank, length p.filled)
+
+pub open_put : (q : Option Putting) (m n : ℕ) → option_map put_parts q ≡ Some (m, n) → (p : Putting) × (q ≡ Some p) × (p.bank ≡ m) × (length p.filled ≡ n)
+open_put None m n e = absurd (cc)
+open_put (Some p) m n e = let same : put_parts p ≡ (m, n) = cc in (p, refl, ap (λ z. z.0) same, ap (λ z. z.1) same)
+
 -- the list of the newest bank, by the words
 pub newest_listed : (t : TripleBuffer) (m : ℕ → ℕ) (b : Banks) → Stands t m b → b.newest ≡ listed m (word_at t (m t.control % 4) 0) t.len
 newest_listed t m b h = sym h.newest.1 ∙ (ap (λ n. listed m (word_at t b.bank 0) n) h.newest.0 ∙ ap (λ z. listed m (word_at t z 0) t.len) (sym (newest-in t m b h)))
 
 module _ (d : AdcTable) (fits : FitsAdc d) (g : ℕ) (there : is_some (group_of d g) ≡ true) where
-  abbrev trio : TripleBuffer
-  trio = trio_of (rounds_of d g)
-
   pub trio_fits : Fits (trio_of (rounds_of d g))
   trio_fits =
       let high = (start_from d fits g there).1 in record {
@@ -52,25 +55,20 @@ module _ (d : AdcTable) (fits : FitsAdc d) (g : ℕ) (there : is_some (group_of 
     abbrev now : Chip
     now = chip_after c (Store (trio_of (rounds_of d g)).control value) 0
 
-    control_there : (trio_of (rounds_of d g)).control < WORDS
-    control_there = trio_fits.control
-
     pub control_now : word_of (chip_after c (Store (trio_of (rounds_of d g)).control value) 0) (trio_of (rounds_of d g)).control ≡ value
-    control_now = stored_same c (trio_of (rounds_of d g)).control value 0 control_there whole
+    control_now = stored_same c (trio_of (rounds_of d g)).control value 0 trio_fits.control whole
 
     -- words of other groups' banks stay
     pub other_trio : (k j : ℕ) → is_some (group_of d k) ≡ true → k ≢ g → own_of (trio_of (rounds_of d k)) j ≡ true → word_of now j ≡ word_of c j
     other_trio k j here ne own = trio_other d fits c value whole g (trio_of (rounds_of d g)).control there (own-control (trio_of (rounds_of d g))) k j here ne own
 
     pub bank_stays : (k : ℕ) (n : Bank) → is_some (group_of d k) ≡ true → BankStays d c now k n
-    bank_stays k n here j less = by (same_or_other k g)
-      where
-        by : (k ≡ g) ⊎ (k ≢ g) → word_of now (bank_word (rounds_of d k) n j) ≡ word_of c (bank_word (rounds_of d k) n j)
-        by (inl same) = subst (λ z. word_of now (bank_word (rounds_of d z) n j) ≡ word_of c (bank_word (rounds_of d z) n j)) (sym same)
-            (stored_other c (trio_of (rounds_of d g)).control value 0 (bank_word (rounds_of d g) n j) (λ e. control-apart (trio_of (rounds_of d g)) (bank_number n) j trio_fits (bank_below d fits n) (subst (λ z. j < length (inputs_of (group_of d z))) same less) (sym e)))
-        by (inr ne) = other_trio k (bank_word (rounds_of d k) n j) here ne (own-word (trio_of (rounds_of d k)) (bank_number n) j (bank_below d fits n) less)
+    bank_stays k n here j less = cases (same_or_other k g)
+        (λ same. subst (λ z. word_of now (bank_word (rounds_of d z) n j) ≡ word_of c (bank_word (rounds_of d z) n j)) (sym same)
+        (stored_other c (trio_of (rounds_of d g)).control value 0 (bank_word (rounds_of d g) n j) (λ e. control-apart (trio_of (rounds_of d g)) (bank_number n) j trio_fits (bank_below d fits n) (subst (λ z. j < length (inputs_of (group_of d z))) same less) (sym e))))
+        (λ ne. other_trio k (bank_word (rounds_of d k) n j) here ne (own-word (trio_of (rounds_of d k)) (bank_number n) j (bank_below d fits n) less))
 
-    claim_stays : (u : ℕ) → u < 2 → word_of now (word_number d (words.Claim u)) ≡ word_of c (word_number d (words.Claim u))
+    claim_stays : (u : ℕ) → u < 2 → word_of now (word_number d (Word.Claim u)) ≡ word_of c (word_number d (Word.Claim u))
     claim_stays u few = trio_claim d fits c value whole g (trio_of (rounds_of d g)).control there (own-control (trio_of (rounds_of d g))) u few
 
     kept_stays : (k : ℕ) → is_some (group_of d k) ≡ true → KeptStays d c now k
@@ -117,7 +115,7 @@ none_mapped f (Some x) e = absurd (cc)
 
 -- a frame that reads this bank of a group, of which it has read these, and which has answered all
 abbrev pub reader : (group : ℕ) → Bank → (values whole : List ℕ) → ReservedBy Call Reservation
-reader g b vs whole = record { by = Called (calls.Group g ReadGroup); what = Reads g b vs; acted = Some (named_with EOk whole) }
+reader g b vs whole = record { by = Called (Call.Group g ReadGroup); what = Reads g b vs; acted = Some (named_with EOk whole) }
 
 taken_other : (g k : ℕ) (b : Bank) (vs whole : List ℕ) (below : Reservations) → k ≢ g → first_held (take_of k) (reader g b vs whole ∷ below) ≡ first_held (take_of k) below
 taken_other g k b vs whole below ne = ap (λ q. or_else (if q then Some (bank_number b) else None) (first_held (take_of k) below)) (eq_other k g ne)

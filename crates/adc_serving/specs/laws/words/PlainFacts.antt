@@ -2,8 +2,8 @@
 -- Used by services.ServeActRight.
 use Rattle.std.proofs.Common.{◌≡◌, ◌≢◌, ◌+◌, ◌-◌, ◌*◌, ◌<◌, ◌≤◌, ◌&&◌, ◌||◌, ◌==◌}
 use Rattle.adc_serving.specs.Terms
-use Terms.{AdcTable, arith, Bank, bank_word, Bool, false, group_word, nat_le, nat_lt, nat_tests, refl, rounds_of, STATE}
-use Terms.{trio_of, true, ℕ}
+use Terms.{AdcTable, arith, Bank, bank_word, Bool, false, group_word, nat_le, nat_lt, nat_tests, refl, rounds_of}
+use Terms.{STATE, trio_of, true, ℕ}
 
 pub three_off : (a b c : Bool) → b ≡ false → c ≡ false → a || b || c ≡ a
 three_off false true c e f = absurd (cc)

@@ -1,16 +1,15 @@
 -- The moves of a window whose event comes after some of them, one after the other.
 -- From adc_groups: services.WriteBatchSteps, adc_groups: services.Decisions, adc_groups: services.BodySteps.
--- Used by services.StartRight, adc_driver: bookkeeping.MayMove, services.StartLastStep and 2 more.
+-- Used by services.StartRight, adc_driver: bookkeeping.MayMove, adc_driver: bookkeeping.NoneWaitsPlaces and 1 more.
 use Rattle.std.proofs.Common.{◌≡◌, ◌+◌, ◌<◌, ◌&&◌, ◌||◌, ◌==◌, [], ◌∷◌, ◌++◌, ◌∙◌, if◌then◌else◌}
 use Rattle.adc_turns.specs.Terms
 use Terms.{AdcBody, AdcTable, after_making, ap, arith, body_takes, Bool, claim_ended, Continuation, ConverterGo}
 use Terms.{deed_move, deed_or_open, ends_claim, eq_other, eq_self, Event, false, is_some, length, length-append}
 use Terms.{length-map, length-range_with_len, List, list_any, list_deed, lists_for, Makes, making_by, making_event}
 use Terms.{making_left, making_move, making_over, making_takes, map, moves_ahead, nat_lt, nat_tests, None, one_made}
-use Terms.{Option, range_with_len, refl, Set, shape_after, shape_move, slice_get, Some, start_deeds, step, StructureOp}
-use Terms.{suc, true, WindowWrite, WriteBatch, zero, ℕ}
+use Terms.{Option, range_with_len, refl, Set, shape_after, shape_move, slice_get, Some, start_deeds, step}
+use Terms.{StructureOp, suc, true, WindowWrite, Word, WriteBatch, zero, ℕ}
 use Rattle.adc_groups.specs.declared.making.WindowWrite.TheVariants.{Write}
-use Rattle.adc_groups.specs.declared.words.Word.TheVariants as words
 
 module _ (d : AdcTable) (e : Event) (ds : List WindowWrite) (ahead : ℕ) (t : Continuation) (some : 0 < ahead) where
   abbrev pub mk : Option StructureOp → ℕ → WriteBatch
@@ -74,6 +73,15 @@ module _ (d : AdcTable) (e : Event) (ds : List WindowWrite) (ahead : ℕ) (t : C
 
 -- ---- the moves of a start
 
+-- the list registers come ahead of a start, and more
+pub lists_ahead : (left : ℕ) (c : Bool) → lists_for left < moves_ahead left c
+lists_ahead left true = omega arith
+lists_ahead left false = omega arith
+
+pub some_ahead : (left : ℕ) (c : Bool) → 0 < moves_ahead left c
+some_ahead left true = omega arith
+some_ahead left false = omega arith
+
 get_front : (xs ys : List WindowWrite) (i : ℕ) → i < length xs → slice_get (xs ++ ys) i ≡ slice_get xs i
 get_front [] ys i lt = absurd (omega (arith, lt))
 get_front (x ∷ xs) ys zero lt = refl
@@ -110,26 +118,26 @@ module _ (d : AdcTable) (u g e left : ℕ) where
 
   -- a claim ends among them exactly where the frame has one
   pub claim_among : (c : Bool) → list_any ends_claim (start_deeds d u g e left c) ≡ c
-  claim_among c = any_behind registers (Set (words.Running u) (1 + g) ∷ (claim_ended c u ++ Write (ConverterGo u) left ∷ [])) ∙ (ap (λ q. q || list_any ends_claim (Set (words.Running u) (1 + g) ∷ (claim_ended c u ++ Write (ConverterGo u) left ∷ []))) (none_ends (lists_for left) 0) ∙ by c)
+  claim_among c = any_behind registers (Set (Word.Running u) (1 + g) ∷ (claim_ended c u ++ Write (ConverterGo u) left ∷ [])) ∙ (ap (λ q. q || list_any ends_claim (Set (Word.Running u) (1 + g) ∷ (claim_ended c u ++ Write (ConverterGo u) left ∷ []))) (none_ends (lists_for left) 0) ∙ by c)
     where
-      by : (c : Bool) → list_any ends_claim (Set (words.Running u) (1 + g) ∷ (claim_ended c u ++ Write (ConverterGo u) left ∷ [])) ≡ c
+      by : (c : Bool) → list_any ends_claim (Set (Word.Running u) (1 + g) ∷ (claim_ended c u ++ Write (ConverterGo u) left ∷ [])) ≡ c
       by true = refl
       by false = refl
 
   pub len_start : (c : Bool) → length (start_deeds d u g e left c) ≡ moves_ahead left c + 1
-  len_start true = length-append registers (Set (words.Running u) (1 + g) ∷ Set (words.Claim u) 0 ∷ Write (ConverterGo u) left ∷ []) ∙ (let n = len_registers in omega (arith, n))
-  len_start false = length-append registers (Set (words.Running u) (1 + g) ∷ Write (ConverterGo u) left ∷ []) ∙ (let n = len_registers in omega (arith, n))
+  len_start true = length-append registers (Set (Word.Running u) (1 + g) ∷ Set (Word.Claim u) 0 ∷ Write (ConverterGo u) left ∷ []) ∙ (let n = len_registers in omega (arith, n))
+  len_start false = length-append registers (Set (Word.Running u) (1 + g) ∷ Write (ConverterGo u) left ∷ []) ∙ (let n = len_registers in omega (arith, n))
 
   -- which one is at each place
   pub list_at : (c : Bool) (i : ℕ) → i < lists_for left → slice_get (start_deeds d u g e left c) i ≡ Some (list_deed d u g e i)
-  list_at c i lt = get_front registers (Set (words.Running u) (1 + g) ∷ (claim_ended c u ++ Write (ConverterGo u) left ∷ [])) i (let n = len_registers in omega (arith, n, lt)) ∙ (get_range (list_deed d u g e) 0 (lists_for left) i lt ∙ (let same : 0 + i ≡ i = omega arith in ap (λ n. Some (list_deed d u g e n)) same))
+  list_at c i lt = get_front registers (Set (Word.Running u) (1 + g) ∷ (claim_ended c u ++ Write (ConverterGo u) left ∷ [])) i (let n = len_registers in omega (arith, n, lt)) ∙ (get_range (list_deed d u g e) 0 (lists_for left) i lt ∙ (let same : 0 + i ≡ i = omega arith in ap (λ n. Some (list_deed d u g e n)) same))
 
-  pub running_at : (c : Bool) → slice_get (start_deeds d u g e left c) (lists_for left) ≡ Some (Set (words.Running u) (1 + g))
-  running_at c = get_behind registers (Set (words.Running u) (1 + g) ∷ (claim_ended c u ++ Write (ConverterGo u) left ∷ [])) (lists_for left) 0 (let n = len_registers in omega (arith, n))
+  pub running_at : (c : Bool) → slice_get (start_deeds d u g e left c) (lists_for left) ≡ Some (Set (Word.Running u) (1 + g))
+  running_at c = get_behind registers (Set (Word.Running u) (1 + g) ∷ (claim_ended c u ++ Write (ConverterGo u) left ∷ [])) (lists_for left) 0 (let n = len_registers in omega (arith, n))
 
-  pub claim_at : slice_get (start_deeds d u g e left true) (lists_for left + 1) ≡ Some (Set (words.Claim u) 0)
-  claim_at = get_behind registers (Set (words.Running u) (1 + g) ∷ (claim_ended true u ++ Write (ConverterGo u) left ∷ [])) (lists_for left + 1) 1 (let n = len_registers in omega (arith, n))
+  pub claim_at : slice_get (start_deeds d u g e left true) (lists_for left + 1) ≡ Some (Set (Word.Claim u) 0)
+  claim_at = get_behind registers (Set (Word.Running u) (1 + g) ∷ (claim_ended true u ++ Write (ConverterGo u) left ∷ [])) (lists_for left + 1) 1 (let n = len_registers in omega (arith, n))
 
   pub go_at : (c : Bool) → slice_get (start_deeds d u g e left c) (moves_ahead left c) ≡ Some (Write (ConverterGo u) left)
-  go_at true = get_behind registers (Set (words.Running u) (1 + g) ∷ (claim_ended true u ++ Write (ConverterGo u) left ∷ [])) (lists_for left + 2) 2 (let n = len_registers in omega (arith, n))
-  go_at false = get_behind registers (Set (words.Running u) (1 + g) ∷ (claim_ended false u ++ Write (ConverterGo u) left ∷ [])) (lists_for left + 1) 1 (let n = len_registers in omega (arith, n))
+  go_at true = get_behind registers (Set (Word.Running u) (1 + g) ∷ (claim_ended true u ++ Write (ConverterGo u) left ∷ [])) (lists_for left + 2) 2 (let n = len_registers in omega (arith, n))
+  go_at false = get_behind registers (Set (Word.Running u) (1 + g) ∷ (claim_ended false u ++ Write (ConverterGo u) left ∷ [])) (lists_for left + 1) 1 (let n = len_registers in omega (arith, n))

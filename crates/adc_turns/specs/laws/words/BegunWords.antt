@@ -1,34 +1,33 @@
 -- A unit starts the round of the group that waits first, after its words and list registers took what the round has: all agrees again.
--- From adc_groups: bookkeeping.FrameRule, adc_groups: bookkeeping.TurnsOfUnit and 14 more.
--- Used by adc_driver: bookkeeping.NoneWaitsMaking, services.StartLastStep.
-use Rattle.std.proofs.Common.{◌≡◌, ◌≢◌, ◌+◌, ◌-◌, ◌*◌, ◌/◌, ◌%◌, ◌<◌, ◌≤◌, ◌&&◌, ◌||◌, ◌==◌, [], ◌∷◌, ◌∙◌, ◌⊎◌}
+-- From adc_groups: bookkeeping.FrameRule, adc_groups: bookkeeping.RefinementRight and 14 more.
+-- Used by adc_driver: bookkeeping.NoneWaitsPlaces, services.StartRight.
+use Rattle.std.proofs.Common.{◌≡◌, ◌≢◌, ◌+◌, ◌-◌, ◌*◌, ◌/◌, ◌%◌, ◌<◌, ◌≤◌, ◌&&◌, ◌||◌, ◌==◌, [], ◌∙◌, ◌⊎◌}
 use Rattle.std.proofs.Common.{if◌then◌else◌}
 use Rattle.adc_turns.specs.Terms
-use Terms.{aborts, aborts_by, AdcState, AdcTable, Agrees, all_changed, AllRight, AllSpare, any_off, ap, arith, Backed}
-use Terms.{BanksAgree, begun, bit_of, Bool, Call, cases, changed, Chip, chip_after, chosen_of, claim_right}
-use Terms.{claim_stays, claimed_parts, claims_on, cond, Converter, ConverterGo, Entry, eq_is, eq_other, eq_self}
-use Terms.{false, few_inputs, first_held, FitsAdc, four_from, FrameHistory, Fresh, group_at, group_of, group_same}
-use Terms.{group_word, GroupAgrees, GroupState, has_turn, HasUnit, HasWords, hold_in, HoldsOrder, inl, inputs_of, inr}
-use Terms.{is_ahead, is_finished, is_handler, is_on, is_outranked, is_owed, is_round_of, is_some, IsBefore, IsBlock}
-use Terms.{IsOrder, IsOver, IsRound, IsSound, IsSoundGroup, IsSoundRequest, kept_by, kept_in, kept_of_round}
-use Terms.{kept_request, kept_word, length, length-drop, List, listener, listener_as, min, nat_lt, nat_tests, newest}
-use Terms.{next_group, next_is, None, none_past, not, now_here, number_at, number_by, off_unit, on_there, Option}
-use Terms.{order_of, order_waiting, Origin, other_at, phase_of, place_stays, Promised, promised_same, put_of, rank_of}
-use Terms.{refl, Request, Reservations, ResultBuffer, Round, round_at, round_other, round_same, round_turn}
-use Terms.{RoundAgrees, rounds_of, running_of, same_or_other, samples_of, slice_get, slice_index, Some, some_hold}
-use Terms.{sound_past, SoundGroup, stands-agree, stands-move, stands_words, start_from, started, starts, starts_by}
-use Terms.{starts_on, STATE, Stays, subst, sym, take_of, trio_group, trio_of, true, turn_round, turn_same, unclaimed}
-use Terms.{unit_at-begun, unit_block, unit_is, unit_of, unit_other, unit_set, waiting, waiting_sound, waits_for}
-use Terms.{waits_other, waits_turn, will_yield, with_holds, with_waiting, within, word_number, word_of, World, Write}
-use Terms.{yields_below, ℕ}
-use Rattle.adc_turns.specs.laws.{words.ListedInputs.{listed_inputs}, services.ClaimEndRight.{claim_none}}
+use Terms.{aborts, aborts_by, AdcState, AdcTable, Agrees, all_changed, AllRight, any_off, ap, arith, Backed}
+use Terms.{BanksAgree, begun, bit_of, Bool, Call, cases, changed, Chip, chip_after, chosen_of, claim_past}
+use Terms.{claim_right, claim_stays, claimed_parts, claims_on, cond, Converter, ConverterGo, Entry, eq_is, eq_other}
+use Terms.{eq_self, false, few_inputs, first_held, FitsAdc, four_from, FrameHistory, Fresh, group_at, group_of}
+use Terms.{group_same, group_word, GroupAgrees, GroupState, has_turn, HasUnit, HasWords, hold_in, HoldsOrder, inl}
+use Terms.{inputs_of, inr, is_ahead, is_finished, is_handler, is_on, is_outranked, is_owed, is_round_of, is_some}
+use Terms.{IsBefore, IsBlock, IsOrder, IsOver, IsRound, IsSound, IsSoundGroup, IsSoundRequest, kept_by, kept_in}
+use Terms.{kept_of_round, kept_request, kept_word, length, length-drop, List, listener, listener_as, min, nat_lt}
+use Terms.{nat_tests, newest, next_group, next_is, None, none_past, not, now_here, number_at, number_by, off_unit}
+use Terms.{on_there, Option, order_of, order_waiting, Origin, other_at, phase_of, place_stays, Promised}
+use Terms.{promised_same, put_of, rank_of, refl, Request, Reservations, ResultBuffer, Round, round_at, round_other}
+use Terms.{round_same, round_turn, RoundAgrees, rounds_of, running_of, same_or_other, samples_of, slice_get}
+use Terms.{slice_index, Some, some_hold, sound_past, SoundGroup, stands-agree, stands-move, stands_words, start_from}
+use Terms.{started, starts, starts_by, starts_on, STATE, Stays, subst, sym, take_of, trio_group, trio_of, true}
+use Terms.{turn_round, turn_same, unclaimed, unit_at-begun, unit_block, unit_is, unit_of, unit_other, unit_set}
+use Terms.{waiting, waiting_sound, waits_for, waits_other, waits_turn, will_yield, Window, with_holds, with_waiting}
+use Terms.{within, Word, word_number, word_of, World, Write, yields_below, ℕ}
+use Rattle.adc_turns.specs.laws.{words.ListedInputs.{listed_inputs}, services.ClaimEndRight.{claims_left}}
+use Rattle.adc_turns.specs.laws.services.ClaimEndRight.{unclaimed_spare}
 use Rattle.chip_converter.specs.Converters as chips
 use Rattle.chip_converter.specs.Rounds as rounds
 use Rattle.adc_machine.specs.declared.table.Group as configured
-use Rattle.adc_groups.specs.declared.window.Window.TheVariants as windows
-use Rattle.adc_groups.specs.declared.words.Word.TheVariants as words
 use Rattle.mcal_base.specs.facts.Numbers.{lt_since}
-use Rattle.std.proofs.lemmas.Bool.{not-false, or_parts}
+use Rattle.std.proofs.lemmas.Bool.{not-false}
 
 -- a word behind a unit's five isn't one that is stored ahead
 not_ahead : (u k : ℕ) → ((i : ℕ) → i < 5 → k ≢ STATE + 8 + 8 * u + i) → is_ahead u k ≡ false
@@ -86,11 +85,11 @@ module _ (d : AdcTable) (w : World) (s : AdcState) (u g : ℕ) (few : u < 2) (so
 
 -- the round of a free unit starts
 module _ (d : AdcTable) (fits : FitsAdc d) (below : Reservations) (z : Chip) (ws : List ℕ) (w : World) (s : AdcState) (u g left y : ℕ) (c : Bool) (o : Origin Call) (p : FrameHistory) (few : u < 2) (on : s.initialised ≡ true) (free : round_at s u ≡ None) (at : is_on u (group_of d g) ≡ true) (q : Request) (asks : (group_at s g).waiting ≡ Some q) (next : starts d s u ≡ Some g)
-    (claims_below : c ≡ false → some_hold (claims_on u) below ≡ false) (h : Agrees d (with_holds o p.acted (hold_in (windows.Convert u g c)) below) (record z { words = ws }) w s) (same_words : (k : ℕ) → is_ahead u k ≡ false → slice_index ws k ≡ word_of z k) (whole : HasWords z)
+    (claims_below : c ≡ false → some_hold (claims_on u) below ≡ false) (h : Agrees d (with_holds o p.acted (hold_in (Window.Convert u g c)) below) (record z { words = ws }) w s) (same_words : (k : ℕ) → is_ahead u k ≡ false → slice_index ws k ≡ word_of z k) (whole : HasWords z)
     (all_left : length q.kept + left ≡ length (inputs_of (group_of d g))) (lists : (i : ℕ) → i < (left + 3) / 4 → slice_index (chips.unit_at z.converters u).list i ≡ four_from (inputs_of (group_of d g)) (length q.kept + 4 * i))
-    (runs : word_of z (word_number d (words.Running u)) ≡ 1 + g) (unclaims : word_of z (word_number d (words.Claim u)) ≡ 0) (xs : List Entry) (order_was : IsOrder d s u xs) (holds : HoldsOrder (order_of u) (word_of z) (waiting g false xs)) where
+    (runs : word_of z (word_number d (Word.Running u)) ≡ 1 + g) (unclaims : word_of z (word_number d (Word.Claim u)) ≡ 0) (xs : List Entry) (order_was : IsOrder d s u xs) (holds : HoldsOrder (order_of u) (word_of z) (waiting g false xs)) where
   abbrev before : Reservations
-  before = with_holds o p.acted (hold_in (windows.Convert u g c)) below
+  before = with_holds o p.acted (hold_in (Window.Convert u g c)) below
 
   abbrev a : Chip
   a = record z { words = ws }
@@ -100,9 +99,6 @@ module _ (d : AdcTable) (fits : FitsAdc d) (below : Reservations) (z : Chip) (ws
 
   there : is_some (group_of d g) ≡ true
   there = on_there u (group_of d g) at
-
-  lt : g < 16
-  lt = within d g there
 
   here : unit_of (group_of d g) ≡ u
   here = unit_is d fits u (group_of d g) at
@@ -128,7 +124,7 @@ module _ (d : AdcTable) (fits : FitsAdc d) (below : Reservations) (z : Chip) (ws
   t = started w s u g
 
   is_group : group_at t g ≡ runs_now
-  is_group = group_same s g runs_now lt
+  is_group = group_same s g runs_now (within d g there)
 
   is_other : (k : ℕ) → k ≢ g → group_at t k ≡ group_at s k
   is_other k ne = other_at s g runs_now (sound_past d s h.sound.groups) k ne
@@ -180,21 +176,21 @@ module _ (d : AdcTable) (fits : FitsAdc d) (below : Reservations) (z : Chip) (ws
 
   -- ---- claims before
 
-  claim_before : (word_of a (word_number d (words.Claim u)) ≡ (if c then 1 else 0)) × (some_hold (claims_on u) below ≡ false)
+  claim_before : (word_of a (word_number d (Word.Claim u)) ≡ (if c then 1 else 0)) × (some_hold (claims_on u) below ≡ false)
   claim_before = claim_was c claims_below h
     where
-      claim_was : (v : Bool) → (v ≡ false → some_hold (claims_on u) below ≡ false) → Agrees d (with_holds o p.acted (hold_in (windows.Convert u g v)) below) a w s → (word_of a (word_number d (words.Claim u)) ≡ (if v then 1 else 0)) × (some_hold (claims_on u) below ≡ false)
-      claim_was true none k = claimed_parts u (word_of a (word_number d (words.Claim u))) below (claim_right below u (word_of a (word_number d (words.Claim u)))) ((k.settled on).claims u few)
-      claim_was false none k = (eq_is (word_of a (word_number d (words.Claim u))) 0 (not-false (word_of a (word_number d (words.Claim u)) == 0) (sym (unclaimed u (word_of a (word_number d (words.Claim u))) below ((k.settled on).claims u few)) ∙ none refl)), none refl)
+      claim_was : (v : Bool) → (v ≡ false → some_hold (claims_on u) below ≡ false) → Agrees d (with_holds o p.acted (hold_in (Window.Convert u g v)) below) a w s → (word_of a (word_number d (Word.Claim u)) ≡ (if v then 1 else 0)) × (some_hold (claims_on u) below ≡ false)
+      claim_was true none k = claimed_parts u (word_of a (word_number d (Word.Claim u))) below (claim_right below u (word_of a (word_number d (Word.Claim u)))) ((k.settled on).claims u few)
+      claim_was false none k = (eq_is (word_of a (word_number d (Word.Claim u))) 0 (not-false (word_of a (word_number d (Word.Claim u)) == 0) (sym (unclaimed u (word_of a (word_number d (Word.Claim u))) below ((k.settled on).claims u few)) ∙ none refl)), none refl)
 
-  claim_small : (k : ℕ) → word_of a (word_number d (words.Claim u)) ≢ 2 + k
+  claim_small : (k : ℕ) → word_of a (word_number d (Word.Claim u)) ≢ 2 + k
   claim_small k i = by c (sym claim_before.0 ∙ i)
     where
       by : (v : Bool) → (if v then 1 else 0) ≡ 2 + k → ⊥
       by true f = omega (arith, f)
       by false f = omega (arith, f)
 
-  claim_gone : (k : ℕ) → word_of b (word_number d (words.Claim u)) ≢ 2 + k
+  claim_gone : (k : ℕ) → word_of b (word_number d (Word.Claim u)) ≢ 2 + k
   claim_gone k i = let none : 0 ≡ 2 + k = sym unclaims ∙ i in omega (arith, none)
 
   was : GroupAgrees d (word_of a) s g
@@ -254,6 +250,12 @@ module _ (d : AdcTable) (fits : FitsAdc d) (below : Reservations) (z : Chip) (ws
 
   -- ---- all of it
 
+  -- what the window holds besides is no bank and no place
+  held_as : (v : Bool) → ((k : ℕ) → first_held (put_of d k) below ≡ first_held (put_of d k) (with_holds o p.acted (hold_in (Window.Convert u g v)) below)) × ((k : ℕ) → first_held (take_of k) below ≡ first_held (take_of k) (with_holds o p.acted (hold_in (Window.Convert u g v)) below))
+      × ((k : ℕ) (n : ResultBuffer) (j : ℕ) → some_hold (is_owed k n j) (with_holds o p.acted (hold_in (Window.Convert u g v)) below) ≡ some_hold (is_owed k n j) below)
+  held_as true = (λ k. refl, λ k. refl, λ k n j. refl)
+  held_as false = (λ k. refl, λ k. refl, λ k n j. refl)
+
   stays : Stays d before below a b s t g u
   stays = record {
     on = on;
@@ -272,33 +274,19 @@ module _ (d : AdcTable) (fits : FitsAdc d) (below : Reservations) (z : Chip) (ws
     levels = refl;
     time = refl;
     enabled = λ l i. refl;
-    puts = λ k ne. by_puts c k;
-    takes = λ k ne. by_takes c k;
+    puts = λ k ne. (held_as c).0 k;
+    takes = λ k ne. (held_as c).1 k;
   }
-    where
-      by_puts : (v : Bool) (k : ℕ) → first_held (put_of d k) below ≡ first_held (put_of d k) (with_holds o p.acted (hold_in (windows.Convert u g v)) below)
-      by_puts true k = refl
-      by_puts false k = refl
-
-      by_takes : (v : Bool) (k : ℕ) → first_held (take_of k) below ≡ first_held (take_of k) (with_holds o p.acted (hold_in (windows.Convert u g v)) below)
-      by_takes true k = refl
-      by_takes false k = refl
 
   right_below : AllRight d a w s below
   right_below = by c h.right
     where
-      by : (v : Bool) → AllRight d a w s (with_holds o p.acted (hold_in (windows.Convert u g v)) below) → AllRight d a w s below
+      by : (v : Bool) → AllRight d a w s (with_holds o p.acted (hold_in (Window.Convert u g v)) below) → AllRight d a w s below
       by true k = k.1.1
       by false k = k.1
 
   right : AllRight d b w t below
-  right = all_changed d fits before below a b w s t h g u at stays below (spare below claim_before.1) right_below
-    where
-      spare : (hs : Reservations) → some_hold (claims_on u) hs ≡ false → AllSpare d a b s t g u hs
-      spare [] f = tt
-      spare (v ∷ vs) f =
-          let k = or_parts (claims_on u v.what) (some_hold (claims_on u) vs) f in
-          (record { rounds = λ i. absurd (let off = k.0 in cc); unkept = λ i. absurd (let off = k.0 in cc); lost = λ i. absurd (let off = k.0 in cc); copies = λ n m j r i same. (ap (λ r. r % 4) (low 7), λ n j. refl); reads = λ k n vs i same. ap (λ r. r / 4) (low 7) }, spare vs k.1)
+  right = all_changed d fits before below a b w s t h g u at stays below (unclaimed_spare d a b s t g u (low 7) (λ m p. refl) below claim_before.1) right_below
 
   promised : (v : ℕ) → (v ≡ u) ⊎ (v ≢ u) → Promised d below w t v
   promised v (inl i) = subst (λ n. Promised d below w t n) (sym i) (record {
@@ -307,24 +295,23 @@ module _ (d : AdcTable) (fits : FitsAdc d) (below : Reservations) (z : Chip) (ws
   })
   promised v (inr ne) = promised_same d w s t v (rounds_as v ne) (waits_other d s t g v (off_unit d fits g u v at ne) (λ k nk. ap (λ (r : GroupState). is_some r.waiting) (is_other k nk))) before below (starts_less c) (yields_less c) ((h.settled on).promised v)
     where
-      starts_less : (r : Bool) → some_hold (starts_on v) (with_holds o p.acted (hold_in (windows.Convert u g r)) below) ≡ true → some_hold (starts_on v) below ≡ true
+      starts_less : (r : Bool) → some_hold (starts_on v) (with_holds o p.acted (hold_in (Window.Convert u g r)) below) ≡ true → some_hold (starts_on v) below ≡ true
       starts_less true f = sym (ap (λ k. k || some_hold (starts_on v) below) (eq_other v u ne)) ∙ f
       starts_less false f = sym (ap (λ k. k || some_hold (starts_on v) below) (eq_other v u ne)) ∙ f
 
-      yields_less : (r : Bool) → will_yield v (with_holds o p.acted (hold_in (windows.Convert u g r)) below) ≡ true → will_yield v below ≡ true
+      yields_less : (r : Bool) → will_yield v (with_holds o p.acted (hold_in (Window.Convert u g r)) below) ≡ true → will_yield v below ≡ true
       yields_less true f = yields_below ((v == u) && is_handler v o) (will_yield v below) f
       yields_less false f = yields_below ((v == u) && is_handler v o) (will_yield v below) f
 
-  claims : (v : ℕ) → v < 2 → (v ≡ u) ⊎ (v ≢ u) → claim_right below v (word_of b (word_number d (words.Claim v))) ≡ true
-  claims v less (inl i) = subst (λ n. claim_right below n (word_of b (word_number d (words.Claim n))) ≡ true) (sym i) (subst (λ n. claim_right below u n ≡ true) (sym unclaims) (claim_none u below claim_before.1))
-  claims v less (inr ne) = subst (λ n. claim_right below v n ≡ true) (sym (claim_stays d fits before below a b w s t h g u at stays v less ne)) (by c ((h.settled on).claims v less))
+  claims : (v : ℕ) → v < 2 → claim_right below v (word_of b (word_number d (Word.Claim v))) ≡ true
+  claims = claims_left d u below a b claim_before.1 unclaims (claim_stays d fits before below a b w s t h g u at stays) (λ v less ne. by v ne c ((h.settled on).claims v less))
     where
-      by : (r : Bool) → claim_right (with_holds o p.acted (hold_in (windows.Convert u g r)) below) v (word_of a (word_number d (words.Claim v))) ≡ true → claim_right below v (word_of a (word_number d (words.Claim v))) ≡ true
-      by true f = sym (ap (λ k. if k then (word_of a (word_number d (words.Claim v)) == 1) && not (some_hold (claims_on v) below) else claim_right below v (word_of a (word_number d (words.Claim v)))) (eq_other v u ne)) ∙ f
-      by false f = f
+      by : (v : ℕ) → v ≢ u → (r : Bool) → claim_right (with_holds o p.acted (hold_in (Window.Convert u g r)) below) v (word_of a (word_number d (Word.Claim v))) ≡ true → claim_right below v (word_of a (word_number d (Word.Claim v))) ≡ true
+      by v ne true f = sym (claim_past v u _ _ ne) ∙ f
+      by v ne false f = f
 
-  unkept : word_of a (word_number d (words.Claim (unit_of (group_of d g)))) ≢ 2 + g
-  unkept i = claim_small g (ap (λ v. word_of a (word_number d (words.Claim v))) (sym here) ∙ i)
+  unkept : word_of a (word_number d (Word.Claim (unit_of (group_of d g)))) ≢ 2 + g
+  unkept i = claim_small g (ap (λ v. word_of a (word_number d (Word.Claim v))) (sym here) ∙ i)
 
   group : GroupAgrees d (word_of b) t g
   group = record {
@@ -343,17 +330,9 @@ module _ (d : AdcTable) (fits : FitsAdc d) (below : Reservations) (z : Chip) (ws
     banks = k.banks;
     stands = stands-agree (trio_of (rounds_of d g)) (word_of a) (word_of b) k.banks (trio_group d fits before below a b w s t h g u at stays (low 7)) k.stands;
     newest = λ ne more. k.newest (λ i. ne (ap (λ (v : GroupState). v.status) is_group ∙ i)) (subst (λ (v : GroupState). 0 < length v.rounds) is_group more) ∙ ap (λ (v : GroupState). newest v.rounds) (sym is_group);
-    put = k.put ∙ by_puts c;
-    take = k.take ∙ by_takes c;
+    put = k.put ∙ sym ((held_as c).0 g);
+    take = k.take ∙ sym ((held_as c).1 g);
   }
-    where
-      by_puts : (v : Bool) → first_held (put_of d g) (with_holds o p.acted (hold_in (windows.Convert u g v)) below) ≡ first_held (put_of d g) below
-      by_puts true = refl
-      by_puts false = refl
-
-      by_takes : (v : Bool) → first_held (take_of g) (with_holds o p.acted (hold_in (windows.Convert u g v)) below) ≡ first_held (take_of g) below
-      by_takes true = refl
-      by_takes false = refl
 
   order : IsOrder d t u (waiting g false xs)
   order = order_waiting d s t g u at (λ k ne. turn_same d fits before below a b w s t h g u at stays k ne) (λ k ne. ap (λ (v : GroupState). is_some v.waiting) (is_other k ne)) xs order_was numbers (turn ∙ sym turn_was) false (ap (λ r. is_some r) none_waits)
@@ -371,22 +350,18 @@ module _ (d : AdcTable) (fits : FitsAdc d) (below : Reservations) (z : Chip) (ws
     triggers = record { gates = λ i less. h.triggers.gates i less ∙ ap (λ r. is_some r) (sym (listens_as i)); flags = h.triggers.flags; others = h.triggers.others };
     right = right;
     banks = banks;
-    places = λ k n j less free_of. place_stays d fits before below a b w s t h g u at stays k n j ∙ h.places k n j less (owed_as c k n j ∙ free_of);
+    places = λ k n j less free_of. place_stays d fits before below a b w s t h g u at stays k n j ∙ h.places k n j less ((held_as c).2 k n j ∙ free_of);
     backed = backed c h.backed;
     group = group;
     unit = record { running = runs ∙ sym (ap (λ r. running_of r) round_now); order = (waiting g false xs, holds, order) };
-    claims = λ v less. claims v less (same_or_other v u);
+    claims = claims;
     promised = λ v. promised v (same_or_other v u);
   }
     where
       is_x : (r : Round) → round_at t u ≡ Some r → x ≡ r
       is_x r i = let same : Some x ≡ Some r = sym round_now ∙ i in let k : x ≡ r = cc in k
 
-      owed_as : (v : Bool) (k : ℕ) (n : ResultBuffer) (j : ℕ) → some_hold (is_owed k n j) (with_holds o p.acted (hold_in (windows.Convert u g v)) below) ≡ some_hold (is_owed k n j) below
-      owed_as true k n j = refl
-      owed_as false k n j = refl
-
-      backed : (v : Bool) → Backed (with_holds o p.acted (hold_in (windows.Convert u g v)) below) → Backed below
+      backed : (v : Bool) → Backed (with_holds o p.acted (hold_in (Window.Convert u g v)) below) → Backed below
       backed true k = k.1.1
       backed false k = k.1
 

@@ -1,6 +1,6 @@
 -- A round of the machine and the one on its unit: when it is finished, and what an abort keeps of it.
 -- From adc_groups: words.Cases.
--- Used by services.AbortRight, services.YieldSteps.
+-- Used by services.AbortRight.
 use Rattle.std.proofs.Common.{◌≡◌, ◌+◌, ◌-◌, ◌*◌, ◌/◌, ◌<◌, ◌≤◌, ◌&&◌, ◌==◌, [], ◌∷◌, ◌∙◌}
 use Rattle.adc_turns.specs.Terms
 use Terms.{ap, arith, Bool, cond, Converter, Converters, ended-open, ended_values, ends_at, false, inputs_left}

@@ -1,8 +1,7 @@
 use Rattle.std.proofs.Common.{refl, ◌∙◌, ap}
 use Rattle.mcal_base.specs.declared.directive.Order.TheVariants as orders
 use Rattle.step_runner.specs.Kept.{cause_of}
-use Rattle.live_session.proofs.Asked.{on_ok_alone}
-use Rattle.live_session.proofs.Outside.{moved, stayed}
+use Rattle.live_session.proofs.Outside.{held_told, moved}
 use Rattle.live_session.proofs.obey.detach.Goals as goal
 use Rattle.live_session.specs.Answers.{As_asked}
 
@@ -15,5 +14,5 @@ returns-in-Ok-clause-obeyed g c =
 pub returns-in-Err-clause-obeyed : goal.returns-in-Err-clause-obeyed
 returns-in-Err-clause-obeyed g c =
     let driver = c.args.board.now.live.driver in
-    on_ok_alone c.say.result (λ told. As_asked (stayed (g.B.Driver.Module.spec driver) (g.B.Driver.Caller.call_of driver) orders.Detach c.args.page.now.number c.args.board.now.live c.detach.new.self c.args.board.now.frames c.args.page.now c.say.new.self refl c.in-Err.cause
-    (λ first h st. c.detach.ensures.cause first h st ∙ ap (λ r. cause_of r) c.in-Err.is) c.in-Err.ensures.held told)) c.say.ensures
+    held_told (g.B.Driver.Module.spec driver) (g.B.Driver.Caller.call_of driver) orders.Detach c.args.page.now.number c.args.board.now.live c.detach.new.self c.args.board.now.frames c.args.page.now c.say.new.self refl c.say.result c.in-Err.cause
+    (λ first h st. c.detach.ensures.cause first h st ∙ ap (λ r. cause_of r) c.in-Err.is) c.in-Err.ensures.held c.say.ensures

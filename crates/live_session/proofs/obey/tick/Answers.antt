@@ -1,12 +1,12 @@
-use Rattle.std.proofs.Common.{false, ◌∙◌, ap, arith, sym, subst}
+use Rattle.std.proofs.Common.{◌∙◌, ap, arith, sym, subst}
 use Rattle.chip_model.specs.Chip.{expiry_of}
 use Rattle.mcal_base.specs.declared.directive.Order.TheVariants as orders
 use Rattle.script_runner.specs.Standing.{left_within}
 use Rattle.live_board.specs.Lives.{GoesOn, ticks_by}
-use Rattle.live_session.proofs.Asked.{on_ok_alone, spent_here}
+use Rattle.live_session.proofs.Asked.{spent_told}
 use Rattle.live_session.proofs.Ticking.{ticks_told}
 use Rattle.live_session.proofs.obey.tick.Goals as goal
-use Rattle.live_session.specs.Answers.{As_far, Of_ticks}
+use Rattle.live_session.specs.Answers.{Of_ticks}
 
 pub returns-in-Ok-clause-obeyed : goal.returns-in-Ok-clause-obeyed
 returns-in-Ok-clause-obeyed g c =
@@ -21,4 +21,4 @@ returns-in-Ok-clause-obeyed g c =
 pub returns-in-Err-clause-obeyed : goal.returns-in-Err-clause-obeyed
 returns-in-Err-clause-obeyed g c =
     let driver = c.args.board.now.live.driver in
-    on_ok_alone c.refuse.result (λ told. As_far (spent_here (g.B.Driver.Module.spec driver) (g.B.Driver.Caller.call_of driver) (orders.Tick c.args.ticks) false c.args.board.now.live c.tick.new.self c.args.board.now.frames c.args.page.now c.refuse.new.self c.in-Err.ensures.spent.1 (Of_ticks c.args.ticks (omega arith) c.in-Err.ensures.spent.0) told)) c.refuse.ensures
+    spent_told (g.B.Driver.Module.spec driver) (g.B.Driver.Caller.call_of driver) (orders.Tick c.args.ticks) c.refuse.result c.args.page.now.number c.args.board.now.live c.tick.new.self c.args.board.now.frames c.args.page.now c.refuse.new.self c.in-Err.ensures.spent.1 (Of_ticks c.args.ticks (omega arith) c.in-Err.ensures.spent.0) c.refuse.ensures

@@ -1,31 +1,28 @@
 -- The serial driver with its start and its serving window, and with its frames that send a sequence and wait.
--- From services.UnitBegins, services.ServePart, services.StartPart, words.WordsToState and 5 more.
+-- From spi_sequences: services.Bodies, bookkeeping.Lawful, words.WordsToState, service_outline: Lawful and 1 more.
 -- Used by src/frames.rt, mcal_drivers: Laws, mcal_drivers: proofs/Hosting, mcal_drivers: proofs/Sources and 4 more.
 use Rattle.std.proofs.Common.{◌≡◌, ◌≤◌}
 use Rattle.spi_driver.specs.Terms
-use Terms.{all_wait, AllOutside, AreEndingServices, Asked, Call, Chip, ending_gave, FitsSpi, holds_in, IsLawful, List}
-use Terms.{Open, Reservations, Services, services_driver, Short, short_left, short_move, spi_ends, spi_looked, SpiBody}
-use Terms.{SpiRepresents, SpiState, SpiTable, STATE, sync_bodies, word_of, World, ℕ}
+use Terms.{all_wait, AllOutside, AreEndingServices, arith, Asked, Call, Chip, ending_gave, FitsSpi, holds_in}
+use Terms.{IsLawful, List, Open, Reservations, Services, services_driver, Short, short_left, short_move, spi_ends}
+use Terms.{spi_looked, SpiBody, SpiRepresents, SpiState, SpiTable, STATE, word_of, World, ℕ}
 use Rattle.spi_machine.specs.State as machine
-use Rattle.spi_driver.specs.laws.{services.UnitBegins.{lawful_with, right_with, slow_with, spi_with}}
-use Rattle.spi_driver.specs.laws.{services.ServePart.{serve_window, serving_right}, services.StartPart.{start_window}}
-use Rattle.spi_driver.specs.laws.{services.StartPart.{starting_right}, services.SendPart.{sending_right}}
+use Rattle.spi_driver.specs.laws.{bookkeeping.Lawful.{lawful, spi_right}, services.UnitBegins.{spi}}
 use Rattle.spi_driver.specs.laws.words.WordsToState.{used_is, uses}
-use Rattle.spi_sending.specs.laws.services.WindowsRight.{windows_are_right}
 
 abbrev pub joined : SpiTable → Services SpiState Call Asked SpiBody
-joined d = spi_with start_window serve_window d (sync_bodies d)
+joined d = spi d
 
 joined_right : (d : SpiTable) → FitsSpi d → AreEndingServices (joined d) spi_ends
-joined_right d fits = right_with start_window serve_window d (sync_bodies d) fits (starting_right d fits) (serving_right d fits) (sending_right d fits (windows_are_right d fits))
+joined_right d fits = spi_right d fits
 
 -- whatever runs above them, the frames of the driver are right at each step
 pub joined_lawful : (d : SpiTable) → FitsSpi d → IsLawful (services_driver (joined d)) (short_move STATE (joined d).bodies.work_of) (short_left spi_looked (joined d).bodies.takes) (ending_gave spi_looked (joined d).bodies.takes spi_ends)
-joined_lawful d fits = lawful_with start_window serve_window d (sync_bodies d) fits (starting_right d fits) (serving_right d fits) (sending_right d fits (windows_are_right d fits))
+joined_lawful d fits = lawful d fits
 
 -- it leaves the peripheral rate alone, and has no watchdog
 pub joined_slow : (d : SpiTable) (chip : Chip) (w : World) (ps : List (Short Asked SpiBody × Open Call)) (s : SpiState) → FitsSpi d → (services_driver (joined d)).relates chip w ps s → (services_driver (joined d)).setting.machine.rate s ≤ 16
-joined_slow d chip w ps s fits h = slow_with start_window serve_window d (sync_bodies d) chip w ps s
+joined_slow d chip w ps s fits h = omega arith
 
 module _ (d : SpiTable) (fits : FitsSpi d) (chip : Chip) (w : World) (ps : List (Short Asked SpiBody × Open Call)) (s : SpiState) (out : AllOutside ps) (h : (services_driver (joined d)).relates chip w ps s) where
   -- where no frame holds the mask closed, words and registers agree with what the frames under way hold

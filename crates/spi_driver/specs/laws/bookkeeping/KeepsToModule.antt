@@ -1,22 +1,22 @@
 -- The driver keeps to its module: registers, words and lines of others are nothing to it.
--- From bookkeeping.ModuleBounds, spi_sequences: bookkeeping.RefinementRight, bookkeeping.Joined and 4 more.
+-- From bookkeeping.ModuleBounds, spi_sequences: bookkeeping.RefinementRight, bookkeeping.Joined and 3 more.
 -- Used by mcal_drivers: proofs/Joining.
 use Rattle.std.proofs.Common.{◌≡◌, ◌+◌, ◌<◌, ◌≤◌, ◌^◌, ◌==◌, ◌&&◌, ◌||◌, [], ◌∷◌, ◌∙◌, if◌then◌else◌}
 use Rattle.spi_driver.specs.Terms
-use Terms.{All, and_first, and_parts, ap, arith, Asked, basis_right, Bool, Call, Called, Channel, Destination}
-use Terms.{EnableClear, EnableSet, EnablesOthers, EnablesWithin, entering, enumerate_from, false, FitsSpi, has_bit}
-use Terms.{has_lines, inl, inr, is_for_lines, is_line_of, is_number, is_of, is_own_word, is_polling, is_serial}
-use Terms.{is_some, is_used, is_users_place, is_users_word, is_within, is_word_of, IsSome, KeepsTo, length, length_by}
-use Terms.{List, list_all, list_any, Load, lt_from, may_name, may_write, module_of_line, module_of_register}
-use Terms.{module_of_unit, module_of_word, Move, names_there, NamesOthers, NamesWithin, nat_lt, nat_tests, None, not}
-use Terms.{not-unless, only, Option, own_words, owns_written, polls, Read, refl, Reg, SerialAck, SerialData}
-use Terms.{SerialReceived, SerialSelect, SerialState, SerialWait, SerialWidth, services_driver, Some, Source, Spi}
-use Terms.{Spi0, Spi1, spi_machine, spi_owns, SpiState, SpiTable, start_of, Starts, Store, subst, suc, sym, true}
-use Terms.{uses_by, whether, World, Write, WritesOthers, WritesWithin, ℕ}
+use Terms.{All, and_first, ap, arith, Asked, basis_right, Bool, Call, Called, Channel, Destination, EnableClear}
+use Terms.{EnableSet, EnablesOthers, EnablesWithin, entering, enumerate_from, false, FitsSpi, has_bit, has_lines, inl}
+use Terms.{inr, is_for_lines, is_line_of, is_number, is_of, is_own_word, is_polling, is_serial, is_some, is_used}
+use Terms.{is_users_place, is_users_word, is_within, is_word_of, IsSome, KeepsTo, length, length_by, List, list_all}
+use Terms.{list_any, Load, lt_from, lt_since, may_name, may_write, module_of_line, module_of_register, module_of_unit}
+use Terms.{module_of_word, Move, names_there, NamesOthers, NamesWithin, nat_lt, nat_tests, None, not, not-unless}
+use Terms.{only, Option, own_words, owns_written, polls, Read, refl, Reg, SerialSelect, SerialWait, services_driver}
+use Terms.{Some, Source, Spi, Spi0, Spi1, spi_machine, spi_owns, SpiState, SpiTable, start_of, Starts, Store, subst}
+use Terms.{suc, sym, true, uses_by, whether, World, Write, WritesOthers, WritesWithin, ℕ}
+use Rattle.mcal_base.proofs.Owners.{within_is}
 use Rattle.run_model.specs.Frame.{is_wait}
 use Rattle.spi_sequences.specs.laws.bookkeeping.RefinementRight.{FrameMoves, frame_moves}
-use Rattle.spi_driver.specs.laws.{bookkeeping.Joined.{joined}, bookkeeping.Lawful.{handled_by}}
-use Rattle.spi_driver.specs.laws.{bookkeeping.ModuleBounds.{all_few, own_few}}
+use Rattle.spi_driver.specs.laws.{bookkeeping.Joined.{joined}, services.UnitBegins.{handled_by}}
+use Rattle.spi_driver.specs.laws.bookkeeping.ModuleBounds.{all_few, own_few}
 use Rattle.mcal_base.specs.declared.moves.Unit as units
 use Rattle.spi_machine.specs.declared.call.Call.TheVariants as calls
 
@@ -24,63 +24,50 @@ abbrev IsOurs : ℕ → Type 0
 IsOurs k = is_of (only Spi) (module_of_word k) ≡ true
 
 own_register : (r : Reg) → is_serial r ≡ true → is_of (only Spi) (module_of_register r) ≡ true
-own_register (SerialSelect u) e = refl
-own_register (SerialWidth u) e = refl
-own_register (SerialData u) e = refl
-own_register (SerialReceived u) e = refl
-own_register (SerialState u) e = refl
-own_register (SerialWait u) e = refl
-own_register (SerialAck u) e = refl
+own_register (SerialSelect u) e = cc
 own_register _ e = cc
 
 -- ---- words
 
 driver_word : (k : ℕ) → 49152 ≤ k → k < 57344 → IsOurs k
 driver_word k low high =
-    let first : nat_lt k 8192 ≡ false = grind (arith, nat_tests) in
-    let second : nat_lt k 16384 ≡ false = grind (arith, nat_tests) in
-    let third : nat_lt k 24576 ≡ false = grind (arith, nat_tests) in
-    let fourth : nat_lt k 32768 ≡ false = grind (arith, nat_tests) in
-    let fifth : nat_lt k 40960 ≡ false = grind (arith, nat_tests) in
-    let sixth : nat_lt k 49152 ≡ false = grind (arith, nat_tests) in
-    let last : nat_lt k 57344 ≡ true = grind (arith, nat_tests) in
-    rw (first, second, third, fourth, fifth, sixth, last) refl
+    rw (
+      lt_since k 8192 (omega (arith, low)),
+      lt_since k 16384 (omega (arith, low)),
+      lt_since k 24576 (omega (arith, low)),
+      lt_since k 32768 (omega (arith, low)),
+      lt_since k 40960 (omega (arith, low)),
+      lt_since k 49152 low,
+      lt_from k 57344 high,
+    ) refl
 
 users_place : (k : ℕ) → 139776 ≤ k → k < 147456 → IsOurs k
 users_place k low high =
-    let first : nat_lt k 8192 ≡ false = grind (arith, nat_tests) in
-    let second : nat_lt k 16384 ≡ false = grind (arith, nat_tests) in
-    let third : nat_lt k 24576 ≡ false = grind (arith, nat_tests) in
-    let fourth : nat_lt k 32768 ≡ false = grind (arith, nat_tests) in
-    let fifth : nat_lt k 40960 ≡ false = grind (arith, nat_tests) in
-    let sixth : nat_lt k 49152 ≡ false = grind (arith, nat_tests) in
-    let seventh : nat_lt k 57344 ≡ false = grind (arith, nat_tests) in
-    let eighth : nat_lt k 65536 ≡ false = grind (arith, nat_tests) in
-    let users : nat_lt k 73728 ≡ false = grind (arith, nat_tests) in
-    let stamps : nat_lt k 139264 ≡ false = grind (arith, nat_tests) in
-    let sources : nat_lt k 139776 ≡ false = grind (arith, nat_tests) in
-    let last : nat_lt k 147456 ≡ true = grind (arith, nat_tests) in
-    rw (first, second, third, fourth, fifth, sixth, seventh, eighth, users, stamps, sources, last) refl
-
-within_at : (from n k : ℕ) → is_within from n k ≡ true → (from ≤ k) × (k < from + n)
-within_at from n k e = let p = and_parts (not (nat_lt k from)) (nat_lt k (from + n)) e in (low p.0, high p.1)
-  where
-    low : not (nat_lt k from) ≡ true → from ≤ k
-    low i = grind (arith, nat_tests)
-
-    high : nat_lt k (from + n) ≡ true → k < from + n
-    high i = grind (arith, nat_tests)
+    rw (
+      lt_since k 8192 (omega (arith, low)),
+      lt_since k 16384 (omega (arith, low)),
+      lt_since k 24576 (omega (arith, low)),
+      lt_since k 32768 (omega (arith, low)),
+      lt_since k 40960 (omega (arith, low)),
+      lt_since k 49152 (omega (arith, low)),
+      lt_since k 57344 (omega (arith, low)),
+      lt_since k 65536 (omega (arith, low)),
+      lt_since k 73728 (omega (arith, low)),
+      lt_since k 139264 (omega (arith, low)),
+      lt_since k 139776 low,
+      lt_from k 147456 high,
+    ) refl
 
 module _ (d : SpiTable) (fits : FitsSpi d) where
   own_word : (k : ℕ) → is_own_word d k ≡ true → IsOurs k
-  own_word k e = let p = within_at 49152 (own_words d) k e in let few = own_few d fits in driver_word k p.0 (let high = p.1 in omega (arith, few, high))
+  own_word k e = let p = within_is 49152 (own_words d) k e in let few = own_few d fits in driver_word k p.0 (let high = p.1 in omega (arith, few, high))
 
   users_by : (k c n : ℕ) → c < 16 → n ≤ 64 → is_within (start_of (Source c)) n k || is_within (start_of (Destination c)) n k ≡ true → IsOurs k
   users_by k c n lt few e = by (is_within (start_of (Source c)) n k) refl (is_within (start_of (Destination c)) n k) refl e
     where
       by : (a : Bool) → is_within (start_of (Source c)) n k ≡ a → (b : Bool) → is_within (start_of (Destination c)) n k ≡ b → a || b ≡ true → IsOurs k
-      by true f b g h = let p = within_at (start_of (Source c)) n k f in let low = p.0 in let high = p.1 in users_place k (omega (arith, low)) (omega (arith, high, lt, few))
-      by false f true g h = let p = within_at (start_of (Destination c)) n k g in let low = p.0 in let high = p.1 in users_place k (omega (arith, low)) (omega (arith, high, lt, few))
+      by true f b g h = let p = within_is (start_of (Source c)) n k f in let low = p.0 in let high = p.1 in users_place k (omega (arith, low)) (omega (arith, high, lt, few))
+      by false f true g h = let p = within_is (start_of (Destination c)) n k g in let low = p.0 in let high = p.1 in users_place k (omega (arith, low)) (omega (arith, high, lt, few))
       by false f false g h = absurd (cc)
 
   users_in : (k from : ℕ) (xs : List (Option Channel)) → from + length xs ≤ 16 → All (λ (o : Option Channel). length_by o ≤ 64) xs → list_any (is_users_place k) (enumerate_from from xs) ≡ true → IsOurs k

@@ -1,47 +1,48 @@
--- The driver, as the outline and the runner see it. It is lawful where the frames are that start or serve units.
--- From bookkeeping.UnpolledFrames, spi_sequences: services.AtOnce, spi_sequences: services.LookSteps and 25 more.
--- Used by services.UnitBegins, bookkeeping.KeepsToModule, services.SendPart.
+-- The driver, as the outline and the runner see it, is lawful.
+-- From bookkeeping.UnpolledFrames, spi_sequences: services.AtOnce, spi_sequences: services.Bodies and 26 more.
+-- Used by bookkeeping.Joined.
 use Rattle.std.proofs.Common.{◌≡◌, ◌+◌, ◌-◌, ◌%◌, ◌<◌, ◌≤◌, ◌==◌, ◌||◌, [], ◌∷◌, ◌∙◌, if◌then◌else◌}
 use Rattle.spi_driver.specs.Terms
 use Terms.{Act, act_of, acts_by, all_carried, all_of, AllLet, AllRight, and_parts, Answer, answer_refused, answers}
-use Terms.{ap, AreEnding, AreEndingServices, AreLong, arith, Asked, asks_no, asks_none, AssertedAt, AsyncTransmit}
-use Terms.{basis_right, begins, Beside, blocks, Bool, both, both_ending, both_right, Call, Called, CanBegin, Cancel}
-use Terms.{cancel_begun, cancel_bodies, cancel_right, CancelBody, cancelled, CaptureCountHigh, CaptureTimeHigh}
-use Terms.{carried-right, carried_at, carried_for, Carrying, Channel, channel_begun, channel_of, ChannelCall}
-use Terms.{ChannelState, Chip, class_of, Decides, Declines, Done, ended_at, ending_gave, Entered, entry_carried}
-use Terms.{error_by, error_of_sending, error_told, ErrorName, false, finds_held, First, first_served, FitsSpi}
-use Terms.{found_none, FrameHistory, fresh_history, Handler, has_channel, HeldRight, in_list, init_bodies, init_right}
-use Terms.{init_within, InitBody, inl, inr, Interrupt, is_busy, is_closed, is_external_channel, is_internal_channel}
+use Terms.{ap, AreEnding, AreEndingServices, arith, asks_no, asks_none, AssertedAt, AsyncTransmit, basis_right}
+use Terms.{begins, begins_at, begins_few, Beside, blocks, Bool, both, both_ending, both_right, Call, Called, CanBegin}
+use Terms.{Cancel, cancel_begun, cancel_bodies, cancel_right, cancelled, carried-right, carried_at, carried_for}
+use Terms.{Carrying, Channel, channel_begun, channel_of, ChannelCall, ChannelState, Chip, class_of, Decides, Declines}
+use Terms.{Done, ended_at, ending_gave, Entered, entry_carried, error_by, error_of_sending, error_told, ErrorName}
+use Terms.{false, finds_held, First, FitsSpi, found_none, FrameHistory, has_channel, HeldRight, in_list, init_bodies}
+use Terms.{init_right, init_within, inl, inr, Interrupt, is_busy, is_closed, is_external_channel, is_internal_channel}
 use Terms.{is_number, is_off, is_past, is_pending, is_polling, is_some, is_sync_sequence, Is_this_frame, is_used}
 use Terms.{is_users, is_windowed, is_wrong_length, is_wrong_sequence, IsLawful, job_of, jobs_by, jobs_of, LeavesNone}
-use Terms.{length, length_by, List, LongBodies, Looked, looked_by, Main, mark_of, may_end, may_name, may_store, Mode}
-use Terms.{mode_word, Move, named, names_there, nat_lt, no_answer, no_duties, None, none_any, NoneBefore, not}
-use Terms.{not_sent, not_true, Nothing, of_sixteen, Off, Option, Or, or_rest, Origin, outcome, own_first, placed_of}
-use Terms.{Plain, Pointer, Polling, polls, Preparing, Proceeds, PulseCommit, PulseIdle, put_by, put_held, Query}
-use Terms.{query_begun, query_bodies, query_right, QueryBody, Read, read_bodies, read_right, ReadBody, ReadIb}
-use Terms.{Reading, refl, Reservation, Reservations, ReservedBy, same_number, Second, sending_ends, sent, sent_steps}
-use Terms.{Sequence, sequence_begun, sequence_of, SequenceCall, Services, services_driver, services_lawful}
-use Terms.{set_up_bodies, set_up_right, SetUpBody, SetupEb, short_left, short_move, Some, some_of, spi_basis}
-use Terms.{spi_ends, spi_looked, spi_machine, spi_setting, SpiBody, SpiRepresents, SpiState, SpiTable, SpiUninit}
-use Terms.{STATE, status_by, steps_of, subst, suc, sym, sync_begins, SyncBody, SyncTransmit, take, take_by, take_held}
-use Terms.{tells_error, tells_nothing, TimerHigh, to_write, Transmit, true, unit_body, unit_by, unit_few}
-use Terms.{unit_of_sequence, UnitBody, value_of, view, waiting_windows, whether, whole_bodies, whole_right, WholeBody}
-use Terms.{word_of, words_in, World, Write, write_bodies, write_right, WriteBody, WriteIb, Writing, zero, ℕ}
+use Terms.{length, length_by, List, Looked, looked_by, mark_of, may_end, may_name, may_store, Mode, mode_word, Move}
+use Terms.{named, names_there, nat_lt, no_answer, no_duties, None, none_any, NoneBefore, not, not_sent, not_true}
+use Terms.{Nothing, of_sixteen, Off, Option, or_rest, Origin, outcome, own_first, pinning, placed_of, Pointer}
+use Terms.{Polling, polls, Preparing, PulseCommit, put_by, put_held, Query, query_begun, query_bodies, query_right}
+use Terms.{Read, read_bodies, read_right, ReadIb, Reading, Received, refl, Reservation, Reservations, ReservedBy}
+use Terms.{same_number, Second, sending_ends, sent, sent_steps, Sequence, sequence_begun, sequence_of, SequenceCall}
+use Terms.{services_driver, services_lawful, set_up_bodies, set_up_right, SetupEb, short_left, short_move, Some}
+use Terms.{some_of, spi_basis, spi_ends, spi_looked, spi_machine, spi_setting, SpiBody, SpiRepresents, SpiState}
+use Terms.{SpiTable, SpiUninit, STATE, status_by, steps_of, subst, suc, sym, sync_bodies, sync_opens, sync_right}
+use Terms.{SyncTransmit, take, take_by, take_held, tells_error, tells_nothing, TimerHigh, to_write, true, unit_by}
+use Terms.{unit_few, unit_of_sequence, value_of, view, waiting_windows, whether, whole_bodies, whole_right}
+use Terms.{windows_are_right, word_of, words_in, World, Write, write_bodies, write_right, WriteIb, Writing, zero, ℕ}
 use Rattle.run_model.specs.Frame.{is_wait}
 use Rattle.spi_sequences.specs.laws.bookkeeping.RefinementRight.{FrameMoves, frame_moves}
+use Rattle.spi_sequences.specs.laws.services.{QueryRight.{IsJobQuery}, ReadRight.{IsReader}, WriteRight.{IsWriter}}
 use Rattle.spi_sequences.specs.laws.services.AtOnce.{cancel_once, init_once, never, query_once, read_once, set_up_once}
-use Rattle.spi_sequences.specs.laws.services.AtOnce.{whole_once, write_once}
+use Rattle.spi_sequences.specs.laws.services.AtOnce.{unit_once, whole_once, write_once}
 use Rattle.spi_driver.specs.laws.bookkeeping.UnpolledFrames.{LeavesBy, PollsNone, cancel_unpolled, init_unpolled}
-use Rattle.spi_driver.specs.laws.bookkeeping.UnpolledFrames.{leaves_unpolled, lets_none, query_unpolled, read_unpolled}
-use Rattle.spi_driver.specs.laws.bookkeeping.UnpolledFrames.{set_up_unpolled, unpolled_left, whole_unpolled}
-use Rattle.spi_driver.specs.laws.bookkeeping.UnpolledFrames.{write_unpolled}
+use Rattle.spi_driver.specs.laws.bookkeeping.UnpolledFrames.{leaves_unpolled, lets_none, query_unpolled}
+use Rattle.spi_driver.specs.laws.bookkeeping.UnpolledFrames.{read_unpolled, set_up_unpolled, unpolled_left}
+use Rattle.spi_driver.specs.laws.bookkeeping.UnpolledFrames.{whole_unpolled, write_unpolled, sync_unpolled}
+use Rattle.spi_driver.specs.laws.{services.UnitFrames.{unit_bodies}, services.UnitBegins.{handler_begins, handlers}}
+use Rattle.spi_driver.specs.laws.services.UnitBegins.{request_begins, spi, firsts, handled_by, lasts, main_begins}
+use Rattle.spi_driver.specs.laws.{bookkeeping.NoneWaits.{units_left}, services.UnitBounds.{units_right}}
 use Rattle.mcal_base.specs.declared.error_name.ErrorName.TheVariants as errors
 use Rattle.spi_machine.specs.Pending.{is_of}
 use Rattle.spi_machine.specs.declared.call.Call.TheVariants as calls
 use Rattle.spi_machine.specs.declared.call.Query.TheVariants as queries
-use Rattle.spi_sequences.specs.declared.service.request.RequestPlace.TheVariants as request
-use Rattle.spi_sequences.specs.declared.service.serve.ServePlace.TheVariants as serves
-use Rattle.spi_sequences.specs.declared.service.unit.UnitPlace.TheVariants as place
+use Rattle.spi_sequences.specs.declared.service.query.JobPlace.TheVariants as job
+use Rattle.spi_sequences.specs.declared.service.read.ReadPlace.TheVariants as read
 use Rattle.std.proofs.lemmas.Bool.{not-false, not-true}
 
 -- ---- what stands of calls that find no error
@@ -110,13 +111,7 @@ length_right n k e = by (n == 0) refl (nat_lt k.length n) refl e
 -- above frames of the module nothing exclusive begins
 class_module : (d : SpiTable) (o : Origin Call) (call : Call) → class_of call ≡ class_of calls.Init → blocks (class_of call) (mark_of (spi_setting d) o) ≡ true
 class_module d (Called calls.Init) call e = ap (λ c. blocks c (mark_of (spi_setting d) (Called calls.Init))) e
-class_module d (Called calls.DeInit) call e = ap (λ c. blocks c (mark_of (spi_setting d) (Called calls.DeInit))) e
-class_module d (Called (calls.SetAsyncMode m)) call e = ap (λ c. blocks c (mark_of (spi_setting d) (Called (calls.SetAsyncMode m)))) e
-class_module d (Called calls.MainFunctionHandling) call e = ap (λ c. blocks c (mark_of (spi_setting d) (Called calls.MainFunctionHandling))) e
-class_module d (Called (calls.Channel n x)) call e = ap (λ c. blocks c (mark_of (spi_setting d) (Called (calls.Channel n x)))) e
-class_module d (Called (calls.Sequence n x)) call e = ap (λ c. blocks c (mark_of (spi_setting d) (Called (calls.Sequence n x)))) e
-class_module d (Called (calls.Get x)) call e = ap (λ c. blocks c (mark_of (spi_setting d) (Called (calls.Get x)))) e
-class_module d (Entered l) call e = ap (λ c. blocks c (mark_of (spi_setting d) (Entered l))) e
+class_module d o call e = ap (λ c. blocks c (mark_of (spi_setting d) o)) e
 
 pub alone_by : (d : SpiTable) (call : Call) (below : Reservations) → class_of call ≡ class_of calls.Init → AllLet (spi_setting d) (class_of call) below → below ≡ []
 alone_by d call [] e lets = refl
@@ -154,69 +149,10 @@ module _ (d : SpiTable) (mode : Mode) (cs : List ChannelState) (on : is_off mode
 
 -- ---- the driver
 
--- the body of the handler of a line whose unit a job uses
-abbrev pub handled_by : SpiTable → (line : ℕ) → (used : Bool) → Option SpiBody
-handled_by d line false = None
-handled_by d line true = Some (unit_body (record { table = d; errand = Handler; unit = if line == 26 then 0 else 1; place = place.Serve serves.State }))
-
-abbrev FirstBody : Type 0
-FirstBody = Or (Or InitBody WholeBody) QueryBody
-
-abbrev LastBody : Type 0
-LastBody = Or (Or SetUpBody (Or WriteBody ReadBody)) (Or UnitBody (Or CancelBody SyncBody))
-
--- what is left to show of the frames that send a sequence and wait
-pub record AreSending (d : SpiTable) (sync_bodies : LongBodies (spi_basis d) SyncBody) : Type 1 where
-  pub right : AreLong (spi_basis d) sync_bodies
-  pub begins : (below : Reservations) (chip : Chip) (w : World) (s : SpiState) (q : ℕ) → q < 8 → is_some (sequence_of d q) ≡ true → is_sync_sequence d q ≡ true → is_off s.mode ≡ false → Beside (spi_setting d) (Called (calls.Sequence q SyncTransmit)) below → SpiRepresents d below chip w s
-      → AssertedAt (spi_basis d) sync_bodies below chip w s (sync_begins d q (unit_of_sequence d q)) (Called (calls.Sequence q SyncTransmit)) fresh_history
-  -- it waits with the mask open
-  pub opens : (k : SyncBody) → is_wait (sync_bodies.work_of k) ≡ true → is_closed (sync_bodies.assertion k) ≡ false
-  pub closed : (q : ℕ) → is_closed (sync_bodies.assertion (sync_begins d q (unit_of_sequence d q))) ≡ true
-  pub fuel : (q : ℕ) → q < 8 → is_some (sequence_of d q) ≡ true → sync_bodies.fuel (sync_begins d q (unit_of_sequence d q)) ≤ sent_steps d (sequence_of d q) - 7
-  pub room : (q : ℕ) → sync_bodies.room (sync_begins d q (unit_of_sequence d q)) ≤ 29
-  pub unpolled : (below : Reservations) (chip : Chip) (w : World) (s : SpiState) (o : Origin Call) (t : FrameHistory) (k : SyncBody) → AssertedAt (spi_basis d) sync_bodies below chip w s k o t → PollsNone o t.polled
-
-module _ (d : SpiTable) (unit_bodies : LongBodies (spi_basis d) UnitBody) (sync_bodies : LongBodies (spi_basis d) SyncBody) where
-  abbrev firsts : LongBodies (spi_basis d) FirstBody
-  firsts = both (both (init_bodies d) (whole_bodies d)) (query_bodies d)
-
-  abbrev lasts : LongBodies (spi_basis d) LastBody
-  lasts = both (both (set_up_bodies d) (both (write_bodies d) (read_bodies d))) (both unit_bodies (both (cancel_bodies d) sync_bodies))
-
-  -- the driver; any call may be made
-  abbrev pub spi : Services SpiState Call Asked SpiBody
-  spi = record {
-    basis = spi_basis d;
-    bodies = both firsts lasts;
-    seen = λ k. Plain;
-    written = λ k call writes. Unit {0};
-    fits = FitsSpi d;
-    can = λ call. Unit {0};
-    word = STATE;
-    asked = λ call. record { call = call; table = d };
-    looked = spi_looked;
-    most = λ q. steps_of d (Called q.call) - 7;
-    wide = λ q. 29;
-    body_of = λ line. handled_by d line (is_used d line);
-  }
-
-  -- what is left to show of the frames that start or serve units, and of those that send and wait
-  pub record AreRight : Type 1 where
-    pub units : AreLong (spi_basis d) unit_bodies
-    pub at_once : (k : UnitBody) → is_wait (unit_bodies.work_of k) ≡ false
-    pub sends : AreSending d sync_bodies
-    pub begins_request : (below : Reservations) (chip : Chip) (w : World) (s : SpiState) (q : ℕ) → q < 8 → is_sync_sequence d q ≡ false → is_off s.mode ≡ false → error_by d (calls.Sequence q AsyncTransmit) (is_off s.mode) false ≡ None → SpiRepresents d below chip w s
-        → Proceeds spi below chip w s (calls.Sequence q AsyncTransmit) (unit_body (record { table = d; errand = Transmit q; unit = unit_of_sequence d q; place = place.Request (request.Look 0) }))
-    pub begins_main : (below : Reservations) (chip : Chip) (w : World) (s : SpiState) → is_polling s.mode ≡ true → SpiRepresents d below chip w s
-        → Proceeds spi below chip w s calls.MainFunctionHandling (unit_body (record { table = d; errand = Main; unit = first_served d; place = place.Act }))
-    pub enters : (line : ℕ) (k : SpiBody) → handled_by d line (is_used d line) ≡ Some k → CanBegin spi k (Entered line)
-    pub line_steps : (line : ℕ) (k : SpiBody) → handled_by d line (is_used d line) ≡ Some k → 6 + (both firsts lasts).fuel k ≤ 144
-    pub leaves : (below : Reservations) (chip : Chip) (w : World) (s : SpiState) (k : UnitBody) (o : Origin Call) (y : ℕ) (t : FrameHistory) (n : Done) → AssertedAt (spi_basis d) unit_bodies below chip w s k o t → let r = (unit_bodies.takes k (value_of chip (unit_bodies.work_of k))).1 in r.done ≡ Some n → LeavesBy d w s o t (unit_bodies.work_of k) y r.event n
-
+module _ (d : SpiTable) where
   module _ (fits : FitsSpi d) (below : Reservations) (chip : Chip) (w : World) (s : SpiState) (h : SpiRepresents d below chip w s) where
     abbrev Looks : Call → Looked SpiBody → Type 0
-    Looks call l = Decides spi below chip w s call l
+    Looks call l = Decides (spi d) below chip w s call l
 
     -- a call that sends a sequence and waits: what its unit carries out isn't this one, which isn't configured
     sending_refused : (q : ℕ) (e : ErrorName) → error_by d (calls.Sequence q SyncTransmit) (is_off s.mode) false ≡ Some e → sending_ends d w s q (carried_for d s q) ≡ Some (outcome s (tells_error (answer_refused (calls.Sequence q SyncTransmit)) e))
@@ -250,13 +186,7 @@ module _ (d : SpiTable) (unit_bodies : LongBodies (spi_basis d) UnitBody) (sync_
     act_refused : (call : Call) (e : ErrorName) → error_by d call (is_off s.mode) false ≡ Some e → act_of d w s call ≡ Some (outcome s (tells_error (answer_refused call) e))
     act_refused (calls.Sequence q SyncTransmit) e is = sending_refused q e is
     act_refused (calls.Sequence q AsyncTransmit) e is = ap (λ y. Some (acts_by d s (calls.Sequence q AsyncTransmit) y)) (refused_so d s (calls.Sequence q AsyncTransmit) e is)
-    act_refused (calls.Sequence q Cancel) e is = ap (λ y. Some (acts_by d s (calls.Sequence q Cancel) y)) is
-    act_refused calls.Init e is = ap (λ y. Some (acts_by d s calls.Init y)) is
-    act_refused calls.DeInit e is = ap (λ y. Some (acts_by d s calls.DeInit y)) is
-    act_refused (calls.SetAsyncMode m) e is = ap (λ y. Some (acts_by d s (calls.SetAsyncMode m) y)) is
-    act_refused calls.MainFunctionHandling e is = ap (λ y. Some (acts_by d s calls.MainFunctionHandling y)) is
-    act_refused (calls.Channel c call) e is = ap (λ y. Some (acts_by d s (calls.Channel c call) y)) is
-    act_refused (calls.Get x) e is = ap (λ y. Some (acts_by d s (calls.Get x) y)) is
+    act_refused call e is = ap (λ y. Some (acts_by d s call y)) is
 
     declines : (call : Call) (e : ErrorName) → error_by d call (is_off s.mode) false ≡ Some e → Looks call (looked_by (record { call = call; table = d }) (mode_word s.mode) (Some e))
     declines call e is = record {
@@ -279,58 +209,25 @@ module _ (d : SpiTable) (unit_bodies : LongBodies (spi_basis d) UnitBody) (sync_
         let facts = clear_two (is_off s.mode) (is_internal_channel (channel_of d c)) errors.SpiUninit errors.SpiParamChannel clear in
         let there = internal_channel (channel_of d c) facts.1 in
         let size : (placed_of d c).channel.length ≡ length_by (channel_of d c) = ap (λ x. x.length) (has_channel d fits c there.0 there.1) ∙ sym (ap length_by there.1) in
-        record {
-          at = (
-            h,
-            (
-              (
-                c,
-                there.0,
-                Is_this_frame,
-                record {
-                  known = there.1;
-                  internal = there.2;
-                  placed = refl;
-                  alone = λ sources. none_writes d s.mode s.channels facts.0 c p sources below h.right lets;
-                  clear = subst (λ off. error_by d (calls.Channel c (WriteIb p)) off false ≡ None) facts.0 clear;
-                },
-              ),
-              facts.0,
-            ),
-          );
-          closed = refl;
-          fuel = omega (arith, size);
-          room = omega arith;
-        }
+        let writer : IsWriter d (record { placed = placed_of d c; source = p }) below c there.0 = record {
+          known = there.1;
+          internal = there.2;
+          placed = refl;
+          alone = λ sources. none_writes d s.mode s.channels facts.0 c p sources below h.right lets;
+          clear = subst (λ off. error_by d (calls.Channel c (WriteIb p)) off false ≡ None) facts.0 clear;
+        } in
+        record { at = (h, ((c, there.0, Is_this_frame, writer), facts.0)); closed = refl; fuel = omega (arith, size); room = omega arith }
     at_channel c ReadIb lets clear =
         let facts = clear_two (is_off s.mode) (is_internal_channel (channel_of d c)) errors.SpiUninit errors.SpiParamChannel clear in
         let there = internal_channel (channel_of d c) facts.1 in
         let size : (placed_of d c).channel.length ≡ length_by (channel_of d c) = ap (λ x. x.length) (has_channel d fits c there.0 there.1) ∙ sym (ap length_by there.1) in
-        record {
-          at = (
-            h,
-            (
-              (
-                c,
-                there.0,
-                Is_this_frame,
-                record {
-                  known = there.1;
-                  internal = there.2;
-                  placed = refl;
-                  alone = none_reads d s.mode s.channels facts.0 c below h.right lets;
-                },
-                clear,
-                facts.0,
-                refl,
-              ),
-              refl,
-            ),
-          );
-          closed = refl;
-          fuel = omega (arith, size);
-          room = omega arith;
-        }
+        let reader : IsReader d (record { placed = placed_of d c; bank = 0; words = []; place = read.Pin (pinning (placed_of d c) Received) }) below c there.0 = record {
+          known = there.1;
+          internal = there.2;
+          placed = refl;
+          alone = none_reads d s.mode s.channels facts.0 c below h.right lets;
+        } in
+        record { at = (h, ((c, there.0, Is_this_frame, reader, clear, facts.0, refl), refl)); closed = refl; fuel = omega (arith, size); room = omega arith }
     at_channel c (SetupEb p q n) lets clear =
         let facts = clear_three (is_off s.mode) (is_external_channel (channel_of d c)) (is_wrong_length n (channel_of d c)) errors.SpiUninit errors.SpiParamChannel errors.SpiParamLength clear in
         let there = external_channel (channel_of d c) facts.1 in
@@ -362,26 +259,14 @@ module _ (d : SpiTable) (unit_bodies : LongBodies (spi_basis d) UnitBody) (sync_
         let there = some_of (job_of d j) facts.1 in
         let small = in_list d.jobs j there.0 there.1 in
         let few = (fits.jobs j there.0 there.1).unit in
-        record {
-          at = (
-            h,
-            (
-              j,
-              (Is_this_frame, clear, facts.0),
-              record {
-                job = there.0;
-                known = there.1;
-                table = refl;
-                number = omega (arith, small, fits.rows.1);
-                unit = ap unit_by there.1 ∙ omega (arith, few);
-              },
-              tt,
-            ),
-          );
-          closed = refl;
-          fuel = omega arith;
-          room = omega arith;
-        }
+        let asking : IsJobQuery d (record { table = d; job = j % 16; unit = unit_by (job_of d j); place = job.Running }) j = record {
+          job = there.0;
+          known = there.1;
+          table = refl;
+          number = omega (arith, small, fits.rows.1);
+          unit = ap unit_by there.1 ∙ omega (arith, few);
+        } in
+        record { at = (h, (j, (Is_this_frame, clear, facts.0), asking, tt)); closed = refl; fuel = omega arith; room = omega arith }
 
     query_begins : (x : Query) → Beside (spi_setting d) (Called (calls.Get x)) below → error_by d (calls.Get x) (is_off s.mode) false ≡ None → (m : Mode) → s.mode ≡ m → Looks (calls.Get x) (query_begun d (mode_word m) x)
     query_begins queries.Status lets clear Off e = record {
@@ -402,132 +287,128 @@ module _ (d : SpiTable) (unit_bodies : LongBodies (spi_basis d) UnitBody) (sync_
         record { at = (h, (u, (Is_this_frame, clear, facts.0), omega (arith, lt), below_byte u (omega (arith, lt)))); closed = refl; fuel = omega arith; room = omega arith }
     query_begins _ lets clear _ e = record { at = (h, ((Is_this_frame, clear, ap is_off e, tt, tt), omega arith, none_before)); closed = refl; fuel = omega arith; room = omega arith }
 
-    module _ (a : AreRight) where
-      sequence_begins : (q : ℕ) (call : SequenceCall) → Beside (spi_setting d) (Called (calls.Sequence q call)) below → error_by d (calls.Sequence q call) (is_off s.mode) false ≡ None → Looks (calls.Sequence q call) (sequence_begun d (q % 256) call)
-      sequence_begins q AsyncTransmit lets clear =
-          let facts = clear_sequence (is_off s.mode) (is_wrong_sequence d q AsyncTransmit) errors.SpiUninit errors.SpiParamSeq clear in
-          let kind = neither (is_some (sequence_of d q)) (is_sync_sequence d q) facts.1 in
-          let lt = sequence_small q kind.0 in
-          subst (λ n. Looks (calls.Sequence q AsyncTransmit) (sequence_begun d n AsyncTransmit)) (sym (below_byte q (omega (arith, lt)))) (a.begins_request below chip w s q lt kind.1 facts.0 clear h)
-      sequence_begins q SyncTransmit lets clear =
-          let facts = clear_sequence (is_off s.mode) (is_wrong_sequence d q SyncTransmit) errors.SpiUninit errors.SpiParamSeq clear in
-          let kind = neither (is_some (sequence_of d q)) (not (is_sync_sequence d q)) facts.1 in
-          let lt = sequence_small q kind.0 in
-          subst (λ n. Looks (calls.Sequence q SyncTransmit) (sequence_begun d n SyncTransmit)) (sym (below_byte q (omega (arith, lt)))) (record {
-            at = a.sends.begins below chip w s q lt kind.0 (not-false (is_sync_sequence d q) kind.1) facts.0 lets h;
-            closed = a.sends.closed q;
-            fuel = a.sends.fuel q lt kind.0;
-            room = a.sends.room q;
-          })
-      sequence_begins q Cancel lets clear =
-          let facts = clear_sequence (is_off s.mode) (is_wrong_sequence d q Cancel) errors.SpiUninit errors.SpiParamSeq clear in
-          let lt = sequence_small q (neither (is_some (sequence_of d q)) false facts.1).0 in
-          subst (λ n. Looks (calls.Sequence q Cancel) (sequence_begun d n Cancel)) (sym (below_byte q (omega (arith, lt)))) (cancel_begins lt facts.0 (is_sync_sequence d q) refl)
-        where
-          -- one that is sent at once isn't pending
-          none : is_sync_sequence d q ≡ true → is_pending q s.pending ≡ false
-          none sync = none_any (is_of q) s.pending (λ p there. not_true (is_of q p) (λ own. let async = h.sound.carries.asked p there in let f = sym sync ∙ ap (is_sync_sequence d) (sym (is_number p.sequence q own)) ∙ async in cc))
+    sequence_begins : (q : ℕ) (call : SequenceCall) → Beside (spi_setting d) (Called (calls.Sequence q call)) below → error_by d (calls.Sequence q call) (is_off s.mode) false ≡ None → Looks (calls.Sequence q call) (sequence_begun d (q % 256) call)
+    sequence_begins q AsyncTransmit lets clear =
+        let facts = clear_sequence (is_off s.mode) (is_wrong_sequence d q AsyncTransmit) errors.SpiUninit errors.SpiParamSeq clear in
+        let kind = neither (is_some (sequence_of d q)) (is_sync_sequence d q) facts.1 in
+        let lt = sequence_small q kind.0 in
+        subst (λ n. Looks (calls.Sequence q AsyncTransmit) (sequence_begun d n AsyncTransmit)) (sym (below_byte q (omega (arith, lt)))) (request_begins d fits below chip w s q lt kind.1 facts.0 clear h)
+    sequence_begins q SyncTransmit lets clear =
+        let facts = clear_sequence (is_off s.mode) (is_wrong_sequence d q SyncTransmit) errors.SpiUninit errors.SpiParamSeq clear in
+        let kind = neither (is_some (sequence_of d q)) (not (is_sync_sequence d q)) facts.1 in
+        let lt = sequence_small q kind.0 in
+        subst (λ n. Looks (calls.Sequence q SyncTransmit) (sequence_begun d n SyncTransmit)) (sym (below_byte q (omega (arith, lt)))) (record {
+          at = begins_at d below chip w s q lt kind.0 (not-false (is_sync_sequence d q) kind.1) facts.0 lets h;
+          closed = refl;
+          fuel = begins_few d fits q kind.0;
+          room = omega arith;
+        })
+    sequence_begins q Cancel lets clear =
+        let facts = clear_sequence (is_off s.mode) (is_wrong_sequence d q Cancel) errors.SpiUninit errors.SpiParamSeq clear in
+        let lt = sequence_small q (neither (is_some (sequence_of d q)) false facts.1).0 in
+        subst (λ n. Looks (calls.Sequence q Cancel) (sequence_begun d n Cancel)) (sym (below_byte q (omega (arith, lt)))) (cancel_begins lt facts.0 (is_sync_sequence d q) refl)
+      where
+        -- one that is sent at once isn't pending
+        none : is_sync_sequence d q ≡ true → is_pending q s.pending ≡ false
+        none sync = none_any (is_of q) s.pending (λ p there. not_true (is_of q p) (λ own. let async = h.sound.carries.asked p there in let f = sym sync ∙ ap (is_sync_sequence d) (sym (is_number p.sequence q own)) ∙ async in cc))
 
-          cancel_begins : q < 8 → is_off s.mode ≡ false → (b : Bool) → is_sync_sequence d q ≡ b → Looks (calls.Sequence q Cancel) (cancel_begun d q b)
-          cancel_begins lt on true sync = record {
-            told = tells_nothing;
-            is = λ times. ap (λ y. Some (acts_by d s (calls.Sequence q Cancel) y)) clear ∙ ap (λ o. Some (cancelled d s o)) (found_none q s.pending (none sync));
-            tells = (refl, refl, refl);
-            reset = asks_no (spi_machine d) (calls.Sequence q Cancel) (Some Act) (Some (outcome s tells_nothing)) refl;
-            polls = refl;
-          }
-          cancel_begins lt on false async = record {
-            at = (h, (q, (Is_this_frame, lt, clear, on), record { async = async; sequence = refl; unit = refl; notes = refl }));
-            closed = refl;
-            fuel = omega arith;
-            room = omega arith;
-          }
+        cancel_begins : q < 8 → is_off s.mode ≡ false → (b : Bool) → is_sync_sequence d q ≡ b → Looks (calls.Sequence q Cancel) (cancel_begun d q b)
+        cancel_begins lt on true sync = record {
+          told = tells_nothing;
+          is = λ times. ap (λ y. Some (acts_by d s (calls.Sequence q Cancel) y)) clear ∙ ap (λ o. Some (cancelled d s o)) (found_none q s.pending (none sync));
+          tells = (refl, refl, refl);
+          reset = asks_no (spi_machine d) (calls.Sequence q Cancel) (Some Act) (Some (outcome s tells_nothing)) refl;
+          polls = refl;
+        }
+        cancel_begins lt on false async = record {
+          at = (h, (q, (Is_this_frame, lt, clear, on), record { async = async; sequence = refl; unit = refl; notes = refl }));
+          closed = refl;
+          fuel = omega arith;
+          room = omega arith;
+        }
 
-      init_begins : below ≡ [] → error_by d calls.Init (is_off s.mode) false ≡ None → Looks calls.Init (begins d calls.Init (mode_word s.mode))
-      init_begins e clear = by below e h
-        where
-          off_of : (off : Bool) → (if not off then Some errors.SpiAlreadyInitialized else None) ≡ None → off ≡ true
-          off_of true f = refl
-          off_of false f = absurd (cc)
+    init_begins : below ≡ [] → error_by d calls.Init (is_off s.mode) false ≡ None → Looks calls.Init (begins d calls.Init (mode_word s.mode))
+    init_begins e clear = by below e h
+      where
+        off_of : (off : Bool) → (if not off then Some errors.SpiAlreadyInitialized else None) ≡ None → off ≡ true
+        off_of true f = refl
+        off_of false f = absurd (cc)
 
-          by : (hs : Reservations) → hs ≡ [] → SpiRepresents d hs chip w s → Decides spi hs chip w s calls.Init (begins d calls.Init (mode_word s.mode))
-          by [] f g = record { at = (g, ((Is_this_frame, refl, refl), off_of (is_off s.mode) clear)); closed = refl; fuel = init_within d fits; room = omega arith }
-          by (x ∷ xs) f g = absurd (cc)
+        by : (hs : Reservations) → hs ≡ [] → SpiRepresents d hs chip w s → Decides (spi d) hs chip w s calls.Init (begins d calls.Init (mode_word s.mode))
+        by [] f g = record { at = (g, ((Is_this_frame, refl, refl), off_of (is_off s.mode) clear)); closed = refl; fuel = init_within d fits; room = omega arith }
+        by (x ∷ xs) f g = absurd (cc)
 
-      -- where nothing is polled it has nothing to do
-      nothing_polled : is_polling s.mode ≡ false → Declines spi w s calls.MainFunctionHandling (record { answer = no_answer; owed = Nothing })
-      nothing_polled e = record {
-        told = tells_nothing;
-        is = λ times. refl;
-        tells = (refl, refl, refl);
-        reset = refl;
-        polls = ap (λ b. if b then 26 ∷ 27 ∷ [] else []) e;
-      }
+    -- where nothing is polled it has nothing to do
+    nothing_polled : is_polling s.mode ≡ false → Declines (spi d) w s calls.MainFunctionHandling (record { answer = no_answer; owed = Nothing })
+    nothing_polled e = record {
+      told = tells_nothing;
+      is = λ times. refl;
+      tells = (refl, refl, refl);
+      reset = refl;
+      polls = ap (λ b. if b then 26 ∷ 27 ∷ [] else []) e;
+    }
 
-      main_begins : (m : Mode) → s.mode ≡ m → Looks calls.MainFunctionHandling (begins d calls.MainFunctionHandling (mode_word m))
-      main_begins Polling e = a.begins_main below chip w s (ap is_polling e) h
-      main_begins Off e = nothing_polled (ap is_polling e)
-      main_begins Interrupt e = nothing_polled (ap is_polling e)
+    mode_begins : (m : Mode) → s.mode ≡ m → Looks calls.MainFunctionHandling (begins d calls.MainFunctionHandling (mode_word m))
+    mode_begins Polling e = main_begins d below chip w s (ap is_polling e) h
+    mode_begins Off e = nothing_polled (ap is_polling e)
+    mode_begins Interrupt e = nothing_polled (ap is_polling e)
 
-      goes_on : (call : Call) → Beside (spi_setting d) (Called call) below → error_by d call (is_off s.mode) false ≡ None → Looks call (begins d call (mode_word s.mode))
-      goes_on calls.Init lets clear = init_begins (whole_begins calls.Init refl lets) clear
-      goes_on calls.DeInit lets clear = record { at = (h, ((Is_this_frame, clear, clear_one (is_off s.mode) errors.SpiUninit clear, whole_begins calls.DeInit refl lets, tt), omega arith, none_before)); closed = refl; fuel = omega arith; room = omega arith }
-      goes_on (calls.SetAsyncMode m) lets clear = record { at = (h, ((Is_this_frame, clear, clear_one (is_off s.mode) errors.SpiUninit clear, whole_begins (calls.SetAsyncMode m) refl lets, refl), omega arith, none_before)); closed = refl; fuel = omega arith; room = omega arith }
-      goes_on calls.MainFunctionHandling lets clear = main_begins s.mode refl
-      goes_on (calls.Channel c call) lets clear = on_channel c call lets clear
-      goes_on (calls.Sequence q call) lets clear = sequence_begins q call lets clear
-      goes_on (calls.Get x) lets clear = query_begins x lets clear s.mode refl
+    goes_on : (call : Call) → Beside (spi_setting d) (Called call) below → error_by d call (is_off s.mode) false ≡ None → Looks call (begins d call (mode_word s.mode))
+    goes_on calls.Init lets clear = init_begins (whole_begins calls.Init refl lets) clear
+    goes_on calls.DeInit lets clear = record { at = (h, ((Is_this_frame, clear, clear_one (is_off s.mode) errors.SpiUninit clear, whole_begins calls.DeInit refl lets, tt), omega arith, none_before)); closed = refl; fuel = omega arith; room = omega arith }
+    goes_on (calls.SetAsyncMode m) lets clear = record { at = (h, ((Is_this_frame, clear, clear_one (is_off s.mode) errors.SpiUninit clear, whole_begins (calls.SetAsyncMode m) refl lets, refl), omega arith, none_before)); closed = refl; fuel = omega arith; room = omega arith }
+    goes_on calls.MainFunctionHandling lets clear = mode_begins s.mode refl
+    goes_on (calls.Channel c call) lets clear = on_channel c call lets clear
+    goes_on (calls.Sequence q call) lets clear = sequence_begins q call lets clear
+    goes_on (calls.Get x) lets clear = query_begins x lets clear s.mode refl
 
-      look_by : (call : Call) → Beside (spi_setting d) (Called call) below → (e : Option ErrorName) → error_by d call (is_off s.mode) false ≡ e → Looks call (looked_by (record { call = call; table = d }) (mode_word s.mode) e)
-      look_by call lets None e = goes_on call lets e
-      look_by call lets (Some x) e = declines call x e
+    look_by : (call : Call) → Beside (spi_setting d) (Called call) below → (e : Option ErrorName) → error_by d call (is_off s.mode) false ≡ e → Looks call (looked_by (record { call = call; table = d }) (mode_word s.mode) e)
+    look_by call lets None e = goes_on call lets e
+    look_by call lets (Some x) e = declines call x e
 
-      -- the state word says whether the module is initialised
-      off_word : (m : Mode) → (mode_word m == 0) ≡ is_off m
-      off_word Off = refl
-      off_word _ = refl
+    -- the state word says whether the module is initialised
+    off_word : (m : Mode) → (mode_word m == 0) ≡ is_off m
+    off_word Off = refl
+    off_word _ = refl
 
-      looks : (call : Call) → Beside (spi_setting d) (Called call) below → Looks call (spi_looked (record { call = call; table = d }) (word_of chip STATE))
-      looks call lets =
-          subst (λ v. Looks call (spi_looked (record { call = call; table = d }) v)) (sym h.words.state)
-          (subst (λ off. Looks call (looked_by (record { call = call; table = d }) (mode_word s.mode) (error_by d call off false))) (sym (off_word s.mode)) (look_by call lets (error_by d call (is_off s.mode) false) refl))
+    looks : (call : Call) → Beside (spi_setting d) (Called call) below → Looks call (spi_looked (record { call = call; table = d }) (word_of chip STATE))
+    looks call lets =
+        subst (λ v. Looks call (spi_looked (record { call = call; table = d }) v)) (sym h.words.state)
+        (subst (λ off. Looks call (looked_by (record { call = call; table = d }) (mode_word s.mode) (error_by d call off false))) (sym (off_word s.mode)) (look_by call lets (error_by d call (is_off s.mode) false) refl))
 
   -- ---- the laws
 
-  module _ (fits : FitsSpi d) (a : AreRight) where
-    bodies_right : AreEnding (spi_basis d) (both firsts lasts) spi_ends
+  module _ (fits : FitsSpi d) where
+    bodies_right : AreEnding (spi_basis d) (spi d).bodies spi_ends
     bodies_right =
         let g = spi_basis d in
         let first = both_right g (both (init_bodies d) (whole_bodies d)) (query_bodies d) (both_right g (init_bodies d) (whole_bodies d) (init_right d fits) (whole_right d fits)) (query_right d fits) in
         let kept = both_ending g (write_bodies d) (read_bodies d) (λ k. spi_ends (Second (First (Second k)))) (write_right d fits) (read_right d fits) in
         let of_channel = both_ending g (set_up_bodies d) (both (write_bodies d) (read_bodies d)) (λ k. spi_ends (Second (First k))) (set_up_right d fits) kept in
-        let of_sequence = both_right g unit_bodies (both (cancel_bodies d) sync_bodies) a.units (both_right g (cancel_bodies d) sync_bodies (cancel_right d fits) a.sends.right) in
-        both_ending g firsts lasts spi_ends first (both_ending g (both (set_up_bodies d) (both (write_bodies d) (read_bodies d))) (both unit_bodies (both (cancel_bodies d) sync_bodies)) (λ k. spi_ends (Second k)) of_channel of_sequence)
+        let of_sequence = both_right g (unit_bodies d) (both (cancel_bodies d) (sync_bodies d)) (units_right d fits) (both_right g (cancel_bodies d) (sync_bodies d) (cancel_right d fits) (sync_right d fits (windows_are_right d fits))) in
+        both_ending g (firsts d) (lasts d) spi_ends first (both_ending g (both (set_up_bodies d) (both (write_bodies d) (read_bodies d))) (both (unit_bodies d) (both (cancel_bodies d) (sync_bodies d))) (λ k. spi_ends (Second k)) of_channel of_sequence)
 
     -- it reads no high half, and sets no output
     no_windows : (made : Move) → may_name d made ≡ true → is_windowed made ≡ is_wait made
-    no_windows (Read (TimerHigh c)) e = absurd (cc)
-    no_windows (Read (CaptureCountHigh c)) e = absurd (cc)
-    no_windows (Read (CaptureTimeHigh c)) e = absurd (cc)
-    no_windows (Write (PulseCommit c) v) e = absurd (cc)
-    no_windows (Write (PulseIdle c) v) e = absurd (cc)
-    no_windows _ e = refl
+    no_windows (Read (TimerHigh c)) e = cc
+    no_windows (Write (PulseCommit c) v) e = cc
+    no_windows _ e = cc
 
     none_windowed : (made : Move) → FrameMoves d made → is_windowed made ≡ is_wait made
     none_windowed made (inl (u, is, there)) = subst (λ m. is_windowed m ≡ is_wait m) (sym is) refl
     none_windowed made (inr e) = no_windows made (and_parts (may_name d made) (names_there made) e).0
 
     -- and it waits with the mask open
-    waits_open : (k : SpiBody) → is_wait ((both firsts lasts).work_of k) ≡ true → is_closed ((both firsts lasts).assertion k) ≡ false
+    waits_open : (k : SpiBody) → is_wait ((spi d).bodies.work_of k) ≡ true → is_closed ((spi d).bodies.assertion k) ≡ false
     waits_open (First (First (First k))) e = never _ (init_once k) e
     waits_open (First (First (Second k))) e = never _ (whole_once k) e
     waits_open (First (Second k)) e = never _ (query_once k) e
     waits_open (Second (First (First k))) e = never _ (set_up_once k) e
     waits_open (Second (First (Second (First k)))) e = never _ (write_once k) e
     waits_open (Second (First (Second (Second k)))) e = never _ (read_once k) e
-    waits_open (Second (Second (First k))) e = never _ (a.at_once k) e
+    waits_open (Second (Second (First k))) e = never _ (unit_once k) e
     waits_open (Second (Second (Second (First k)))) e = never _ (cancel_once k) e
-    waits_open (Second (Second (Second (Second k)))) e = a.sends.opens k e
+    waits_open (Second (Second (Second (Second k)))) e = sync_opens d fits (windows_are_right d fits) k e
 
     handled : (line : ℕ) (q : Bool) → is_some (handled_by d line q) ≡ q
     handled line true = refl
@@ -542,45 +423,45 @@ module _ (d : SpiTable) (unit_bodies : LongBodies (spi_basis d) UnitBody) (sync_
 
     -- no frame leaves a unit waiting whose line it has served
     abbrev Leaves : World → Chip → SpiState → SpiBody → Origin Call → ℕ → FrameHistory → Done → Type 0
-    Leaves w chip s k o y t n = LeavesBy d w s o t ((both firsts lasts).work_of k) y ((both firsts lasts).takes k (value_of chip ((both firsts lasts).work_of k))).1.event n
+    Leaves w chip s k o y t n = LeavesBy d w s o t ((spi d).bodies.work_of k) y ((spi d).bodies.takes k (value_of chip ((spi d).bodies.work_of k))).1.event n
 
     unpolled : (w : World) (chip : Chip) (s : SpiState) (k : SpiBody) (o : Origin Call) (y : ℕ) (t : FrameHistory) (n : Done) → PollsNone o t.polled → Leaves w chip s k o y t n
-    unpolled w chip s k o y t n none = leaves_unpolled d w s o t ((both firsts lasts).work_of k) y ((both firsts lasts).takes k (value_of chip ((both firsts lasts).work_of k))).1.event n none
+    unpolled w chip s k o y t n none = leaves_unpolled d w s o t ((spi d).bodies.work_of k) y ((spi d).bodies.takes k (value_of chip ((spi d).bodies.work_of k))).1.event n none
 
-    done : (below : Reservations) (chip : Chip) (w : World) (s : SpiState) (k : SpiBody) (o : Origin Call) (y : ℕ) (t : FrameHistory) (n : Done) → AssertedAt (spi_basis d) (both firsts lasts) below chip w s k o t → ((both firsts lasts).takes k (value_of chip ((both firsts lasts).work_of k))).1.done ≡ Some n → Leaves w chip s k o y t n
+    done : (below : Reservations) (chip : Chip) (w : World) (s : SpiState) (k : SpiBody) (o : Origin Call) (y : ℕ) (t : FrameHistory) (n : Done) → AssertedAt (spi_basis d) (spi d).bodies below chip w s k o t → ((spi d).bodies.takes k (value_of chip ((spi d).bodies.work_of k))).1.done ≡ Some n → Leaves w chip s k o y t n
     done below chip w s (First (First (First k))) o y t n h e = unpolled w chip s (First (First (First k))) o y t n (init_unpolled d below chip w s o t k h)
     done below chip w s (First (First (Second k))) o y t n h e = unpolled w chip s (First (First (Second k))) o y t n (whole_unpolled d below chip w s o t k h)
     done below chip w s (First (Second k)) o y t n h e = unpolled w chip s (First (Second k)) o y t n (query_unpolled d below chip w s o t k h)
     done below chip w s (Second (First (First k))) o y t n h e = unpolled w chip s (Second (First (First k))) o y t n (set_up_unpolled d below chip w s o t k h)
     done below chip w s (Second (First (Second (First k)))) o y t n h e = unpolled w chip s (Second (First (Second (First k)))) o y t n (write_unpolled d below chip w s o t k h)
     done below chip w s (Second (First (Second (Second k)))) o y t n h e = unpolled w chip s (Second (First (Second (Second k)))) o y t n (read_unpolled d below chip w s o t k h)
-    done below chip w s (Second (Second (First k))) o y t n h e = a.leaves below chip w s k o y t n h e
+    done below chip w s (Second (Second (First k))) o y t n h e = units_left d fits below chip w s o t y n k h e
     done below chip w s (Second (Second (Second (First k)))) o y t n h e = unpolled w chip s (Second (Second (Second (First k)))) o y t n (cancel_unpolled d below chip w s o t k h)
-    done below chip w s (Second (Second (Second (Second k)))) o y t n h e = unpolled w chip s (Second (Second (Second (Second k)))) o y t n (a.sends.unpolled below chip w s o t k h)
+    done below chip w s (Second (Second (Second (Second k)))) o y t n h e = unpolled w chip s (Second (Second (Second (Second k)))) o y t n (sync_unpolled d below chip w s o t fits k h)
 
     -- a read alone ends its frame itself
-    stops : (below : Reservations) (chip : Chip) (w : World) (s : SpiState) (k : SpiBody) (o : Origin Call) (t : FrameHistory) (x : Answer) → AssertedAt (spi_basis d) (both firsts lasts) below chip w s k o t → ended_at (both firsts lasts) spi_ends k (value_of chip ((both firsts lasts).work_of k)) ≡ Some x → LeavesNone (spi_machine d) w s o t.polled t.served
+    stops : (below : Reservations) (chip : Chip) (w : World) (s : SpiState) (k : SpiBody) (o : Origin Call) (t : FrameHistory) (x : Answer) → AssertedAt (spi_basis d) (spi d).bodies below chip w s k o t → ended_at (spi d).bodies spi_ends k (value_of chip ((spi d).bodies.work_of k)) ≡ Some x → LeavesNone (spi_machine d) w s o t.polled t.served
     stops below chip w s (Second (First (Second (Second k)))) o t x h e = unpolled_left d w s o t.polled t.served (read_unpolled d below chip w s o t k h)
     stops below chip w s _ o t x h e = absurd (cc)
 
-    pub spi_right : AreEndingServices spi spi_ends
+    pub spi_right : AreEndingServices (spi d) spi_ends
     spi_right = record {
       basis = basis_right d fits;
       bodies = bodies_right;
-      windows = waiting_windows spi bodies_right (λ k. refl) (λ o made m. none_windowed made (frame_moves d o made m)) waits_open;
+      windows = waiting_windows (spi d) bodies_right (λ k. refl) (λ o made m. none_windowed made (frame_moves d o made m)) waits_open;
       unseen = λ below chip w s k call at. tt;
-      writes = no_duties spi (λ k call writes. tt) (λ call. refl);
+      writes = no_duties (spi d) (λ k call writes. tt) (λ call. refl);
       starts = record { later = λ w s order rate line e. lets_none d w s order rate line e; done = done; stops = stops };
-      looks = λ below chip w s call can lets h. looks fits below chip w s h a call lets;
+      looks = λ below chip w s call can lets h. looks fits below chip w s h call lets;
       own_word = λ o. may_store d fits STATE 0 (own_first d STATE (omega arith) (omega arith));
       word_there = omega arith;
       handled = λ line. handled line (is_used d line);
-      enters = a.enters;
+      enters = handlers d (λ line k. CanBegin (spi d) k (Entered line)) (handler_begins d);
       call_steps = λ call can. call_steps call;
       call_window = λ call can. omega arith;
-      line_steps = a.line_steps;
+      line_steps = handlers d (λ line k. 6 + (spi d).bodies.fuel k ≤ 144) (λ u lt async. omega arith);
     }
 
     -- whatever runs above them, the frames of the driver are right at each step
-    pub lawful : IsLawful (services_driver spi) (short_move STATE (both firsts lasts).work_of) (short_left spi_looked (both firsts lasts).takes) (ending_gave spi_looked (both firsts lasts).takes spi_ends)
-    lawful = services_lawful spi spi_right
+    pub lawful : IsLawful (services_driver (spi d)) (short_move STATE (spi d).bodies.work_of) (short_left spi_looked (spi d).bodies.takes) (ending_gave spi_looked (spi d).bodies.takes spi_ends)
+    lawful = services_lawful (spi d) spi_right

@@ -1,28 +1,25 @@
 -- A frame of units that is done leaves no unit waiting whose line it has served.
--- From services.UnitFrames, spi_sequences: services.UnitSteps, services.UnitParts and 9 more.
--- Used by services.UnitBegins.
+-- From services.UnitFrames, spi_sequences: services.UnitSteps, bookkeeping.PendingWritesRight and 6 more.
+-- Used by bookkeeping.Lawful.
 use Rattle.std.proofs.Common.{◌≡◌, ◌+◌, ◌/◌, ◌%◌, ◌<◌, ◌==◌, ◌&&◌, [], ◌∷◌, ◌∙◌, if◌then◌else◌}
 use Rattle.spi_driver.specs.Terms
-use Terms.{Act, after_request, after_serve, after_start, agrees_after, and_false, ap, arith, AssertedAt}
-use Terms.{AsyncTransmit, BodyTaken, Bool, brought_by, by_two, Call, Called, Chip, chip_after, CommitsTo, Done}
-use Terms.{Either, Entered, false, find_gave, FitsSpi, FrameHistory, FrameRole, Front, front_move, gap_at, Handler}
-use Terms.{happening_at, has_line, held_by, holds_at, is_left_waiting, is_owed, is_shared, is_sync_unit, Leaves}
-use Terms.{LeavesNone, List, list_all, Load, Main, main_over, Move, no_answer, None, not, Nothing, Notice, Option}
-use Terms.{Origin, outcome_of, PendingWrites, place_at, polled_by, ReceivedRight, refl, request_takes, Requested}
-use Terms.{requested_by, RequestPlace, Reservations, Rest, run_in, Running, same_number, search_move, serve_ahead}
-use Terms.{serve_finds, serve_owes, serve_run, serve_takes, ServePlace, ServeStep, Some, spi_bare, spi_basis}
-use Terms.{spi_machine, spi_owing, SpiRepresents, SpiState, SpiTable, spot_or, start_finds, start_move, start_owes}
-use Terms.{start_takes, Started, StartPlace, STATE, state_by, subst, suc, sym, Transmit, true, unit_acts, unit_over}
-use Terms.{unit_owes, unit_takes, unit_work, UnitBody, UnitPlace, Units, value_of, waits_none, where_owed, with_holds}
-use Terms.{World, zero, ℕ}
+use Terms.{Act, after_request, after_serve, after_start, and_false, ap, arith, AssertedAt, AsyncTransmit, BodyTaken}
+use Terms.{Bool, brought_by, by_two, Call, Called, Chip, chip_after, CommitsTo, Done, Either, Entered, false}
+use Terms.{find_gave, FitsSpi, FrameHistory, FrameRole, Handler, happening_at, has_line, held_by, is_left_waiting}
+use Terms.{is_owed, is_sync_unit, Leaves, LeavesNone, List, list_all, Load, Main, main_over, Move, no_answer, None}
+use Terms.{not, Nothing, Notice, Option, Origin, outcome_of, PendingWrites, polled_by, refl, request_takes, Requested}
+use Terms.{requested_by, RequestPlace, Reservations, Rest, run_in, Running, same_number, serve_ahead, serve_finds}
+use Terms.{serve_owes, serve_run, serve_takes, ServePlace, ServeStep, Some, spi_basis, spi_machine, spi_owing}
+use Terms.{SpiRepresents, SpiState, SpiTable, start_move, start_owes, start_place, start_right, start_takes, Started}
+use Terms.{StartLeaves, StartPlace, STATE, state_by, subst, suc, sym, Transmit, true, unit_acts, unit_over, unit_owes}
+use Terms.{unit_takes, unit_work, UnitBody, UnitPlace, Units, value_of, waits_none, where_owed, with_holds, World}
+use Terms.{zero, ℕ}
 use Rattle.spi_driver.specs.laws.services.UnitFrames.{Frame, Handles, HasDone, IsFor, Mains, RequestAt, Rests}
 use Rattle.spi_driver.specs.laws.services.UnitFrames.{Transmits, ahead_holds, ahead_owing, at, holds_by, served_ahead}
-use Rattle.spi_driver.specs.laws.services.UnitFrames.{unit_bodies, unit_spot_at, unit_windows, with_cleared, with_debt}
-use Rattle.spi_driver.specs.laws.bookkeeping.PendingWritesRight.{RequestOn, ServeOn, request_on, serve_on}
-use Rattle.spi_driver.specs.laws.services.UnitParts.{IsServing, IsStarting, Serving, StartLeaves, Starting, foot}
-use Rattle.spi_driver.specs.laws.services.UnitRight.{front_plain}
+use Rattle.spi_driver.specs.laws.services.UnitFrames.{unit_bodies, with_cleared, with_debt, StandBy, by_transmit}
+use Rattle.spi_driver.specs.laws.{services.UnitFrames.{foot}, bookkeeping.PendingWritesRight.{RequestOn, ServeOn}}
+use Rattle.spi_driver.specs.laws.bookkeeping.PendingWritesRight.{request_on, serve_on}
 use Rattle.spi_driver.specs.laws.bookkeeping.UnpolledFrames.{LeavesBy, PollsNone, Polls_none, leaves_unpolled}
-use Rattle.word_shapes.specs.declared.search.Search.TheVariants as search
 use Rattle.spi_machine.specs.declared.call.Call.TheVariants as calls
 use Rattle.spi_sequences.specs.declared.service.request.RequestPlace.TheVariants as request
 use Rattle.spi_sequences.specs.declared.service.request.Requested.TheVariants as requested
@@ -53,7 +50,7 @@ reached d (suc n) x chip Then h = by (λ z c k. reached d n z c Then k) ((spi_ow
     by more None h = (later, h)
     by more (Some z) h = more z later h
 
-module _ (a : Starting) (b : Serving) (d : SpiTable) (fits : FitsSpi d) where
+module _ (d : SpiTable) (fits : FitsSpi d) where
   -- no unit waits to which no start is owed
   idle : (held : Reservations) (chip : Chip) (w : World) (s : SpiState) (u : ℕ) → SpiRepresents d held chip w s → u < 2 → is_owed u held ≡ false → (spi_machine d).line_waits w s (26 + u) ≡ false
   idle held chip w s u h lt none = by_two (λ n. is_owed n held ≡ false → (spi_machine d).line_waits w s (26 + n) ≡ false) (λ f. waits_none d fits held chip w s 0 (omega arith) f h) (λ f. waits_none d fits held chip w s 1 (omega arith) f h) u lt none
@@ -82,6 +79,11 @@ module _ (a : Starting) (b : Serving) (d : SpiTable) (fits : FitsSpi d) where
     main_left : (t : FrameHistory) {x : Done} → Some x ≡ Some n → t.polled ≡ 26 ∷ 27 ∷ [] → is_left_waiting (spi_machine d) w s t.served 26 ≡ false → is_left_waiting (spi_machine d) w s t.served 27 ≡ false → x.owed ≡ Nothing → LeavesBy d w s o_main t made y None n
     main_left t {x} is polled first second none = over_left o_main t is (subst (λ z. Leaves (spi_machine d) w s o_main t.polled t.served z) (sym none) (none_of (is_left_waiting (spi_machine d) w s t.served) t.polled polled first second))
 
+    -- after the first unit it is done with only where it polls no second one
+    ends_both : (z : Bool) (k : UnitBody) (q : UnitPlace) (t : FrameHistory) → ((main_over k q true).1.done ≡ Some n → LeavesBy d w s o_main t made y (main_over k q true).1.event n) → (main_over k q z).1.done ≡ Some n → LeavesBy d w s o_main t made y (main_over k q z).1.event n
+    ends_both true k q t last is = last is
+    ends_both false k q t last is = absurd (cc)
+
     -- where it has cleared the unit
     cleared_left : (x : SpiTable) (e : FrameRole) (u : ℕ) (k : UnitBody) (q : UnitPlace) (below : Reservations) (o : Origin Call) (t : FrameHistory) → Frame d x e u o → HasDone d e u true [] t → SpiRepresents d (with_holds o t.acted (with_cleared e u) below) chip w s → Left o t (unit_over k q e u).1
     cleared_left x e u k q below o t frame done h is = cleared_by_role e u o frame.of frame.small done h is
@@ -89,11 +91,7 @@ module _ (a : Starting) (b : Serving) (d : SpiTable) (fits : FitsSpi d) where
         cleared_by_role : (e : FrameRole) (u : ℕ) (o : Origin Call) → IsFor u e o → u < 2 → HasDone d e u true [] t → SpiRepresents d (with_holds o t.acted (with_cleared e u) below) chip w s → Left o t (unit_over k q e u).1
         cleared_by_role (Transmit i) u _ (Transmits _) lt done h is = over_left (Called (calls.Sequence i AsyncTransmit)) t is (ap (list_all (λ l. not (is_left_waiting (spi_machine d) w s t.served l))) done.polled)
         cleared_by_role Handler u _ Handles lt done h is = over_left (Entered (26 + u)) t is (unit_left t.served (26 + u) (idle _ chip w s u h lt (ap (λ q. not q && is_owed u below) (same_number u))))
-        cleared_by_role Main zero _ Mains lt done h is = last (is_sync_unit k.table 1) is
-          where
-            last : (z : Bool) → (main_over k q z).1.done ≡ Some n → LeavesBy d w s o_main t made y (main_over k q z).1.event n
-            last true is = main_left t is done.polled (unit_left t.served 26 (idle _ chip w s 0 h (omega arith) refl)) (unserved_left t.served 27 done.progress.1) refl
-            last false is = absurd (cc)
+        cleared_by_role Main zero _ Mains lt done h is = ends_both (is_sync_unit k.table 1) k q t (λ is. main_left t is done.polled (unit_left t.served 26 (idle _ chip w s 0 h (omega arith) refl)) (unserved_left t.served 27 done.progress.1) refl) is
         cleared_by_role Main (suc zero) _ Mains lt done h is = main_left t is done.polled (unserved_left t.served 26 done.progress.2) (unit_left t.served 27 (idle _ chip w s 1 h (omega arith) refl)) refl
         cleared_by_role Main (suc (suc u)) _ Mains lt done h is = absurd (omega (arith, lt))
         cleared_by_role Rest zero _ Rests lt done h is = absurd done.progress
@@ -107,27 +105,23 @@ module _ (a : Starting) (b : Serving) (d : SpiTable) (fits : FitsSpi d) where
         missed_by_role : (e : FrameRole) (u : ℕ) (o : Origin Call) → IsFor u e o → u < 2 → HasDone d e u false [] t → SpiRepresents d (with_holds o t.acted (holds_by e) below) chip w s → Left o t (unit_over k q e u).1
         missed_by_role (Transmit i) u _ (Transmits _) lt done h is = absurd done.progress
         missed_by_role Handler u _ Handles lt done h is = over_left (Entered (26 + u)) t is (unserved_left t.served (26 + u) (ap (λ ls. has_line ls (26 + u)) done.progress))
-        missed_by_role Main zero _ Mains lt done h is = last (is_sync_unit k.table 1) is
-          where
-            last : (z : Bool) → (main_over k q z).1.done ≡ Some n → LeavesBy d w s o_main t made y (main_over k q z).1.event n
-            last true is = main_left t is done.polled (unserved_left t.served 26 (ap (λ ls. has_line ls 26) done.progress.0)) (unserved_left t.served 27 (ap (λ ls. has_line ls 27) done.progress.0)) refl
-            last false is = absurd (cc)
+        missed_by_role Main zero _ Mains lt done h is = ends_both (is_sync_unit k.table 1) k q t (λ is. main_left t is done.polled (unserved_left t.served 26 (ap (λ ls. has_line ls 26) done.progress.0)) (unserved_left t.served 27 (ap (λ ls. has_line ls 27) done.progress.0)) refl) is
         missed_by_role Main (suc u) _ Mains lt done h is = main_left t is done.polled (unserved_left t.served 26 (ap (λ ls. has_line ls 26) done.progress.1)) (unserved_left t.served 27 (ap (λ ls. has_line ls 27) done.progress.1)) refl
         missed_by_role Rest zero _ Rests lt done h is = absurd done.progress
         missed_by_role Rest (suc u) _ Rests lt done h is = main_left t is done.polled (unit_left t.served 26 (idle _ chip w s 0 h (omega arith) refl)) (unserved_left t.served 27 done.progress.1) refl
 
   -- ---- at each place
 
-  module _ (starting : IsStarting d a) (serving : IsServing d b) (below : Reservations) (chip : Chip) (w : World) (s : SpiState) (o : Origin Call) (t : FrameHistory) (y : ℕ) (n : Done) where
-    -- what a frame leaves at a place, by what it owes there
-    abbrev StandBy : UnitBody → Option PendingWrites → Type 0
-    StandBy k q = let x = spot_or (unit_windows a b d) q (unit_spot_at a b d k.table k.errand k.unit k.place) in agrees_after (spi_bare d) (spi_owing d) (with_holds o t.acted (holds_at x) below) (gap_at x) chip w s × place_at x below (foot d chip) w s o t
+  module _ (below : Reservations) (chip : Chip) (w : World) (s : SpiState) (o : Origin Call) (t : FrameHistory) (y : ℕ) (n : Done) where
+    abbrev Stood : UnitBody → Option PendingWrites → Type 0
+    Stood k q = StandBy d below chip w s k o t q
 
+    -- what a frame leaves at a place
     abbrev LeftAt : UnitBody → BodyTaken → Type 0
     LeftAt k r = Left chip w s (unit_work k) y n o t r
 
     -- it owes moves, of which the last one is made
-    owed_left : (x : SpiTable) (e : FrameRole) (u : ℕ) (p : UnitPlace) → unit_owes p ≡ true → StandBy (at x e u p) (Some (Units (at x e u p))) → LeftAt (at x e u p) (unit_takes (at x e u p) (value_of chip (unit_work (at x e u p)))).1
+    owed_left : (x : SpiTable) (e : FrameRole) (u : ℕ) (p : UnitPlace) → unit_owes p ≡ true → Stood (at x e u p) (Some (Units (at x e u p))) → LeftAt (at x e u p) (unit_takes (at x e u p) (value_of chip (unit_work (at x e u p)))).1
     owed_left x e u (place.Request r) i h = by (request_takes x (requested_by e) r v) (request_on x (requested_by e) r v i)
       where
         v : ℕ
@@ -163,34 +157,29 @@ module _ (a : Starting) (b : Serving) (d : SpiTable) (fits : FitsSpi d) where
         by (r1, steps.Goes z) k is = absurd (cc)
         by (r1, steps.JobOver z) k is = absurd (cc)
         by (r1, steps.Over) k is = let last = subst Here k.0 here in cleared_left last.1.0 w s (unit_work (at x e u (place.Serve r))) y n x e u (at x e u (place.Serve r)) (place.Serve r1) below o t frame last.0 last.1.1 is
-    owed_left x e u place.Act i h = absurd (cc)
-    owed_left x e u (place.Opens z) i h = absurd (cc)
-    owed_left x e u (place.Tell z k) i h = absurd (cc)
+    owed_left x e u _ i h = absurd (cc)
 
     -- a request that is refused has polled nothing
     request_left : (x : SpiTable) (e : FrameRole) (u : ℕ) (r : RequestPlace) → IsFor u e o → RequestAt d e u r s t → LeftAt (at x e u (place.Request r)) (unit_takes (at x e u (place.Request r)) (value_of chip (unit_work (at x e u (place.Request r))))).1
     request_left x e u r for asked = by (request_takes x (requested_by e) r (value_of chip (unit_work (at x e u (place.Request r)))))
       where
-        none : (e : FrameRole) (o : Origin Call) → IsFor u e o → RequestAt d e u r s t → PollsNone o t.polled
-        none (Transmit q) _ (Transmits _) asked = unpolled r asked
-          where
-            unpolled : (r : RequestPlace) → RequestAt d (Transmit q) u r s t → PollsNone (Called (calls.Sequence q AsyncTransmit)) t.polled
-            unpolled (request.Look k) (i, now, lt, others) = subst (λ (p : FrameHistory). PollsNone (Called (calls.Sequence q AsyncTransmit)) p.polled) (sym now) (Polls_none (calls.Sequence q AsyncTransmit) (λ z. refl))
-            unpolled request.Accept (i, now, others) = subst (λ (p : FrameHistory). PollsNone (Called (calls.Sequence q AsyncTransmit)) p.polled) (sym now) (Polls_none (calls.Sequence q AsyncTransmit) (λ z. refl))
-            unpolled _ asked = absurd asked
-        none Handler _ Handles asked = absurd asked
-        none Main _ Mains asked = absurd asked
-        none Rest _ Rests asked = absurd asked
+        unpolled : (q : ℕ) (r : RequestPlace) → RequestAt d (Transmit q) u r s t → PollsNone (Called (calls.Sequence q AsyncTransmit)) t.polled
+        unpolled q (request.Look k) (i, now, lt, others) = subst (λ (p : FrameHistory). PollsNone (Called (calls.Sequence q AsyncTransmit)) p.polled) (sym now) (Polls_none (calls.Sequence q AsyncTransmit) (λ z. refl))
+        unpolled q request.Accept (i, now, others) = subst (λ (p : FrameHistory). PollsNone (Called (calls.Sequence q AsyncTransmit)) p.polled) (sym now) (Polls_none (calls.Sequence q AsyncTransmit) (λ z. refl))
+        unpolled q _ asked = absurd asked
+
+        none : PollsNone o t.polled
+        none = by_transmit d u r s t (λ e o. PollsNone o t.polled) (λ q asked. unpolled q r asked) e o for asked
 
         by : (z : RequestPlace × Requested) → LeftAt (at x e u (place.Request r)) (after_request (at x e u (place.Request r)) z).1
         by (r1, requested.Goes z) is = absurd (cc)
-        by (r1, requested.Held) is = leaves_unpolled d w s o t (unit_work (at x e u (place.Request r))) y (held_by x).event n (none e o for asked)
+        by (r1, requested.Held) is = leaves_unpolled d w s o t (unit_work (at x e u (place.Request r))) y (held_by x).event n none
         by (r1, requested.Accepted) is = absurd (cc)
 
     -- a start that finds the unit busy, or no sequence that waits
-    start_left : (e : FrameRole) (u : ℕ) (p : StartPlace) → start_owes p ≡ false → is_shared (start_move d u p) ≡ false → ReceivedRight chip w (start_move d u p) 0 → Frame d d e u o → HasDone d e u true [] t → SpiRepresents d (with_holds o t.acted (with_debt e u) below) chip w s → a.place d u p (foot d chip) s
+    start_left : (e : FrameRole) (u : ℕ) (p : StartPlace) → start_owes p ≡ false → Frame d d e u o → HasDone d e u true [] t → SpiRepresents d (with_holds o t.acted (with_debt e u) below) chip w s → start_place d u p (foot d chip) s
         → LeftAt (at d e u (place.Start p)) (unit_takes (at d e u (place.Start p)) (value_of chip (start_move d u p))).1
-    start_left e u p free plain come frame done h here = by (start_takes d u p v) (starting.right u e held o t.acted chip w s p 0 free plain h here come)
+    start_left e u p free frame done h here = by (start_takes d u p v) (start_right d fits e held o t.acted chip w s u h 0 p free here)
       where
         v : ℕ
         v = value_of chip (start_move d u p)
@@ -201,29 +190,20 @@ module _ (a : Starting) (b : Serving) (d : SpiTable) (fits : FitsSpi d) where
         later : Chip
         later = chip_after chip (start_move d u p) 0
 
-        by : (z : StartPlace × Started) → StartLeaves a d e held o t.acted u chip later w s (start_move d u p) 0 z → LeftAt (at d e u (place.Start p)) (after_start (at d e u (place.Start p)) z).1
+        by : (z : StartPlace × Started) → StartLeaves d e held o t.acted u chip later w s (start_move d u p) 0 z → LeftAt (at d e u (place.Start p)) (after_start (at d e u (place.Start p)) z).1
         by (r1, started.Goes z) k is = absurd (cc)
         by (r1, started.Over) k is = cleared_left later w s (start_move d u p) y n d e u (at d e u (place.Start p)) (place.Start r1) below o t frame done k is
-
-    front_received : (f : Front) → ReceivedRight chip w (front_move f) 0
-    front_received f =
-        elim f.search as (λ z. ReceivedRight chip w (search_move z) 0)
-        [ search.Tally at ↦ refl | _ ↦ refl ]
 
     abbrev LeftX : SpiTable → FrameRole → ℕ → UnitPlace → Type 0
     LeftX x e u p = LeftAt (at x e u p) (unit_takes (at x e u p) (value_of chip (unit_work (at x e u p)))).1
 
-    free_start : (x : SpiTable) (e : FrameRole) (u : ℕ) (p : StartPlace) → start_owes p ≡ false → StandBy (at x e u (place.Start p)) None → LeftX x e u (place.Start p)
-    free_start x e u start.Running i (h, (here, frame, done)) = subst (λ z. LeftX z e u (place.Start start.Running)) (sym frame.table) (start_left e u start.Running refl refl refl (record { table = refl; small = frame.small; async = frame.async; of = frame.of }) done h here)
-    free_start x e u (start.Front v m f) i (h, (here, frame, done)) = subst (λ z. LeftX z e u (place.Start (start.Front v m f))) (sym frame.table) (start_left e u (start.Front v m f) refl (front_plain f) (front_received f) (record { table = refl; small = frame.small; async = frame.async; of = frame.of }) done h here)
-    free_start x e u (start.Find c f) i h = by (find_gave f (value_of chip (start_move x u (start.Find c f))))
-      where
-        by : (q : Option ℕ) → LeftAt (at x e u (place.Start (start.Find c f))) (after_start (at x e u (place.Start (start.Find c f))) (start_finds c f (value_of chip (start_move x u (start.Find c f))) q)).1
-        by None is = absurd (cc)
-        by (Some z) is = absurd (cc)
-    free_start x e u _ i h = λ is. absurd (cc)
+    free_start : (x : SpiTable) (e : FrameRole) (u : ℕ) (p : StartPlace) → start_owes p ≡ false → Stood (at x e u (place.Start p)) None → LeftX x e u (place.Start p)
+    free_start x e u start.Shut i h = λ is. absurd (cc)
+    free_start x e u p i h =
+        subst (λ z. LeftX z e u (place.Start p)) (sym h.1.1.table)
+        (start_left e u p i (record { table = refl; small = h.1.1.small; async = h.1.1.async; of = h.1.1.of }) h.1.2 h.0 h.1.0)
 
-    free_serve : (x : SpiTable) (e : FrameRole) (u : ℕ) (p : ServePlace) → serve_owes p ≡ false → StandBy (at x e u (place.Serve p)) None → LeftX x e u (place.Serve p)
+    free_serve : (x : SpiTable) (e : FrameRole) (u : ℕ) (p : ServePlace) → serve_owes p ≡ false → Stood (at x e u (place.Serve p)) None → LeftX x e u (place.Serve p)
     free_serve x e u serve.State i (h, (here, frame, done)) = by (v / 2 % 2 == 0)
       where
         v : ℕ
@@ -237,14 +217,12 @@ module _ (a : Starting) (b : Serving) (d : SpiTable) (fits : FitsSpi d) where
         by : (z : Option Running) → LeftAt (at x e u (place.Serve (serve.Running q))) (after_serve (at x e u (place.Serve (serve.Running q))) (serve_run q z)).1
         by None is = missed_left chip w s (unit_work (at x e u (place.Serve (serve.Running q)))) y n x e u (at x e u (place.Serve (serve.Running q))) (place.Serve (serve.Running q)) below o t frame done h is
         by (Some z) is = absurd (cc)
-    free_serve x e u (serve.Find r p f) i h = by (find_gave f (value_of chip (unit_work (at x e u (place.Serve (serve.Find r p f))))))
-      where
-        by : (q : Option ℕ) → LeftAt (at x e u (place.Serve (serve.Find r p f))) (after_serve (at x e u (place.Serve (serve.Find r p f))) (serve_finds r p f (value_of chip (unit_work (at x e u (place.Serve (serve.Find r p f))))) q)).1
-        by None is = absurd (cc)
-        by (Some z) is = absurd (cc)
+    free_serve x e u (serve.Find r p f) i h =
+        elim (find_gave f (value_of chip (unit_work (at x e u (place.Serve (serve.Find r p f)))))) as (λ q. LeftAt (at x e u (place.Serve (serve.Find r p f))) (after_serve (at x e u (place.Serve (serve.Find r p f))) (serve_finds r p f (value_of chip (unit_work (at x e u (place.Serve (serve.Find r p f))))) q)).1)
+        [ None ↦ (λ is. absurd (cc)) | Some z ↦ (λ is. absurd (cc)) ]
     free_serve x e u _ i h = λ is. absurd (cc)
 
-    left_by : (x : SpiTable) (e : FrameRole) (u : ℕ) (p : UnitPlace) (q : Bool) → unit_owes p ≡ q → StandBy (at x e u p) (where_owed q (Units (at x e u p))) → LeftX x e u p
+    left_by : (x : SpiTable) (e : FrameRole) (u : ℕ) (p : UnitPlace) (q : Bool) → unit_owes p ≡ q → Stood (at x e u p) (where_owed q (Units (at x e u p))) → LeftX x e u p
     left_by x e u p true i h = owed_left x e u p i h
     left_by x e u (place.Request r) false i h = request_left x e u r h.1.0.of h.1.1
     left_by x e u (place.Start p) false i h = free_start x e u p i h
@@ -274,8 +252,7 @@ module _ (a : Starting) (b : Serving) (d : SpiTable) (fits : FitsSpi d) where
                 by_served : (ls : List ℕ) → ls ≡ [] → LeavesNone (spi_machine d) w s1 o (polled_by (spi_machine d) w s o t.polled (Some Act)) ls
                 by_served ls none = subst (λ zs. LeavesNone (spi_machine d) w s1 o (polled_by (spi_machine d) w s o t.polled (Some Act)) zs) (sym none) (none_served o (polled_by (spi_machine d) w s o t.polled (Some Act)))
         acts_left false is = absurd (cc)
-    left_by x e u (place.Opens z) false i h = λ is. absurd (cc)
-    left_by x e u (place.Tell z k) false i h = λ is. absurd (cc)
+    left_by x e u _ false i h = λ is. absurd (cc)
 
-    pub units_left : (k : UnitBody) → AssertedAt (spi_basis d) (unit_bodies a b d) below chip w s k o t → LeftAt k (unit_takes k (value_of chip (unit_work k))).1
+    pub units_left : (k : UnitBody) → AssertedAt (spi_basis d) (unit_bodies d) below chip w s k o t → LeftAt k (unit_takes k (value_of chip (unit_work k))).1
     units_left k h = left_by k.table k.errand k.unit k.place (unit_owes k.place) refl h

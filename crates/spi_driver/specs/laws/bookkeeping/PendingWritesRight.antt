@@ -1,38 +1,35 @@
 -- The moves that frames of units owe: after each one the frame owes the others, or goes on as it was to.
--- From services.UnitFrames, spi_sequences: services.ServeSteps, spi_sequences: services.UnitSteps and 8 more.
+-- From services.UnitFrames, spi_sequences: services.ServeSteps, spi_sequences: services.UnitSteps and 7 more.
 -- Used by bookkeeping.NoneWaits, services.UnitBounds, services.UnitSteps.
 use Rattle.std.proofs.Common.{◌≡◌, ◌+◌, ◌-◌, ◌&&◌, ◌||◌, [], ◌∷◌, ◌++◌, ◌∙◌, ◌⊎◌, if◌then◌else◌}
 use Rattle.spi_driver.specs.Terms
 use Terms.{add_gave, after_request, after_serve, after_start, again_gave, and_parts, ap, AreWindows, arith, Arrived}
-use Terms.{AssertedAt, AsyncTransmit, BodyTaken, Bool, Call, Called, channel_at_place, channel_number, Chip}
-use Terms.{clear_over, cleared_of, commit_by, commit_ends, commit_last, Continues, drop_gave, ends_of, Entered, false}
-use Terms.{first_internal, first_pinned, frame_names, FrameHistory, FrameRole, goes, goes_on, GoesFree, GoesOwing}
-use Terms.{Handler, has_ended, has_line, inl, inr, is_simple, is_sync_unit, job_note, job_notice, job_of, keep_ends}
-use Terms.{keep_of, Leaving, List, list_all, list_of, Main, main_over, may, MayStop, nat_le, nat_lt, next_gave}
-use Terms.{no_answer, None, Nothing, Notice, notices_by, notifies_job, notifies_sequence, Option, Origin, owed_left}
-use Terms.{owed_move, PendingWrites, prepare_at, prepare_by, prepare_ends, prepared, refl, release_by, release_last}
-use Terms.{releasing, request_adds, request_owes, request_takes, Requested, requested_by, RequestPlace, Reservations}
-use Terms.{Rest, rest_after, Running, same_line, Sent, sequence_note, sequence_notice, sequence_of, SequenceNext}
-use Terms.{serve_again, serve_ahead, serve_commits, serve_drops, serve_keeps, serve_keeps_last, serve_lets}
-use Terms.{serve_owes, serve_releases, serve_takes, Served, ServePlace, ServeStep, Some, some_is, spi_bare, spi_basis}
-use Terms.{spi_owing, SpiJobEndNotification, SpiRepresents, SpiSeqEndNotification, SpiState, SpiTable, start_chooses}
-use Terms.{start_owes, start_prepares, start_releases, start_takes, Started, StartPlace, subst, suc, sym, take_gave}
-use Terms.{Transmit, true, unit_over, unit_owed, unit_owes, unit_takes, UnitBody, UnitPlace, Units, unless_done}
-use Terms.{where_owed, whether_as, Windows, with_holds, World, zero, ℕ}
+use Terms.{AssertedAt, AsyncTransmit, BodyTaken, Bool, Call, Called, Chip, clear_over, cleared_of, commit_by}
+use Terms.{commit_ends, commit_last, Continues, drop_gave, ends_of, Entered, false, first_internal, first_pinned}
+use Terms.{frame_names, FrameHistory, FrameRole, goes, goes_on, GoesFree, GoesOwing, Handler, has_ended, has_line}
+use Terms.{inl, inr, is_simple, is_sync_unit, job_note, job_notice, job_of, keep_ends, keep_of, Leaving, List}
+use Terms.{list_all, Main, main_over, may, MayStop, no_answer, None, Nothing, Notice, notices_by, notifies_job}
+use Terms.{notifies_sequence, Option, Origin, owed_left, owed_move, PendingWrites, refl, release_by, release_last}
+use Terms.{request_adds, request_owes, request_takes, Requested, requested_by, RequestPlace, Reservations, Rest}
+use Terms.{rest_after, same_line, sequence_note, sequence_notice, sequence_of, SequenceNext, serve_again, serve_ahead}
+use Terms.{serve_commits, serve_drops, serve_keeps, serve_keeps_last, serve_lets, serve_owes, serve_releases}
+use Terms.{serve_takes, Served, ServePlace, ServeStep, Some, some_is, spi_bare, spi_basis, spi_owing}
+use Terms.{SpiJobEndNotification, SpiRepresents, SpiSeqEndNotification, SpiState, SpiTable, start_takes, Started}
+use Terms.{StartPlace, subst, suc, sym, take_gave, Transmit, true, unit_over, unit_owed, unit_owes, unit_takes}
+use Terms.{UnitBody, UnitPlace, Units, unless_done, where_owed, whether_as, Windows, with_holds, World, zero, ℕ}
 use Rattle.spi_driver.specs.laws.services.UnitFrames.{About, Ahead, Frame, Handles, HasDone, IsFor, Mains, OwedAt}
 use Rattle.spi_driver.specs.laws.services.UnitFrames.{Rests, ToPass, ToStart, Transmits, about_owed, about_unit}
 use Rattle.spi_driver.specs.laws.services.UnitFrames.{ahead_holds, ahead_of, ahead_owing, all_told, and_other, at}
 use Rattle.spi_driver.specs.laws.services.UnitFrames.{is_met, owed_holds, served_ahead, told_list, unit_after}
 use Rattle.spi_driver.specs.laws.services.UnitFrames.{unit_bodies, unit_windows, with_cleared}
 use Rattle.spi_driver.specs.laws.bookkeeping.MainFunctionHold.{handling_of, handling_over}
-use Rattle.spi_driver.specs.laws.services.UnitParts.{Serving, Starting}
+use Rattle.spi_starting.specs.laws.services.StartAround.{GoesOwing as StartOn, owed_goes as start_on}
 use Rattle.spi_machine.specs.declared.call.Call.TheVariants as calls
 use Rattle.spi_sequences.specs.declared.service.request.RequestPlace.TheVariants as request
 use Rattle.spi_sequences.specs.declared.service.request.Requested.TheVariants as requested
 use Rattle.spi_sequences.specs.declared.service.serve.SequenceNext.TheVariants as courses
 use Rattle.spi_sequences.specs.declared.service.serve.ServePlace.TheVariants as serve
 use Rattle.spi_sequences.specs.declared.service.serve.ServeStep.TheVariants as steps
-use Rattle.spi_sequences.specs.declared.service.start.StartPlace.TheVariants as start
 use Rattle.spi_sequences.specs.declared.service.start.Started.TheVariants as started
 use Rattle.spi_sequences.specs.declared.service.unit.After.TheVariants as after
 use Rattle.spi_sequences.specs.declared.service.unit.UnitPlace.TheVariants as place
@@ -54,44 +51,6 @@ request_on d q (request.Add p) v e =
     [ true ↦ tt | false ↦ refl ]
 request_on d q _ v e = refl
 
--- ---- a start
-
-abbrev pub StartOn : StartPlace × Started → Type 0
-StartOn (p, started.Goes None) = start_owes p ≡ true
-StartOn (p, started.Goes (Some e)) = ⊥
-StartOn (p, started.Over) = Unit {0}
-
-prepared_on : (d : SpiTable) (r : Running) → start_owes (prepared d r) ≡ true
-prepared_on d r = let x = channel_at_place d r.job 0 in by (x.channel.internal && nat_le x.channel.length 1)
-  where
-    by : (q : Bool) → start_owes (if q then start.Release r (releasing (channel_at_place d r.job 0) Sent) else start.Run r) ≡ true
-    by true = refl
-    by false = refl
-
-prepare_on : (d : SpiTable) (r : Running) (i : ℕ) → start_owes (prepare_at d r i) ≡ true
-prepare_on d r i =
-    elim (channel_number (list_of d r.job) i) as (λ o. start_owes (prepare_by d r i o) ≡ true)
-    [ None ↦ prepared_on d r | Some c ↦ refl ]
-
-start_on : (d : SpiTable) (u : ℕ) (p : StartPlace) (v : ℕ) → start_owes p ≡ true → StartOn (start_takes d u p v)
-start_on d u (start.Choose c p) v e =
-    elim (has_ended (next_gave p v)) as (λ b. StartOn (start_chooses c p v b))
-    [ true ↦ refl | false ↦ refl ]
-start_on d u (start.Mark c) v e = prepare_on d c.run 0
-start_on d u (start.Prepare r i p) v e =
-    elim (prepare_ends p v) as (λ b. StartOn (start_prepares d r i p v b))
-    [ true ↦ next (nat_lt i 3) | false ↦ refl ]
-  where
-    next : (q : Bool) → start_owes (if q then prepare_at d r (i + 1) else prepared d r) ≡ true
-    next true = prepare_on d r (i + 1)
-    next false = prepared_on d r
-start_on d u (start.Release r p) v e =
-    elim (has_ended (take_gave p v)) as (λ b. StartOn (start_releases r p v b))
-    [ true ↦ refl | false ↦ refl ]
-start_on d u (start.Run r) v e = refl
-start_on d u start.Stand v e = tt
-start_on d u _ v e = absurd (cc)
-
 -- ---- a serving
 
 -- an owed move leads to another one with the same ahead, or is the last, after which the notices are told where a job has ended; where none are, the first unit is one that was served
@@ -103,18 +62,14 @@ ServeOn d a (p, steps.JobOver x) = a ≡ Some (all_told x)
 
 -- the notices of a job, and those of a sequence after others
 job_told : (d : SpiTable) (j : ℕ) → job_notice d j ≡ and_other (job_note d j)
-job_told d j = by (notifies_job (job_of d j))
-  where
-    by : (b : Bool) → (if b then record { kind = SpiJobEndNotification; id = j } ∷ [] else []) ≡ and_other (if b then Some (record { kind = SpiJobEndNotification; id = j }) else None)
-    by true = refl
-    by false = refl
+job_told d j =
+    elim (notifies_job (job_of d j)) as (λ b. (if b then record { kind = SpiJobEndNotification; id = j } ∷ [] else []) ≡ and_other (if b then Some (record { kind = SpiJobEndNotification; id = j }) else None))
+    [ true ↦ refl | false ↦ refl ]
 
 sequence_told : (d : SpiTable) (q : ℕ) → sequence_notice d q ≡ and_other (sequence_note d q)
-sequence_told d q = by (notifies_sequence (sequence_of d q))
-  where
-    by : (b : Bool) → (if b then record { kind = SpiSeqEndNotification; id = q } ∷ [] else []) ≡ and_other (if b then Some (record { kind = SpiSeqEndNotification; id = q }) else None)
-    by true = refl
-    by false = refl
+sequence_told d q =
+    elim (notifies_sequence (sequence_of d q)) as (λ b. (if b then record { kind = SpiSeqEndNotification; id = q } ∷ [] else []) ≡ and_other (if b then Some (record { kind = SpiSeqEndNotification; id = q }) else None))
+    [ true ↦ refl | false ↦ refl ]
 
 told_both : (x y : Option Notice) → and_other x ++ and_other y ≡ told_list x y
 told_both None y = refl
@@ -124,32 +79,27 @@ told_first : (x : Option Notice) → and_other x ≡ told_list x None
 told_first None = refl
 told_first (Some n) = refl
 
+-- a place that owes moves, and what is told after it
+abbrev OwesTo : SpiTable → ServePlace → List Notice → Type 0
+OwesTo d p ns = (serve_owes p ≡ true) × (serve_ahead d p ≡ Some ns)
+
 -- a job's last channels are done one after another
-release_on : (d : SpiTable) (l : Leaving) (n : ℕ) → (serve_owes (release_last d l n) ≡ true) × (serve_ahead d (release_last d l n) ≡ Some (notices_by d l.served l.course))
-release_on d l n = by (first_pinned d l.served n)
-  where
-    by : (o : Option ℕ) → (serve_owes (release_by d l o) ≡ true) × (serve_ahead d (release_by d l o) ≡ Some (notices_by d l.served l.course))
-    by None = (refl, refl)
-    by (Some i) = (refl, refl)
+release_on : (d : SpiTable) (l : Leaving) (n : ℕ) → OwesTo d (release_last d l n) (notices_by d l.served l.course)
+release_on d l n =
+    elim (first_pinned d l.served n) as (λ o. OwesTo d (release_by d l o) (notices_by d l.served l.course))
+    [ None ↦ (refl, refl) | Some i ↦ (refl, refl) ]
 
-commit_on : (d : SpiTable) (l : Leaving) (n : ℕ) → (serve_owes (commit_last d l n) ≡ true) × (serve_ahead d (commit_last d l n) ≡ Some (notices_by d l.served l.course))
-commit_on d l n = by (first_internal d l.served n)
-  where
-    by : (o : Option ℕ) → (serve_owes (commit_by d l o) ≡ true) × (serve_ahead d (commit_by d l o) ≡ Some (notices_by d l.served l.course))
-    by None = (refl, refl)
-    by (Some i) = (refl, refl)
+commit_on : (d : SpiTable) (l : Leaving) (n : ℕ) → OwesTo d (commit_last d l n) (notices_by d l.served l.course)
+commit_on d l n =
+    elim (first_internal d l.served n) as (λ o. OwesTo d (commit_by d l o) (notices_by d l.served l.course))
+    [ None ↦ (refl, refl) | Some i ↦ (refl, refl) ]
 
-ends_on : (d : SpiTable) (r : Arrived) (c : SequenceNext) → (serve_owes (ends_of d r c) ≡ true) × (serve_ahead d (ends_of d r c) ≡ Some (notices_by d r.served c))
-ends_on d r c = by r.served.failed
-  where
-    l : Leaving
-    l = record { served = r.served; taker = r.taker; course = c }
+ends_on : (d : SpiTable) (r : Arrived) (c : SequenceNext) → OwesTo d (ends_of d r c) (notices_by d r.served c)
+ends_on d r c = let l : Leaving = record { served = r.served; taker = r.taker; course = c } in
+    elim r.served.failed as (λ q. OwesTo d (if q then release_last d l (4 - r.served.at.channel) else serve.KeepLast l (keep_of d r)) (notices_by d r.served c))
+    [ true ↦ release_on d l (4 - r.served.at.channel) | false ↦ (refl, refl) ]
 
-    by : (q : Bool) → let p = if q then release_last d l (4 - r.served.at.channel) else serve.KeepLast l (keep_of d r) in (serve_owes p ≡ true) × (serve_ahead d p ≡ Some (notices_by d r.served c))
-    by true = release_on d l (4 - r.served.at.channel)
-    by false = (refl, refl)
-
-goes_on_on : (d : SpiTable) (r : Served) (c : SequenceNext) → (serve_owes (goes_on r c) ≡ true) × (serve_ahead d (goes_on r c) ≡ Some (notices_by d r c))
+goes_on_on : (d : SpiTable) (r : Served) (c : SequenceNext) → OwesTo d (goes_on r c) (notices_by d r c)
 goes_on_on d r (courses.Further v) = (refl, refl)
 goes_on_on d r (courses.Ends x) = (refl, refl)
 
@@ -196,9 +146,9 @@ owed_unit k x e = owed_when (unit_owes k.place) k x e
 left_of : (k : UnitBody) (v : ℕ) → unit_owes k.place ≡ true → owed_left (Units k) v ≡ unless_done (unit_takes k v).1.done (unit_owed (unit_takes k v).0)
 left_of k v e = ap (λ q. if q then unless_done (unit_takes k v).1.done (unit_owed (unit_takes k v).0) else None) e
 
-module _ (a : Starting) (b : Serving) (d : SpiTable) where
+module _ (d : SpiTable) where
   abbrev W : Windows (spi_bare d) PendingWrites (Option About) UnitBody (spi_owing d)
-  W = unit_windows a b d
+  W = unit_windows d
 
   -- after an owed move the frame owes others and is about the same, or it is the last one
   abbrev GoesSo : About → UnitBody × BodyTaken → Type 0
@@ -229,7 +179,7 @@ module _ (a : Starting) (b : Serving) (d : SpiTable) where
       request_goes (r1, requested.Accepted) h = inr (refl, refl, (refl, refl, refl, omega arith, omega arith))
   goes_so x e u (place.Start r) v i = by (start_takes x u r v) (start_on x u r v i)
     where
-      by : (z : StartPlace × Started) → StartOn z → GoesSo (about x e u ToPass) (after_start (at x e u (place.Start r)) z)
+      by : (z : StartPlace × Started) → StartOn x u z → GoesSo (about x e u ToPass) (after_start (at x e u (place.Start r)) z)
       by (r1, started.Goes None) h = inl (h, refl, refl)
       by (r1, started.Goes (Some n)) h = absurd h
       by (r1, started.Over) h = passes_so x e u (place.Start r) (place.Start r1)
@@ -245,7 +195,7 @@ module _ (a : Starting) (b : Serving) (d : SpiTable) where
   -- ---- after the last one the frame stands, or may end
 
   abbrev Continue : Reservations → Chip → World → SpiState → Origin Call → FrameHistory → (ℕ → Bool) → UnitBody × BodyTaken → Type 0
-  Continue below chip w s o t m r = Continues (spi_basis d) (unit_bodies a b d) below chip w s o t m r.0 r.1.done
+  Continue below chip w s o t m r = Continues (spi_basis d) (unit_bodies d) below chip w s o t m r.0 r.1.done
 
   all_none : (served missed : ℕ → Bool) (ls : List ℕ) → ls ≡ [] → list_all (λ l. served l || missed l) ls ≡ true
   all_none served missed ls e = ap (list_all (λ l. served l || missed l)) e
@@ -287,7 +237,7 @@ module _ (a : Starting) (b : Serving) (d : SpiTable) where
           next : (z : Bool) → is_sync_unit x 1 ≡ z → Continue below chip w s o_main t m (main_over (at x Main 0 p) q z)
           next true sync = (handling_over d o_main t.acted below chip w s (over o_main 0 (handling_of o_main t.acted ∷ below) h), main_stops t m done.acted done.polled done.report done.owed done.progress.0 (done.progress.2 (ap (λ y. is_sync_unit y 1) (sym frame.table) ∙ sync)))
           next false async =
-              subst (λ e1. AssertedAt (spi_basis d) (unit_bodies a b d) below chip w s (at x e1 1 (place.Opens after.Serve)) o_main t) (sym rest)
+              subst (λ e1. AssertedAt (spi_basis d) (unit_bodies d) below chip w s (at x e1 1 (place.Opens after.Serve)) o_main t) (sym rest)
               (h, (record { table = frame.table; small = omega arith; async = ap (λ y. is_sync_unit y 1) (sym frame.table) ∙ async; of = Rests }, record { acted = done.acted; polled = done.polled; report = done.report; owed = done.owed; progress = (done.progress.0, done.progress.1) }))
       passes_by_role Main (suc u) _ Mains frame done h = (handling_over d o_main t.acted below chip w s (over o_main (suc u) (handling_of o_main t.acted ∷ below) h), main_stops t m done.acted done.polled done.report done.owed done.progress.0 done.progress.1)
       passes_by_role Rest zero _ Rests frame done h = absurd done.progress
@@ -310,7 +260,7 @@ module _ (a : Starting) (b : Serving) (d : SpiTable) where
       request_stands (r1, requested.Accepted) k f = (h, (frame, done))
   stands_at x e u (place.Start r) v below chip w s o t m i none (frame, done) h = by (start_takes x u r v) (start_on x u r v i) none
     where
-      by : (z : StartPlace × Started) → StartOn z → let n = after_start (at x e u (place.Start r)) z in unless_done n.1.done (unit_owed n.0) ≡ None → Continue below chip w s o t m n
+      by : (z : StartPlace × Started) → StartOn x u z → let n = after_start (at x e u (place.Start r)) z in unless_done n.1.done (unit_owed n.0) ≡ None → Continue below chip w s o t m n
       by (r1, started.Goes None) k f = absurd (goes_owed x e u (place.Start r1) k f)
       by (r1, started.Goes (Some n)) k f = absurd k
       by (r1, started.Over) k f = passes_on x e u (place.Start r) (place.Start r1) below chip w s o t m refl frame done h

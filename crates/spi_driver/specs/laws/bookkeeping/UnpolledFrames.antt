@@ -1,16 +1,17 @@
 -- Frames that poll no line leave no unit waiting, and the hardware lets none wait.
--- From spi_sequences: hardware.StableUnderHardware, spi_sequences: services.InitWords and 6 more.
--- Used by bookkeeping.Lawful, bookkeeping.NoneWaits, services.SendPart.
+-- From spi_sequences: hardware.StableUnderHardware, spi_sequences: services.InitRight and 8 more.
+-- Used by bookkeeping.Lawful, bookkeeping.NoneWaits.
 use Rattle.std.proofs.Common.{◌≡◌, ◌&&◌, [], ◌∙◌, if◌then◌else◌}
 use Rattle.spi_driver.specs.Terms
-use Terms.{Abort, Act, ap, AssertedAt, Bool, brought_by, Call, call_by, Called, cancel_bodies, CancelBody}
-use Terms.{Chip, Done, Event, false, FrameHistory, happening_at, init_bodies, InitBody, InitPlace}
-use Terms.{is_left_waiting, is_off, is_some, Is_this_frame, IsInit, IsThisFrame, Leaves, LeavesNone, List, list_all}
-use Terms.{mode_later, Move, moved, next_at, next_by, next_on, None, not, Nothing, Option, Order, Origin}
-use Terms.{outcome_of, pending_later, polled_by, polls, query_bodies, QueryBody, read_bodies, ReadBody, ReadPlace}
-use Terms.{refl, Reservations, Run, run_at, runs_later, Serve, served_by, set_up_bodies, SetUpBody, Some, spi_basis}
-use Terms.{spi_machine, SpiState, SpiTable, Start, state_by, subst, sym, unit_of, Whole, whole_bodies}
-use Terms.{WholeBody, World, world_after, write_bodies, WriteBody, ℕ}
+use Terms.{about_sent, Act, ap, AssertedAt, Bool, brought_by, Call, call_by, Called, cancel_bodies, CancelBody, Chip}
+use Terms.{Done, Event, false, FitsSpi, FrameHistory, happening_at, init_bodies, InitBody, InitPlace, is_left_waiting}
+use Terms.{is_off, is_some, Is_this_frame, IsInit, IsThisFrame, Leaves, LeavesNone, List, list_all, mode_later, Move}
+use Terms.{moved, next_at, next_by, next_on, None, not, Nothing, Option, Order, Origin, outcome_of, pending_later}
+use Terms.{PendingWrites, place_at, polled_by, polls, query_bodies, QueryBody, read_bodies, ReadBody, ReadPlace, refl}
+use Terms.{Reservations, Run, run_at, runs_later, SendAbout, SendAhead, sender, served_by, set_up_bodies, SetUpBody}
+use Terms.{Some, spi_basis, spi_machine, SpiState, SpiTable, spot_or, StandsAbout, StandsAhead, state_by, subst, sym}
+use Terms.{sync_bodies, sync_owed, sync_spot, sync_windows, SyncBody, ToEnd, ToWait, unit_of, Whole, whole_bodies}
+use Terms.{WholeBody, windows_are_right, World, world_after, write_bodies, WriteBody, ℕ}
 use Rattle.spi_sequences.specs.declared.service.cancel.CancelBody.TheVariants as cancel
 use Rattle.spi_sequences.specs.declared.service.init.InitPlace.TheVariants as init
 use Rattle.spi_sequences.specs.declared.service.query.QueryBody.TheVariants as query
@@ -33,10 +34,7 @@ pub data PollsNone : Origin Call → (polled : List ℕ) → Type 0 where
 module _ (d : SpiTable) (w : World) (s : SpiState) where
   left_none : (o : Origin Call) (polled served : List ℕ) (e : Option Event) → PollsNone o polled → (w1 : World) (s1 : SpiState) → LeavesNone (spi_machine d) w1 s1 o (polled_by (spi_machine d) w s o polled e) served
   left_none _ _ served (Some Act) (Polls_none c none) w1 s1 = ap (list_all (λ l. not (is_left_waiting (spi_machine d) w1 s1 served l))) (none s)
-  left_none _ _ served (Some (Serve k)) (Polls_none c none) w1 s1 = refl
-  left_none _ _ served (Some (Abort u)) (Polls_none c none) w1 s1 = refl
-  left_none _ _ served (Some (Start u)) (Polls_none c none) w1 s1 = refl
-  left_none _ _ served None (Polls_none c none) w1 s1 = refl
+  left_none _ _ served _ (Polls_none c none) w1 s1 = refl
 
   pub unpolled_left : (o : Origin Call) (polled served : List ℕ) → PollsNone o polled → LeavesNone (spi_machine d) w s o polled served
   unpolled_left _ _ served (Polls_none c none) = refl
@@ -97,6 +95,24 @@ module _ (d : SpiTable) (below : Reservations) (chip : Chip) (w : World) (s : Sp
   pub cancel_unpolled : (k : CancelBody) → AssertedAt (spi_basis d) (cancel_bodies d) below chip w s k o t → PollsNone o t.polled
   cancel_unpolled (cancel.Drop r p) h = being_none h.1.1 refl (λ z. refl)
   cancel_unpolled _ h = being_none h.1.1.0 refl (λ z. refl)
+
+  -- those that send a sequence and wait
+
+  about_unpolled : (x : Option SendAbout) → StandsAbout d x below o t → PollsNone o t.polled
+  about_unpolled None h = absurd h
+  about_unpolled (Some x) h = by x.ahead h
+    where
+      by : (p : SendAhead) → StandsAhead d x p below o t → PollsNone o t.polled
+      by (ToWait n p) h = being_none h.this refl (λ z. refl)
+      by (ToEnd v) h = being_none h refl (λ z. refl)
+      by _ h = absurd h
+
+  pub sync_unpolled : FitsSpi d → (k : SyncBody) → AssertedAt (spi_basis d) (sync_bodies d) below chip w s k o t → PollsNone o t.polled
+  sync_unpolled fits k h = by (sync_owed k) refl h
+    where
+      by : (x : Option PendingWrites) → sync_owed k ≡ x → AssertedAt (spi_basis d) (sync_bodies d) below chip w s k o t → PollsNone o t.polled
+      by None e h = being_none (sender d fits (windows_are_right d fits) below chip w s k o t e h).this refl (λ z. refl)
+      by (Some x) e h = about_unpolled (about_sent x) (subst (λ q. place_at (spot_or (sync_windows d) q (sync_spot d k k.place)) below ((spi_basis d).foot chip) w s o t) e h.1)
 
 -- ---- the hardware
 

@@ -1,5 +1,5 @@
 -- A request up to its act: it looks at every sequence, and acts where one is in the way, or where none is.
--- From spi_sequences: words.ListTests, services.UnitFrames, spi_sequences: words.JobPlaces and 9 more.
+-- From spi_sequences: words.JobPlaces, services.UnitFrames, spi_sequences: services.UnitSteps and 5 more.
 -- Used by services.UnitRight.
 use Rattle.std.proofs.Common.{◌≡◌, ◌+◌, ◌<◌, ◌==◌, ◌&&◌, ◌||◌, ◌∷◌, ◌∙◌, if◌then◌else◌}
 use Rattle.spi_driver.specs.Terms
@@ -15,7 +15,6 @@ use Terms.{spi_machine, spi_owing, SpiParamSeq, SpiRepresents, SpiSeqPending, Sp
 use Terms.{sym, tells_error, Transmit, true, UnitBody, Units, view, whether, Works, World, zero, ℕ}
 use Rattle.spi_machine.specs.Pending.{is_of}
 use Rattle.spi_driver.specs.laws.services.UnitFrames.{Frame, IsRequest, NoneHeld, at, unit_bodies}
-use Rattle.spi_driver.specs.laws.services.UnitParts.{Serving, Starting}
 use Rattle.spi_machine.specs.declared.call.Call.TheVariants as calls
 use Rattle.spi_sequences.specs.declared.service.request.RequestPlace.TheVariants as request
 use Rattle.spi_sequences.specs.declared.service.request.Requested.TheVariants as requested
@@ -109,12 +108,12 @@ pending_beside d fits below chip w s h q k async = pending_same (is_sync_sequenc
         let none : (k == q || shares d q k) ≡ false = ap (λ z. z || shares d q k) (not_it e) ∙ not_shared e in
         ap (λ z. is_pending k (all_of (view s)) && z) none ∙ off (is_pending k (all_of (view s))) ∙ sym (off (is_pending k s.pending)) ∙ ap (λ z. is_pending k s.pending && z) (sym none)
 
-module _ (a : Starting) (b : Serving) (d : SpiTable) (fits : FitsSpi d) (below : Reservations) (chip : Chip) (w : World) (s : SpiState) (h : SpiRepresents d below chip w s) (q u : ℕ) (i : IsRequest d s q u) (frame : Frame d d (Transmit q) u (Called (calls.Sequence q AsyncTransmit))) (y : ℕ) (m : ℕ → Bool) where
+module _ (d : SpiTable) (fits : FitsSpi d) (below : Reservations) (chip : Chip) (w : World) (s : SpiState) (h : SpiRepresents d below chip w s) (q u : ℕ) (i : IsRequest d s q u) (frame : Frame d d (Transmit q) u (Called (calls.Sequence q AsyncTransmit))) (y : ℕ) (m : ℕ → Bool) where
   abbrev asks : Call
   asks = calls.Sequence q AsyncTransmit
 
   abbrev pub RequestMakes : Move → Chip → (clean : Bool) → ℕ → UnitBody × BodyTaken → Type 0
-  RequestMakes made after clean value t = Works (spi_basis d) (unit_bodies a b d) below chip after w s (Called asks) made clean value y fresh_history m t.0 t.1.event t.1.done
+  RequestMakes made after clean value t = Works (spi_basis d) (unit_bodies d) below chip after w s (Called asks) made clean value y fresh_history m t.0 t.1.event t.1.done
 
   -- the error of a pending sequence is the one that is found
   held_error : is_held d q s.pending ≡ true → error_by d asks (is_off s.mode) (is_held d q s.pending) ≡ Some SpiSeqPending

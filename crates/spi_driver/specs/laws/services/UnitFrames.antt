@@ -1,22 +1,27 @@
 -- The frames that start or serve units: what they hold at their places, and what stands there.
--- From services.UnitParts, spi_sequences: services.UnitSteps, spi_sequences: services.LookSteps.
--- Used by bookkeeping.PendingWritesRight, services.UnitSteps, bookkeeping.NoneWaits, services.UnitBounds and 4 more.
+-- From spi_sequences: services.UnitSteps, spi_sequences: services.Bodies.
+-- Used by bookkeeping.PendingWritesRight, services.UnitSteps, bookkeeping.NoneWaits, services.UnitRight and 5 more.
 use Rattle.std.proofs.Common.{◌≡◌, ◌+◌, ◌-◌, ◌<◌, ◌==◌, ◌&&◌, ◌||◌, [], ◌∷◌}
 use Rattle.spi_driver.specs.Terms
-use Terms.{After, Answer, AsyncTransmit, Bool, Call, Called, Cancels, Cleared, Debt, Ended, Entered, EOk, error_by}
-use Terms.{false, first_served, FrameHistory, FrameRole, fresh_history, Handler, Handling, has_line, is_held, is_off}
-use Terms.{is_pending, is_polling, is_sync_sequence, is_sync_unit, List, LongBodies, Looking, Main, named, no_answer}
-use Terms.{None, Notice, Option, Origin, Outside, Owing, owing, Pending, PendingWrites, PointAssertion, RequestPlace}
-use Terms.{Reservation, Rest, Sends, serve_ahead, ServePlace, shares_job, Some, spi_bare, spi_basis, spi_owing}
-use Terms.{SpiState, SpiTable, StartPlace, suc, Transmit, true, Under, unit_of_sequence, unit_owed, unit_takes}
-use Terms.{unit_work, UnitBody, UnitPlace, Units, Wholes, Windows, windows, Within, zero, ℕ}
-use Rattle.spi_driver.specs.laws.services.UnitParts.{Serving, Starting}
+use Terms.{After, agrees_after, Answer, AsyncTransmit, Bool, Call, Called, Cancels, Chip, Cleared, Debt, Ended}
+use Terms.{Entered, EOk, error_by, false, first_served, FrameHistory, FrameRole, fresh_history, gap_at, Handler}
+use Terms.{Handling, has_line, holds_at, is_held, is_off, is_pending, is_polling, is_sync_sequence, is_sync_unit}
+use Terms.{List, LongBodies, Looking, Main, Memory, named, no_answer, None, Notice, Option, Origin, Outside, Owing}
+use Terms.{owing, Pending, PendingWrites, place_at, PointAssertion, RequestPlace, Reservation, Reservations, Rest}
+use Terms.{Sends, serve_ahead, serve_fuel, serve_place, serve_room, ServePlace, shares_job, Some, spi_bare, spi_basis}
+use Terms.{spi_owing, SpiState, SpiTable, spot_or, start_left, start_place, StartPlace, suc, Transmit, true, Under}
+use Terms.{unit_of_sequence, unit_owed, unit_takes, unit_work, UnitBody, UnitPlace, Units, Wholes, Windows, windows}
+use Terms.{with_holds, Within, World, zero, ℕ}
 use Rattle.spi_machine.specs.declared.call.Call.TheVariants as calls
 use Rattle.spi_sequences.specs.declared.service.request.RequestPlace.TheVariants as request
 use Rattle.spi_sequences.specs.declared.service.serve.ServePlace.TheVariants as serve
 use Rattle.spi_sequences.specs.declared.service.start.StartPlace.TheVariants as start
 use Rattle.spi_sequences.specs.declared.service.unit.After.TheVariants as after
 use Rattle.spi_sequences.specs.declared.service.unit.UnitPlace.TheVariants as place
+
+-- what places see of the chip
+abbrev pub foot : SpiTable → Chip → Memory × (ℕ → ℕ) × (ℕ → ℕ)
+foot d chip = (spi_bare d).foot chip
 
 -- ---- what a frame was begun for, and what it has done
 
@@ -126,6 +131,14 @@ RequestAt d (Transmit q) u (request.Look k) s t = IsRequest d s q u × (t ≡ fr
 RequestAt d (Transmit q) u request.Accept s t = IsRequest d s q u × (t ≡ fresh_history) × (is_held d q s.pending ≡ false)
 RequestAt d e u p s t = ⊥
 
+-- it is one of a frame that transmits
+pub by_transmit : (d : SpiTable) (u : ℕ) (p : RequestPlace) (s : SpiState) (t : FrameHistory) (P : FrameRole → Origin Call → Type 0) → ((q : ℕ) → RequestAt d (Transmit q) u p s t → P (Transmit q) (Called (calls.Sequence q AsyncTransmit)))
+    → (e : FrameRole) (o : Origin Call) → IsFor u e o → RequestAt d e u p s t → P e o
+by_transmit d u p s t P one (Transmit q) _ (Transmits _) asked = one q asked
+by_transmit d u p s t P one Handler _ Handles asked = absurd asked
+by_transmit d u p s t P one Main _ Mains asked = absurd asked
+by_transmit d u p s t P one Rest _ Rests asked = absurd asked
+
 -- after the mask is opened
 abbrev pub opens_holds : FrameRole → (number : ℕ) → After → List Reservation
 opens_holds e u after.Serve = holds_by e
@@ -136,6 +149,15 @@ abbrev pub OpensAt : SpiTable → FrameRole → (number : ℕ) → After → Fra
 OpensAt d e u after.Serve t = HasDone d e u false [] t
 OpensAt d e u (after.Tell x) t = HasDone d e u true (owing true (all_told x)) t
 OpensAt d e u after.Start t = HasDone d e u true [] t
+
+-- the place is that at which the window begins, which shuts the mask
+abbrev pub is_shut : ServePlace → Bool
+is_shut serve.Shut = true
+is_shut _ = false
+
+abbrev pub is_closing : StartPlace → Bool
+is_closing start.Shut = true
+is_closing _ = false
 
 -- ---- bounds
 
@@ -225,61 +247,66 @@ abbrev pub unit_clean : UnitPlace → Bool
 unit_clean (place.Request (request.Look k)) = true
 unit_clean _ = false
 
-module _ (a : Starting) (b : Serving) where
-  abbrev pub unit_fuel_at : FrameRole → (number : ℕ) → UnitPlace → ℕ
-  unit_fuel_at e u (place.Request p) = request_fuel p + unit_after e u
-  unit_fuel_at e u place.Act = 69 + unit_after e u
-  unit_fuel_at e u (place.Opens x) = opens_fuel e u x
-  unit_fuel_at e u (place.Tell n None) = 31 + unit_after e u
-  unit_fuel_at e u (place.Tell n (Some m)) = 32 + unit_after e u
-  unit_fuel_at e u (place.Serve p) = b.fuel p + (34 + unit_after e u)
-  unit_fuel_at e u (place.Start p) = a.fuel p + unit_after e u
+abbrev pub unit_fuel_at : FrameRole → (number : ℕ) → UnitPlace → ℕ
+unit_fuel_at e u (place.Request p) = request_fuel p + unit_after e u
+unit_fuel_at e u place.Act = 69 + unit_after e u
+unit_fuel_at e u (place.Opens x) = opens_fuel e u x
+unit_fuel_at e u (place.Tell n None) = 31 + unit_after e u
+unit_fuel_at e u (place.Tell n (Some m)) = 32 + unit_after e u
+unit_fuel_at e u (place.Serve p) = serve_fuel p + (34 + unit_after e u)
+unit_fuel_at e u (place.Start p) = start_left p + unit_after e u
 
-  abbrev pub unit_room_at : UnitPlace → ℕ
-  unit_room_at (place.Request p) = request_room p
-  unit_room_at place.Act = 1
-  unit_room_at (place.Serve p) = b.room p
-  unit_room_at (place.Start p) = a.room p
-  unit_room_at _ = 0
+abbrev pub unit_room_at : UnitPlace → ℕ
+unit_room_at (place.Request p) = request_room p
+unit_room_at place.Act = 1
+unit_room_at (place.Serve p) = serve_room p
+unit_room_at (place.Start p) = start_left p
+unit_room_at _ = 0
 
-  -- ---- how it stands
+-- ---- how it stands
 
-  abbrev pub serve_spot : (d x : SpiTable) → FrameRole → (number : ℕ) → ServePlace → PointAssertion (spi_basis d)
-  serve_spot d x e u serve.Shut = Outside (holds_by e) (λ below o t. Frame d x e u o × HasDone d e u false [] t)
-  serve_spot d x e u p = Looking (Under tt) (holds_by e) (λ below f w s o t. b.place d u p f w s × Frame d x e u o × HasDone d e u false [] t)
+abbrev pub serve_spot : (d x : SpiTable) → FrameRole → (number : ℕ) → ServePlace → PointAssertion (spi_basis d)
+serve_spot d x e u serve.Shut = Outside (holds_by e) (λ below o t. Frame d x e u o × HasDone d e u false [] t)
+serve_spot d x e u p = Looking (Under tt) (holds_by e) (λ below f w s o t. serve_place d u p f w s × Frame d x e u o × HasDone d e u false [] t)
 
-  abbrev pub start_spot : (d x : SpiTable) → FrameRole → (number : ℕ) → StartPlace → PointAssertion (spi_basis d)
-  start_spot d x e u start.Shut = Outside (with_debt e u) (λ below o t. Frame d x e u o × HasDone d e u true [] t)
-  start_spot d x e u p = Within (Under tt) (with_debt e u) (λ below f w s o t. a.place d u p f s × Frame d x e u o × HasDone d e u true [] t)
+abbrev pub start_spot : (d x : SpiTable) → FrameRole → (number : ℕ) → StartPlace → PointAssertion (spi_basis d)
+start_spot d x e u start.Shut = Outside (with_debt e u) (λ below o t. Frame d x e u o × HasDone d e u true [] t)
+start_spot d x e u p = Within (Under tt) (with_debt e u) (λ below f w s o t. start_place d u p f s × Frame d x e u o × HasDone d e u true [] t)
 
-  abbrev pub unit_spot_at : (d x : SpiTable) → FrameRole → (number : ℕ) → UnitPlace → PointAssertion (spi_basis d)
-  unit_spot_at d x e u (place.Request p) = Within (Under tt) [] (λ below f w s o t. Frame d x e u o × RequestAt d e u p s t)
-  unit_spot_at d x e u place.Act = Looking (Under tt) [] (λ below f w s o t. (x ≡ d) × IsFor u e o × (e ≡ Main) × (u ≡ first_served d) × (t ≡ fresh_history) × (is_polling s.mode ≡ true))
-  unit_spot_at d x e u (place.Opens y) = Within (Under tt) (opens_holds e u y) (λ below f w s o t. Frame d x e u o × OpensAt d e u y t)
-  unit_spot_at d x e u (place.Tell n m) = Outside (with_debt e u) (λ below o t. Frame d x e u o × HasDone d e u true (owing true (n ∷ and_other m)) t)
-  unit_spot_at d x e u (place.Serve p) = serve_spot d x e u p
-  unit_spot_at d x e u (place.Start p) = start_spot d x e u p
+abbrev pub unit_spot_at : (d x : SpiTable) → FrameRole → (number : ℕ) → UnitPlace → PointAssertion (spi_basis d)
+unit_spot_at d x e u (place.Request p) = Within (Under tt) [] (λ below f w s o t. Frame d x e u o × RequestAt d e u p s t)
+unit_spot_at d x e u place.Act = Looking (Under tt) [] (λ below f w s o t. (x ≡ d) × IsFor u e o × (e ≡ Main) × (u ≡ first_served d) × (t ≡ fresh_history) × (is_polling s.mode ≡ true))
+unit_spot_at d x e u (place.Opens y) = Within (Under tt) (opens_holds e u y) (λ below f w s o t. Frame d x e u o × OpensAt d e u y t)
+unit_spot_at d x e u (place.Tell n m) = Outside (with_debt e u) (λ below o t. Frame d x e u o × HasDone d e u true (owing true (n ∷ and_other m)) t)
+unit_spot_at d x e u (place.Serve p) = serve_spot d x e u p
+unit_spot_at d x e u (place.Start p) = start_spot d x e u p
 
-  abbrev pub free_bodies : (d : SpiTable) → LongBodies (spi_basis d) UnitBody
-  free_bodies d = record {
-    work_of = unit_work;
-    takes = unit_takes;
-    fuel = λ k. unit_fuel_at k.errand k.unit k.place;
-    room = λ k. unit_room_at k.place;
-    clean = λ k. unit_clean k.place;
-    assertion = λ k. unit_spot_at d k.table k.errand k.unit k.place;
-  }
+abbrev pub free_bodies : (d : SpiTable) → LongBodies (spi_basis d) UnitBody
+free_bodies d = record {
+  work_of = unit_work;
+  takes = unit_takes;
+  fuel = λ k. unit_fuel_at k.errand k.unit k.place;
+  room = λ k. unit_room_at k.place;
+  clean = λ k. unit_clean k.place;
+  assertion = λ k. unit_spot_at d k.table k.errand k.unit k.place;
+}
 
-  abbrev pub unit_windows : (d : SpiTable) → Windows (spi_bare d) PendingWrites (Option About) UnitBody (spi_owing d)
-  unit_windows d = record {
-    bodies = free_bodies d;
-    owes = unit_owed;
-    about = about_owed;
-    hold = owed_holds;
-    place = λ x below o t. OwedAt d x o t;
-    steps_after = owed_steps;
-    room_after = λ x. 0;
-  }
+abbrev pub unit_windows : (d : SpiTable) → Windows (spi_bare d) PendingWrites (Option About) UnitBody (spi_owing d)
+unit_windows d = record {
+  bodies = free_bodies d;
+  owes = unit_owed;
+  about = about_owed;
+  hold = owed_holds;
+  place = λ x below o t. OwedAt d x o t;
+  steps_after = owed_steps;
+  room_after = λ x. 0;
+}
 
-  abbrev pub unit_bodies : (d : SpiTable) → LongBodies (spi_basis d) UnitBody
-  unit_bodies d = windows (unit_windows d)
+abbrev pub unit_bodies : (d : SpiTable) → LongBodies (spi_basis d) UnitBody
+unit_bodies d = windows (unit_windows d)
+
+-- how a frame stands at a place, where this is owed
+abbrev pub StandBy : (d : SpiTable) → Reservations → Chip → World → SpiState → UnitBody → Origin Call → FrameHistory → Option PendingWrites → Type 0
+StandBy d below chip w s k o t q =
+    let x = spot_or (unit_windows d) q (unit_spot_at d k.table k.errand k.unit k.place) in
+    agrees_after (spi_bare d) (spi_owing d) (with_holds o t.acted (holds_at x) below) (gap_at x) chip w s × place_at x below (foot d chip) w s o t

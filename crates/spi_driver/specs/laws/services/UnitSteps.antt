@@ -1,30 +1,29 @@
 -- Frames of units: their steps where they owe nothing.
--- From services.UnitFrames, spi_sequences: services.UnitSteps, services.UnitParts and 13 more.
+-- From services.UnitFrames, spi_sequences: services.UnitSteps, spi_serving: services.ServeRight and 13 more.
 -- Used by services.UnitRight.
 use Rattle.std.proofs.Common.{◌≡◌, ◌+◌, ◌<◌, ◌&&◌, ◌||◌, [], ◌∷◌, ◌++◌, ◌∙◌, ◌⊎◌, if◌then◌else◌}
 use Rattle.spi_driver.specs.Terms
-use Terms.{ActsRight, After, after_serve, after_start, agrees_after, Answer, ap, arith, asks_reset, AssertedAt}
-use Terms.{basis_right, BodyTaken, Bool, Brought, brought_by, Call, Called, caller_of, Chip, chip_after, clear_over}
-use Terms.{CommitsTo, Continues, Done, Entered, Event, false, first_served, FitsSpi, FrameHistory, FrameRole}
-use Terms.{fresh_history, gap_at, Handler, happening_of, has_line, holds_at, inl, inr, is_polling, is_shared, is_some}
-use Terms.{is_sync_unit, IsNext, IsSome, List, list_all, list_any, Load, Main, main_over, MakesTo, Mask, MayDo}
-use Terms.{missed_after, Move, no_answer, None, none_served, not, Note, Notes, notes, Notice, number_of, opened}
-use Terms.{Option, or_right, Origin, Outcome, outcome_of, outcome_with, Owing, owing, passes, past_after, past_wrote}
-use Terms.{PendingWrites, place_at, plain_makes, plain_move, polls, ready, ReceivedRight, refl, Report, Reservations}
-use Terms.{resets_chip, Rest, rest_after, same_number, serve_ahead, serve_move, serve_owes, serve_takes, ServeHappens}
-use Terms.{ServeOwes, ServePlace, Serves, ServeStep, Some, spi_bare, spi_basis, spi_machine, spi_owing, spi_setting}
-use Terms.{SpiRepresents, SpiState, SpiTable, spot_or, StandsAt, start-received, start_move, start_owes, start_takes}
-use Terms.{StartBegins, Started, StartPlace, Starts, StartsUncalled, STATE, subst, suc, sym, tells_nothing, Told}
-use Terms.{told_first, told_next, Transmit, true, unit_acts, unit_named, unit_over, UnitBody, UnitPlace, Units}
-use Terms.{Unmask, value_of, where_owed, whether_as, with_holds, word_of, Works, World, zero, ℕ}
-use Rattle.spi_driver.specs.laws.services.UnitFrames.{Frame, Handles, HasDone, IsFor, Mains, OpensAt, OwedAt, Progress}
-use Rattle.spi_driver.specs.laws.services.UnitFrames.{Rests, Transmits, ahead_holds, and_other, at, holds_by, is_met}
-use Rattle.spi_driver.specs.laws.services.UnitFrames.{opens_holds, served_ahead, told_list, unit_bodies, unit_spot_at}
-use Rattle.spi_driver.specs.laws.services.UnitFrames.{unit_windows, with_cleared, with_debt}
+use Terms.{ActsRight, After, after_serve, after_start, ap, arith, asks_reset, AssertedAt, basis_right, BodyTaken}
+use Terms.{Bool, Brought, brought_by, Call, Called, caller_of, cases, Chip, chip_after, clear_over, CommitsTo}
+use Terms.{Continues, Done, Entered, Event, false, first_served, FitsSpi, FrameHistory, FrameRole, fresh_history}
+use Terms.{Handler, happening_of, has_line, inl, inr, is_polling, is_shared, is_some, is_sync_unit, IsNext, IsSome}
+use Terms.{List, list_all, list_any, Load, Main, main_over, MakesTo, Mask, MayDo, missed_after, Move, no_answer, None}
+use Terms.{none_owed, none_served, not, Note, Notes, notes, Notice, number_of, opened, Option, or_right, Origin}
+use Terms.{Outcome, outcome_of, outcome_with, Owing, owing, passes, past_after, past_wrote, plain_makes, plain_move}
+use Terms.{polls, ready, refl, Report, Reservations, resets_chip, Rest, rest_after, same_number, serve_ahead}
+use Terms.{serve_may, serve_move, serve_owes, serve_place, serve_takes, ServeHappens, ServeLeaves, ServeOwes}
+use Terms.{ServePlace, Serves, ServeStep, Some, spi_basis, spi_machine, spi_owing, spi_setting, SpiRepresents}
+use Terms.{SpiState, SpiTable, StandsAt, start-received, start_may, start_move, start_owes, start_place, start_right}
+use Terms.{start_takes, StartBegins, Started, StartLeaves, StartPlace, Starts, StartsUncalled, STATE, steps_right}
+use Terms.{subst, suc, sym, tells_nothing, Told, told_first, told_next, Transmit, true, unit_acts, unit_named}
+use Terms.{unit_over, UnitBody, UnitPlace, Units, Unmask, value_of, where_owed, whether_as, with_holds, word_of}
+use Terms.{Works, World, zero, ℕ}
+use Rattle.spi_driver.specs.laws.services.UnitFrames.{Frame, Handles, HasDone, IsFor, Mains, OpensAt, OwedAt}
+use Rattle.spi_driver.specs.laws.services.UnitFrames.{Progress, Rests, Transmits, ahead_holds, and_other, at}
+use Rattle.spi_driver.specs.laws.services.UnitFrames.{holds_by, is_met, opens_holds, served_ahead, told_list}
+use Rattle.spi_driver.specs.laws.services.UnitFrames.{unit_bodies, with_cleared, with_debt, StandBy, foot}
 use Rattle.spi_driver.specs.laws.bookkeeping.MainFunctionHold.{handling_begins, handling_of, handling_over}
 use Rattle.spi_driver.specs.laws.bookkeeping.PendingWritesRight.{main_stops, passes_on}
-use Rattle.spi_driver.specs.laws.services.UnitParts.{IsServing, IsStarting, ServeLeaves}
-use Rattle.spi_driver.specs.laws.services.UnitParts.{Serving, StartLeaves, Starting, foot}
 use Rattle.mcal_base.specs.declared.moves.Event.TheVariants as events
 use Rattle.mcal_base.specs.declared.moves.Unit as units
 use Rattle.spi_machine.specs.declared.call.Call.TheVariants as calls
@@ -79,6 +78,10 @@ rest_line d zero lt s t e h = absurd h
 rest_line d (suc zero) lt s t e h = subst (λ (q : Bool). IsNext (if q then 26 ∷ 27 ∷ [] else []) t.served 27) (sym e) (refl, ap (λ q. q || false) h.1)
 rest_line d (suc (suc u)) lt s t e h = absurd (omega (arith, lt))
 
+second_holds : (q : Bool) {z : Bool} → q ≡ false → q || z ≡ true → z ≡ true
+second_holds true i j = absurd (cc)
+second_holds false i j = j
+
 -- ---- events of a unit, whatever the frame was begun for
 
 module _ (d : SpiTable) (w : World) (s : SpiState) (t : FrameHistory) where
@@ -92,11 +95,8 @@ module _ (d : SpiTable) (w : World) (s : SpiState) (t : FrameHistory) where
 
   -- the job that starts is one of a requested sequence, whoever starts it
   may_start : (o : Origin Call) (v : units.Unit) (y : ℕ) → t.owed ≡ [] → IsSome ((spi_machine d).happens w s (Starts v None y)) → MayDo (spi_machine d) w s t (events.Start v) o
-  may_start o v y none some = (none, by t.acted)
-    where
-      by : (a : Option Answer) → StartsUncalled (spi_machine d) w s v a
-      by None = tt
-      by (Some answer) = λ r. start-received d w s (number_of v) y r some
+  may_start o v y none some =
+      (none, elim t.acted as (λ a. StartsUncalled (spi_machine d) w s v a) [ None ↦ tt | Some answer ↦ (λ r. start-received d w s (number_of v) y r some) ])
 
   start_acts : (o : Origin Call) (v : units.Unit) (made : Move) (told : Told) (left : Option Done) → ActsRight (spi_setting d) o (events.Start v) false made told left
   start_acts (Called c) v made told left = tt
@@ -139,7 +139,7 @@ same_progress d _ _ _ t t1 s m h = absurd h
 same_done : (d : SpiTable) (e : FrameRole) (u : ℕ) (q : Bool) (t t1 : FrameHistory) (owed owed1 : List Owing) → t1.acted ≡ t.acted → t1.polled ≡ t.polled → t1.report ≡ t.report → t1.served ≡ t.served → t1.missed ≡ t.missed → t1.owed ≡ owed1 → HasDone d e u q owed t → HasDone d e u q owed1 t1
 same_done d e u q t t1 owed owed1 acted polled report served missed told h = record { acted = acted ∙ h.acted; polled = polled ∙ h.polled; report = report ∙ h.report; owed = told; progress = same_progress d e u q t t1 served missed h.progress }
 
-module _ (a : Starting) (b : Serving) (d : SpiTable) (fits : FitsSpi d) where
+module _ (d : SpiTable) (fits : FitsSpi d) where
   -- a move of the mask changes nothing
   pub shared_agrees : (held : Reservations) (chip : Chip) (w : World) (s : SpiState) (made : Move) (y : ℕ) → is_shared made ≡ true → SpiRepresents d held chip w s → SpiRepresents d held (chip_after chip made y) w s
   shared_agrees held chip w s Mask y e h = (basis_right d fits).agrees_apart held chip w s Mask y (λ o. refl) h
@@ -151,54 +151,37 @@ module _ (a : Starting) (b : Serving) (d : SpiTable) (fits : FitsSpi d) where
   -- ---- where a frame stands
 
   abbrev StandAt : Reservations → Chip → World → SpiState → UnitBody → Origin Call → FrameHistory → Type 0
-  StandAt below chip w s k o t = AssertedAt (spi_basis d) (unit_bodies a b d) below chip w s k o t
+  StandAt below chip w s k o t = AssertedAt (spi_basis d) (unit_bodies d) below chip w s k o t
 
   -- at a place of its serving that owes nothing
-  pub serve_stands : (e : FrameRole) (u : ℕ) (p : ServePlace) (below : Reservations) (chip : Chip) (w : World) (s : SpiState) (o : Origin Call) (t : FrameHistory) → serve_owes p ≡ false → Frame d d e u o → HasDone d e u false [] t → SpiRepresents d (with_holds o t.acted (holds_by e) below) chip w s → b.place d u p (foot d chip) w s
+  pub serve_stands : (e : FrameRole) (u : ℕ) (p : ServePlace) (below : Reservations) (chip : Chip) (w : World) (s : SpiState) (o : Origin Call) (t : FrameHistory) → serve_owes p ≡ false → Frame d d e u o → HasDone d e u false [] t → SpiRepresents d (with_holds o t.acted (holds_by e) below) chip w s → serve_place d u p (foot d chip) w s
       → StandAt below chip w s (at d e u (place.Serve p)) o t
-  serve_stands e u serve.Shut below chip w s o t i frame done h here = (h, (frame, done))
-  serve_stands e u serve.State below chip w s o t i frame done h here = (h, (here, frame, done))
-  serve_stands e u (serve.Running q) below chip w s o t i frame done h here = (h, (here, frame, done))
-  serve_stands e u (serve.Position r q) below chip w s o t i frame done h here = (h, (here, frame, done))
-  serve_stands e u (serve.Taker r) below chip w s o t i frame done h here = (h, (here, frame, done))
-  serve_stands e u (serve.Receive r q) below chip w s o t i frame done h here = (h, (here, frame, done))
-  serve_stands e u (serve.Width r q) below chip w s o t i frame done h here = (h, (here, frame, done))
-  serve_stands e u (serve.Find r q f) below chip w s o t i frame done h here = (h, (here, frame, done))
-  serve_stands e u (serve.Begin r q v) below chip w s o t i frame done h here = (h, (here, frame, done))
-  serve_stands e u (serve.Marks r) below chip w s o t i frame done h here = (h, (here, frame, done))
-  serve_stands e u (serve.Nexts r q) below chip w s o t i frame done h here = (h, (here, frame, done))
-  serve_stands e u (serve.Acknowledge r q) below chip w s o t i frame done h here = (h, (here, frame, done))
-  serve_stands e u _ below chip w s o t i frame done h here = absurd (cc)
+  serve_stands e u p below chip w s o t i frame done h here = subst (λ q. StandBy d below chip w s (at d e u (place.Serve p)) o t (where_owed q (Units (at d e u (place.Serve p))))) (sym i) (by p here)
+    where
+      by : (p : ServePlace) → serve_place d u p (foot d chip) w s → StandBy d below chip w s (at d e u (place.Serve p)) o t None
+      by serve.Shut here = (h, (frame, done))
+      by _ here = (h, (here, frame, done))
 
   -- and of its start
-  pub start_stands : (e : FrameRole) (u : ℕ) (p : StartPlace) (below : Reservations) (chip : Chip) (w : World) (s : SpiState) (o : Origin Call) (t : FrameHistory) → start_owes p ≡ false → Frame d d e u o → HasDone d e u true [] t → SpiRepresents d (with_holds o t.acted (with_debt e u) below) chip w s → a.place d u p (foot d chip) s
+  pub start_stands : (e : FrameRole) (u : ℕ) (p : StartPlace) (below : Reservations) (chip : Chip) (w : World) (s : SpiState) (o : Origin Call) (t : FrameHistory) → start_owes p ≡ false → Frame d d e u o → HasDone d e u true [] t → SpiRepresents d (with_holds o t.acted (with_debt e u) below) chip w s → start_place d u p (foot d chip) s
       → StandAt below chip w s (at d e u (place.Start p)) o t
-  start_stands e u start.Shut below chip w s o t i frame done h here = (h, (frame, done))
-  start_stands e u start.Running below chip w s o t i frame done h here = (h, (here, frame, done))
-  start_stands e u start.Nexts below chip w s o t i frame done h here = (h, (here, frame, done))
-  start_stands e u (start.Marks v) below chip w s o t i frame done h here = (h, (here, frame, done))
-  start_stands e u (start.Front v m p) below chip w s o t i frame done h here = (h, (here, frame, done))
-  start_stands e u (start.Find c p) below chip w s o t i frame done h here = (h, (here, frame, done))
-  start_stands e u (start.Select c v) below chip w s o t i frame done h here = (h, (here, frame, done))
-  start_stands e u (start.Width c v) below chip w s o t i frame done h here = (h, (here, frame, done))
-  start_stands e u (start.Begin c v) below chip w s o t i frame done h here = (h, (here, frame, done))
-  start_stands e u _ below chip w s o t i frame done h here = absurd (cc)
+  start_stands e u p below chip w s o t i frame done h here = subst (λ q. StandBy d below chip w s (at d e u (place.Start p)) o t (where_owed q (Units (at d e u (place.Start p))))) (sym i) (by p here)
+    where
+      by : (p : StartPlace) → start_place d u p (foot d chip) s → StandBy d below chip w s (at d e u (place.Start p)) o t None
+      by start.Shut here = (h, (frame, done))
+      by _ here = (h, (here, frame, done))
 
   -- ---- a step that names a register or a word
 
   module _ (below : Reservations) (chip : Chip) (w : World) (s : SpiState) (y : ℕ) (m : ℕ → Bool) where
     abbrev Work : Origin Call → FrameHistory → Move → (value : ℕ) → UnitBody × BodyTaken → Type 0
-    Work o t made value r = Works (spi_basis d) (unit_bodies a b d) below chip (chip_after chip made y) w s o made false value y t m r.0 r.1.event r.1.done
-
-    -- how a frame stands after a move, by what it owes
-    abbrev StandsBy : Chip → SpiState → UnitBody → Origin Call → FrameHistory → Option PendingWrites → Type 0
-    StandsBy c s1 k o t q = let x = spot_or (unit_windows a b d) q (unit_spot_at a b d k.table k.errand k.unit k.place) in agrees_after (spi_bare d) (spi_owing d) (with_holds o t.acted (holds_at x) below) (gap_at x) c w s1 × place_at x below (foot d c) w s1 o t
+    Work o t made value r = Works (spi_basis d) (unit_bodies d) below chip (chip_after chip made y) w s o made false value y t m r.0 r.1.event r.1.done
 
     -- a window that is over goes on without an event
-    over_works : (e : FrameRole) (u : ℕ) (p q : UnitPlace) (made : Move) (value : ℕ) (o : Origin Call) (t : FrameHistory) → let r = unit_over (at d e u p) q e u in Continues (spi_basis d) (unit_bodies a b d) below (chip_after chip made y) w s o (past_wrote w made t) m r.0 r.1.done → Work o t made value r
+    over_works : (e : FrameRole) (u : ℕ) (p q : UnitPlace) (made : Move) (value : ℕ) (o : Origin Call) (t : FrameHistory) → let r = unit_over (at d e u p) q e u in Continues (spi_basis d) (unit_bodies d) below (chip_after chip made y) w s o (past_wrote w made t) m r.0 r.1.done → Work o t made value r
     over_works Main zero p q made value o t h = by (is_sync_unit d 1) h
       where
-        by : (z : Bool) → let r = main_over (at d Main 0 p) q z in Continues (spi_basis d) (unit_bodies a b d) below (chip_after chip made y) w s o (past_wrote w made t) m r.0 r.1.done → Work o t made value r
+        by : (z : Bool) → let r = main_over (at d Main 0 p) q z in Continues (spi_basis d) (unit_bodies d) below (chip_after chip made y) w s o (past_wrote w made t) m r.0 r.1.done → Work o t made value r
         by true h = h
         by false h = h
     over_works _ _ p q made value o t h = h
@@ -218,14 +201,14 @@ module _ (a : Starting) (b : Serving) (d : SpiTable) (fits : FitsSpi d) where
           sends = g.sends;
           acts = start_acts d w s t o (unit_named u) made tells_nothing None;
           reset = still ∙ sym (start_resets d w s t o (unit_named u) (Some (outcome_with g.state tells_nothing (Some g.begins))));
-          next = subst (λ z. Continues (spi_basis d) (unit_bodies a b d) below (chip_after chip made y) w g.state o z m (at d e u (place.Start q)) None) (sym (past_started d w s t o (unit_named u) tells_nothing (past_wrote w made t)))
-              (subst (λ z. StandsBy (chip_after chip made y) g.state (at d e u (place.Start q)) o later (where_owed z (Units (at d e u (place.Start q))))) (sym g.owing) (g.owes, (frame, same_done d e u true t later [] [] refl refl refl refl refl (ap (λ ns. ns ++ []) done.owed) done)));
+          next = subst (λ z. Continues (spi_basis d) (unit_bodies d) below (chip_after chip made y) w g.state o z m (at d e u (place.Start q)) None) (sym (past_started d w s t o (unit_named u) tells_nothing (past_wrote w made t)))
+              (subst (λ z. StandBy d below (chip_after chip made y) w g.state (at d e u (place.Start q)) o later (where_owed z (Units (at d e u (place.Start q))))) (sym g.owing) (g.owes, (frame, same_done d e u true t later [] [] refl refl refl refl refl (ap (λ ns. ns ++ []) done.owed) done)));
         })
 
-    start_works : (e : FrameRole) (u : ℕ) (p : StartPlace) (made : Move) (value : ℕ) (o : Origin Call) (t : FrameHistory) → Frame d d e u o → HasDone d e u true [] t → resets_chip made ≡ false → (z : StartPlace × Started) → StartLeaves a d e (with_holds o t.acted (holds_by e) below) o t.acted u chip (chip_after chip made y) w s made y z
+    start_works : (e : FrameRole) (u : ℕ) (p : StartPlace) (made : Move) (value : ℕ) (o : Origin Call) (t : FrameHistory) → Frame d d e u o → HasDone d e u true [] t → resets_chip made ≡ false → (z : StartPlace × Started) → StartLeaves d e (with_holds o t.acted (holds_by e) below) o t.acted u chip (chip_after chip made y) w s made y z
         → Work o t made value (after_start (at d e u (place.Start p)) z)
-    start_works e u p made value o t frame done still (r, started.Goes None) (h, here, free) = start_stands e u r below (chip_after chip made y) w s o (past_wrote w made t) free frame (same_done d e u true t (past_wrote w made t) [] [] refl refl refl refl refl done.owed done) h here
-    start_works e u p made value o t frame done still (r, started.Over) h = over_works e u (place.Start p) (place.Start r) made value o t (passes_on a b d d e u (place.Start p) (place.Start r) below (chip_after chip made y) w s o (past_wrote w made t) m refl frame (same_done d e u true t (past_wrote w made t) [] [] refl refl refl refl refl done.owed done) h)
+    start_works e u p made value o t frame done still (r, started.Goes None) (h, here) = start_stands e u r below (chip_after chip made y) w s o (past_wrote w made t) (none_owed d u r (foot d (chip_after chip made y)) s here) frame (same_done d e u true t (past_wrote w made t) [] [] refl refl refl refl refl done.owed done) h here
+    start_works e u p made value o t frame done still (r, started.Over) h = over_works e u (place.Start p) (place.Start r) made value o t (passes_on d d e u (place.Start p) (place.Start r) below (chip_after chip made y) w s o (past_wrote w made t) m refl frame (same_done d e u true t (past_wrote w made t) [] [] refl refl refl refl refl done.owed done) h)
     start_works e u p made value o t frame done still (r, started.Goes (Some x)) g = begins_so e u r x made value o t frame done still g
 
     -- the word is served
@@ -248,8 +231,8 @@ module _ (a : Starting) (b : Serving) (d : SpiTable) (fits : FitsSpi d) where
           sends = g.sends;
           acts = serve_acts d w s t o (26 + u) made (notes g.notices) None;
           reset = still ∙ sym (serve_resets d w s t o (26 + u) (Some (outcome_with g.state (notes g.notices) g.begins)));
-          next = subst (λ z. Continues (spi_basis d) (unit_bodies a b d) below (chip_after chip made y) w g.state o z m (at d e u (place.Serve q)) None) (sym (past_served d w s t o (26 + u) (notes g.notices) (past_wrote w made t)))
-              (subst (λ z. StandsBy (chip_after chip made y) g.state (at d e u (place.Serve q)) o (later g.notices) (where_owed z (Units (at d e u (place.Serve q))))) (sym g.owing) (owes (serve_ahead d q) g.owes));
+          next = subst (λ z. Continues (spi_basis d) (unit_bodies d) below (chip_after chip made y) w g.state o z m (at d e u (place.Serve q)) None) (sym (past_served d w s t o (26 + u) (notes g.notices) (past_wrote w made t)))
+              (subst (λ z. StandBy d below (chip_after chip made y) w g.state (at d e u (place.Serve q)) o (later g.notices) (where_owed z (Units (at d e u (place.Serve q))))) (sym g.owing) (owes (serve_ahead d q) g.owes));
         })
       where
         later : List Notice → FrameHistory
@@ -265,7 +248,7 @@ module _ (a : Starting) (b : Serving) (d : SpiTable) (fits : FitsSpi d) where
 
     -- nothing may be there to serve
     serve_works : (e : FrameRole) (u : ℕ) (p : ServePlace) (made : Move) (value : ℕ) (o : Origin Call) (t : FrameHistory) → Frame d d e u o → HasDone d e u false [] t → SpiRepresents d (with_holds o t.acted (holds_by e) below) chip w s → resets_chip made ≡ false → ((l : ℕ) → ready w s l ≡ false → m l ≡ true)
-        → (z : ServePlace × ServeStep) → ServeLeaves b d e (with_holds o t.acted (holds_by e) below) u chip (chip_after chip made y) w s made y z
+        → (z : ServePlace × ServeStep) → ServeLeaves d e (with_holds o t.acted (holds_by e) below) u chip (chip_after chip made y) w s made y z
         → Work o t made value (after_serve (at d e u (place.Serve p)) z) ⊎ ((l : ℕ) × (ready w s l ≡ false) × Work o (record t { missed = l ∷ t.missed }) made value (after_serve (at d e u (place.Serve p)) z))
     serve_works e u p made value o t frame done h still misses (r, steps.Goes None) (g, here, free) = inl (serve_stands e u r below (chip_after chip made y) w s o (past_wrote w made t) free frame (same_done d e u false t (past_wrote w made t) [] [] refl refl refl refl refl done.owed done) g here)
     serve_works e u p made value o t frame done h still misses (r, steps.Goes (Some x)) g = inl (serves_so e u r x made value o t frame done h still g)
@@ -285,11 +268,11 @@ module _ (a : Starting) (b : Serving) (d : SpiTable) (fits : FitsSpi d) where
             missed = record t { missed = 26 ∷ t.missed }
 
             next : (z : Bool) → is_sync_unit d 1 ≡ z → Work o_main missed made value (main_over (at d Main 0 (place.Serve p)) (place.Serve r) z)
-            next true sync = (handling_over d o_main t.acted below (chip_after chip made y) w s g, main_stops a b d (past_wrote w made missed) m done.acted done.polled done.report done.owed (just_missed t 26) (done.progress.1 sync))
+            next true sync = (handling_over d o_main t.acted below (chip_after chip made y) w s g, main_stops d (past_wrote w made missed) m done.acted done.polled done.report done.owed (just_missed t 26) (done.progress.1 sync))
             next false async =
-                subst (λ e1. AssertedAt (spi_basis d) (unit_bodies a b d) below (chip_after chip made y) w s (at d e1 1 (place.Opens after.Serve)) o_main (past_wrote w made missed)) (sym (rest_missed r free))
+                subst (λ e1. AssertedAt (spi_basis d) (unit_bodies d) below (chip_after chip made y) w s (at d e1 1 (place.Opens after.Serve)) o_main (past_wrote w made missed)) (sym (rest_missed r free))
                 (g, (record { table = frame.table; small = omega arith; async = async; of = Mains }, record { acted = done.acted; polled = done.polled; report = done.report; owed = done.owed; progress = (just_missed t 26, done.progress.0) }))
-        over_by_role Main (suc zero) _ Mains frame done g none = inr (27, none, (handling_over d o_main t.acted below (chip_after chip made y) w s g, main_stops a b d (past_wrote w made (record t { missed = 27 ∷ t.missed })) m done.acted done.polled done.report done.owed done.progress.0 (just_missed t 27)))
+        over_by_role Main (suc zero) _ Mains frame done g none = inr (27, none, (handling_over d o_main t.acted below (chip_after chip made y) w s g, main_stops d (past_wrote w made (record t { missed = 27 ∷ t.missed })) m done.acted done.polled done.report done.owed done.progress.0 (just_missed t 27)))
         over_by_role Main (suc (suc u)) _ Mains frame done g none = absurd (let lt = frame.small in omega (arith, lt))
         over_by_role Rest zero _ Rests frame done g none = absurd done.progress
         over_by_role Rest (suc zero) _ Rests frame done g none = inr (
@@ -297,7 +280,7 @@ module _ (a : Starting) (b : Serving) (d : SpiTable) (fits : FitsSpi d) where
           none,
           (
             handling_over d o_main t.acted below (chip_after chip made y) w s (clear_over d (handling_of o_main t.acted ∷ below) (chip_after chip made y) w s 0 o_main t.acted g),
-            main_stops a b d (past_wrote w made (record t { missed = 27 ∷ t.missed })) m done.acted done.polled done.report done.owed done.progress.0 (just_missed t 27),
+            main_stops d (past_wrote w made (record t { missed = 27 ∷ t.missed })) m done.acted done.polled done.report done.owed done.progress.0 (just_missed t 27),
           ),
         )
         over_by_role Rest (suc (suc u)) _ Rests frame done g none = absurd (let lt = frame.small in omega (arith, lt))
@@ -406,7 +389,7 @@ module _ (a : Starting) (b : Serving) (d : SpiTable) (fits : FitsSpi d) where
         by None (Some j) done = (h, (frame, done))
         by _ _ done = (h, (frame, done))
 
-    pub tells_so : (e : FrameRole) (u : ℕ) (n : Notice) (other : Option Notice) (o : Origin Call) (t : FrameHistory) → Frame d d e u o → HasDone d e u true (owing true (n ∷ and_other other)) t → SpiRepresents d (with_holds o t.acted (with_debt e u) below) chip w s → Notes (spi_basis d) (unit_bodies a b d) below chip w s o n (at d e u (told_next other)) t
+    pub tells_so : (e : FrameRole) (u : ℕ) (n : Notice) (other : Option Notice) (o : Origin Call) (t : FrameHistory) → Frame d d e u o → HasDone d e u true (owing true (n ∷ and_other other)) t → SpiRepresents d (with_holds o t.acted (with_debt e u) below) chip w s → Notes (spi_basis d) (unit_bodies d) below chip w s o n (at d e u (told_next other)) t
     tells_so e u n other o t frame done h = record {
       served = true;
       others = owing true (and_other other);
@@ -428,11 +411,13 @@ module _ (a : Starting) (b : Serving) (d : SpiTable) (fits : FitsSpi d) where
   -- ---- all of them
 
   -- a move of its serving window, and of its start window
-  pub serve_right_at : IsServing d b → (below : Reservations) (chip : Chip) (w : World) (s : SpiState) (e : FrameRole) (u : ℕ) (p : ServePlace) (o : Origin Call) (y : ℕ) (t : FrameHistory) (m : ℕ → Bool) → serve_owes p ≡ false → ReceivedRight chip w (serve_move d u p) y → Frame d d e u o → HasDone d e u false [] t
-      → SpiRepresents d (with_holds o t.acted (holds_by e) below) chip w s → b.place d u p (foot d chip) w s → is_shared (serve_move d u p) ≡ false
-      → (MakesTo (spi_basis d) (unit_bodies a b d) below chip (chip_after chip (serve_move d u p) y) w s o (serve_move d u p) false (value_of chip (serve_move d u p)) y t (missed_after (spi_machine d) w s m) (after_serve (at d e u (place.Serve p)) (serve_takes d u p (value_of chip (serve_move d u p)))))
-      ⊎ ((l : ℕ) × (ready w s l ≡ false) × MakesTo (spi_basis d) (unit_bodies a b d) below chip (chip_after chip (serve_move d u p) y) w s o (serve_move d u p) false (value_of chip (serve_move d u p)) y (record t { missed = l ∷ t.missed }) (missed_after (spi_machine d) w s m) (after_serve (at d e u (place.Serve p)) (serve_takes d u p (value_of chip (serve_move d u p)))))
-  serve_right_at serving below chip w s e u p o y t m free come frame done h here plain = by (serve_works below chip w s y missed e u p made value o t frame done h still (λ l none. or_right (m l) _ (ap not none)) (serve_takes d u p value) (serving.right u frame.small e (with_holds o t.acted (holds_by e) below) chip w s p y free plain h here come))
+  pub serve_right_at : (below : Reservations) (chip : Chip) (w : World) (s : SpiState) (e : FrameRole) (u : ℕ) (p : ServePlace) (o : Origin Call) (y : ℕ) (t : FrameHistory) (m : ℕ → Bool) → serve_owes p ≡ false → Frame d d e u o → HasDone d e u false [] t
+      → SpiRepresents d (with_holds o t.acted (holds_by e) below) chip w s → serve_place d u p (foot d chip) w s → is_shared (serve_move d u p) ≡ false
+      → (MakesTo (spi_basis d) (unit_bodies d) below chip (chip_after chip (serve_move d u p) y) w s o (serve_move d u p) false (value_of chip (serve_move d u p)) y t (missed_after (spi_machine d) w s m) (after_serve (at d e u (place.Serve p)) (serve_takes d u p (value_of chip (serve_move d u p)))))
+      ⊎ ((l : ℕ) × (ready w s l ≡ false) × MakesTo (spi_basis d) (unit_bodies d) below chip (chip_after chip (serve_move d u p) y) w s o (serve_move d u p) false (value_of chip (serve_move d u p)) y (record t { missed = l ∷ t.missed }) (missed_after (spi_machine d) w s m) (after_serve (at d e u (place.Serve p)) (serve_takes d u p (value_of chip (serve_move d u p)))))
+  serve_right_at below chip w s e u p o y t m free frame done h here plain = cases (serve_works below chip w s y missed e u p made value o t frame done h still (λ l none. or_right (m l) _ (ap not none)) (serve_takes d u p value) (steps_right d fits e (with_holds o t.acted (holds_by e) below) chip w s h u frame.small here.0 y p free plain here.1))
+      (λ works. inl (makes t works))
+      (λ (l, none, works). inr (l, none, makes (record t { missed = l ∷ t.missed }) works))
     where
       made : Move
       made = serve_move d u p
@@ -447,29 +432,20 @@ module _ (a : Starting) (b : Serving) (d : SpiTable) (fits : FitsSpi d) where
       r = after_serve (at d e u (place.Serve p)) (serve_takes d u p value)
 
       still : resets_chip made ≡ false
-      still = (plain_move d made (own (is_shared made) plain (serving.may u frame.small (with_holds o t.acted (holds_by e) below) chip w s p free h here))).0
-        where
-          own : (q : Bool) {z : Bool} → q ≡ false → q || z ≡ true → z ≡ true
-          own true i j = absurd (cc)
-          own false i j = j
+      still = (plain_move d made (second_holds (is_shared made) plain (serve_may d fits (with_holds o t.acted (holds_by e) below) chip w s h u frame.small p free here.1))).0
 
       Makes_at : FrameHistory → Type 0
-      Makes_at t1 = MakesTo (spi_basis d) (unit_bodies a b d) below chip (chip_after chip made y) w s o made false value y t1 missed r
+      Makes_at t1 = MakesTo (spi_basis d) (unit_bodies d) below chip (chip_after chip made y) w s o made false value y t1 missed r
 
-      makes : (t1 : FrameHistory) → Works (spi_basis d) (unit_bodies a b d) below chip (chip_after chip made y) w s o made false value y t1 missed r.0 r.1.event r.1.done → Makes_at t1
-      makes t1 works = plain_makes (spi_basis d) (unit_bodies a b d) below chip (chip_after chip made y) w s o false value y t1 missed r.0 r.1.event r.1.done made plain works
+      makes : (t1 : FrameHistory) → Works (spi_basis d) (unit_bodies d) below chip (chip_after chip made y) w s o made false value y t1 missed r.0 r.1.event r.1.done → Makes_at t1
+      makes t1 works = plain_makes (spi_basis d) (unit_bodies d) below chip (chip_after chip made y) w s o false value y t1 missed r.0 r.1.event r.1.done made plain works
 
-      by : Works (spi_basis d) (unit_bodies a b d) below chip (chip_after chip made y) w s o made false value y t missed r.0 r.1.event r.1.done ⊎ ((l : ℕ) × (ready w s l ≡ false) × Works (spi_basis d) (unit_bodies a b d) below chip (chip_after chip made y) w s o made false value y (record t { missed = l ∷ t.missed }) missed r.0 r.1.event r.1.done)
-          → Makes_at t ⊎ ((l : ℕ) × (ready w s l ≡ false) × Makes_at (record t { missed = l ∷ t.missed }))
-      by (inl works) = inl (makes t works)
-      by (inr (l, none, works)) = inr (l, none, makes (record t { missed = l ∷ t.missed }) works)
-
-  pub start_right_at : IsStarting d a → (below : Reservations) (chip : Chip) (w : World) (s : SpiState) (e : FrameRole) (u : ℕ) (p : StartPlace) (o : Origin Call) (y : ℕ) (t : FrameHistory) (m : ℕ → Bool) → start_owes p ≡ false → ReceivedRight chip w (start_move d u p) y → Frame d d e u o → HasDone d e u true [] t
-      → SpiRepresents d (with_holds o t.acted (with_debt e u) below) chip w s → a.place d u p (foot d chip) s → is_shared (start_move d u p) ≡ false
-      → MakesTo (spi_basis d) (unit_bodies a b d) below chip (chip_after chip (start_move d u p) y) w s o (start_move d u p) false (value_of chip (start_move d u p)) y t (missed_after (spi_machine d) w s m) (after_start (at d e u (place.Start p)) (start_takes d u p (value_of chip (start_move d u p))))
-  start_right_at starting below chip w s e u p o y t m free come frame done h here plain =
-      plain_makes (spi_basis d) (unit_bodies a b d) below chip (chip_after chip made y) w s o false value y t (missed_after (spi_machine d) w s m) r.0 r.1.event r.1.done made plain
-      (start_works below chip w s y (missed_after (spi_machine d) w s m) e u p made value o t frame done still (start_takes d u p value) (starting.right u e (with_holds o t.acted (holds_by e) below) o t.acted chip w s p y free plain h here come))
+  pub start_right_at : (below : Reservations) (chip : Chip) (w : World) (s : SpiState) (e : FrameRole) (u : ℕ) (p : StartPlace) (o : Origin Call) (y : ℕ) (t : FrameHistory) (m : ℕ → Bool) → start_owes p ≡ false → Frame d d e u o → HasDone d e u true [] t
+      → SpiRepresents d (with_holds o t.acted (with_debt e u) below) chip w s → start_place d u p (foot d chip) s → is_shared (start_move d u p) ≡ false
+      → MakesTo (spi_basis d) (unit_bodies d) below chip (chip_after chip (start_move d u p) y) w s o (start_move d u p) false (value_of chip (start_move d u p)) y t (missed_after (spi_machine d) w s m) (after_start (at d e u (place.Start p)) (start_takes d u p (value_of chip (start_move d u p))))
+  start_right_at below chip w s e u p o y t m free frame done h here plain =
+      plain_makes (spi_basis d) (unit_bodies d) below chip (chip_after chip made y) w s o false value y t (missed_after (spi_machine d) w s m) r.0 r.1.event r.1.done made plain
+      (start_works below chip w s y (missed_after (spi_machine d) w s m) e u p made value o t frame done still (start_takes d u p value) (start_right d fits e (with_holds o t.acted (holds_by e) below) o t.acted chip w s u h y p free here))
     where
       made : Move
       made = start_move d u p
@@ -481,8 +457,4 @@ module _ (a : Starting) (b : Serving) (d : SpiTable) (fits : FitsSpi d) where
       r = after_start (at d e u (place.Start p)) (start_takes d u p value)
 
       still : resets_chip made ≡ false
-      still = (plain_move d made (own (is_shared made) plain (starting.may u (with_holds o t.acted (holds_by e) below) o t.acted chip w s p free h here))).0
-        where
-          own : (q : Bool) {z : Bool} → q ≡ false → q || z ≡ true → z ≡ true
-          own true i j = absurd (cc)
-          own false i j = j
+      still = (plain_move d made (second_holds (is_shared made) plain (start_may d fits u frame.small p (foot d chip) s here))).0

@@ -5,11 +5,12 @@ use Rattle.std.proofs.Common.{◌≡◌, ◌+◌, ◌*◌, ◌<◌, ◌≤◌, �
 use Rattle.spi_driver.specs.Terms
 use Terms.{after, All, ap, AreDifferent, arith, banked, before, block_of, blocks_of, Bool, byte_at, Channel}
 use Terms.{channel_in, channel_list, channel_of, channels_by, channels_by_number, channels_of, cond, Contains}
-use Terms.{count_by, false, FitsChannel, FitsJob, FitsSequence, FitsSpi, get_or_default, in_list, internal_by, is_some}
-use Terms.{Job, job_in, job_list, job_of, job_row, jobs_by, jobs_by_number, jobs_of, length, List, list_any, None}
-use Terms.{Option, refl, rows, Sequence, sequence_in, sequence_of, sequence_row, sequences_by_number, slice_index_or}
-use Terms.{so_at, Some, some_of, SpiChannel, SpiConfig, SpiJob, SpiSequence, SpiTable, subst, suc, sum_by, sum_by-cons}
-use Terms.{sym, table_of, take, taken_channel, taken_job, taken_sequence, true, uses_channel, words_of, zero, ℕ}
+use Terms.{count_by, false, FitsChannel, FitsJob, FitsSequence, FitsSpi, get_or_default, in_list, internal_by}
+use Terms.{is_some, Job, job_in, job_list, job_of, job_row, jobs_by, jobs_by_number, jobs_of, length, List, list_any}
+use Terms.{None, Option, refl, rows, Sequence, sequence_in, sequence_of, sequence_row, sequences_by_number}
+use Terms.{slice_index_or, so_at, Some, some_of, SpiChannel, SpiConfig, SpiJob, SpiSequence, SpiTable, subst, suc}
+use Terms.{sum_by, sum_by-cons, sym, table_of, take, taken_channel, taken_job, taken_sequence, true, uses_channel}
+use Terms.{words_of, zero, ℕ}
 use Rattle.mcal_base.specs.facts.Options.{some_is}
 
 -- ---- the words of channels
@@ -92,13 +93,15 @@ pub record IsSoundChannel (x : SpiChannel) : Type 0 where
   pub few : words_of x.channel_type ≤ 64
   pub narrow : x.data_width ≤ 16
 
-found_channel : (xs : List SpiChannel) → All IsSoundChannel xs → (c : ℕ) (k : Channel) → channel_in xs c ≡ Some k → (x : SpiChannel) × IsSoundChannel x × (taken_channel x ≡ k)
-found_channel [] all c k e = absurd (cc)
-found_channel (x ∷ xs) all c k e = by (found_channel xs (λ i y lt. all (suc i) y (omega (arith, lt))) c k) (x.id == c) e
+-- what a list of the configuration has by its number
+found_in : {A B : Type 0} (P : A → Type 0) (id : A → ℕ) (taken : A → B) (find : List A → ℕ → Option B) → ((n : ℕ) → find [] n ≡ None) → ((x : A) (xs : List A) (n : ℕ) → find (x ∷ xs) n ≡ (if id x == n then Some (taken x) else find xs n))
+    → (xs : List A) → All P xs → (n : ℕ) (k : B) → find xs n ≡ Some k → (x : A) × P x × (taken x ≡ k)
+found_in P id taken find none next [] all n k e = absurd (let f = sym (none n) ∙ e in cc)
+found_in {A = A} P id taken find none next (x ∷ xs) all n k e = by (id x == n) (sym (next x xs n) ∙ e) (found_in P id taken find none next xs (λ i y lt. all (suc i) y (omega (arith, lt))) n k)
   where
-    by : (channel_in xs c ≡ Some k → (x : SpiChannel) × IsSoundChannel x × (taken_channel x ≡ k)) → (q : Bool) → (if q then Some (taken_channel x) else channel_in xs c) ≡ Some k → (x : SpiChannel) × IsSoundChannel x × (taken_channel x ≡ k)
-    by rest true f = (x, all 0 x (omega arith), some_is (taken_channel x) k f)
-    by rest false f = rest f
+    by : (q : Bool) → (if q then Some (taken x) else find xs n) ≡ Some k → (find xs n ≡ Some k → (z : A) × P z × (taken z ≡ k)) → (z : A) × P z × (taken z ≡ k)
+    by true f rest = (x, all 0 x (omega arith), some_is (taken x) k f)
+    by false f rest = rest f
 
 -- a configured channel of the driver is one of the configuration's
 abbrev IsTaken : Channel → Type 0
@@ -128,7 +131,7 @@ module _ (g : SpiConfig) (sound : All IsSoundChannel g.channels) where
   ks = channels_by_number g.channels
 
   taken : (c : ℕ) (k : Channel) → channel_of d c ≡ Some k → IsTaken k
-  taken c k e = let r = found_channel g.channels sound in so_at IsTaken ks (r 0, (r 1, (r 2, (r 3, (r 4, (r 5, (r 6, (r 7, (r 8, (r 9, (r 10, (r 11, (r 12, (r 13, (r 14, (r 15, tt)))))))))))))))) c k e
+  taken c k e = let r = found_in IsSoundChannel (λ x. x.id) taken_channel channel_in (λ n. refl) (λ x xs n. refl) g.channels sound in so_at IsTaken ks (r 0, (r 1, (r 2, (r 3, (r 4, (r 5, (r 6, (r 7, (r 8, (r 9, (r 10, (r 11, (r 12, (r 13, (r 14, (r 15, tt)))))))))))))))) c k e
 
   size : (k : Channel) → IsTaken k → (0 < k.length) × (k.length ≤ 64) × (k.width ≤ 16)
   size k (x, s, e) = subst (λ (k : Channel). (0 < k.length) × (k.length ≤ 64) × (k.width ≤ 16)) e (let some = s.some in let few = s.few in let narrow = s.narrow in (omega (arith, some, few), omega (arith, few), omega (arith, narrow)))
@@ -210,22 +213,6 @@ pub record IsSound (g : SpiConfig) : Type 0 where
   pub sequences : All (IsSoundSequence g) g.sequences
   pub shared : (c i j : ℕ) (y z : Job) → job_in g.jobs i ≡ Some y → job_in g.jobs j ≡ Some z → list_any (λ k. k == c) (channels_by (Some y)) ≡ true → list_any (λ k. k == c) (channels_by (Some z)) ≡ true → y.unit ≡ z.unit
 
-found_job : (P : SpiJob → Type 0) (xs : List SpiJob) → All P xs → (j : ℕ) (k : Job) → job_in xs j ≡ Some k → (x : SpiJob) × P x × (taken_job x ≡ k)
-found_job P [] all j k e = absurd (cc)
-found_job P (x ∷ xs) all j k e = by (found_job P xs (λ i y lt. all (suc i) y (omega (arith, lt))) j k) (x.id == j) e
-  where
-    by : (job_in xs j ≡ Some k → (x : SpiJob) × P x × (taken_job x ≡ k)) → (q : Bool) → (if q then Some (taken_job x) else job_in xs j) ≡ Some k → (x : SpiJob) × P x × (taken_job x ≡ k)
-    by rest true f = (x, all 0 x (omega arith), some_is (taken_job x) k f)
-    by rest false f = rest f
-
-found_sequence : (P : SpiSequence → Type 0) (xs : List SpiSequence) → All P xs → (q : ℕ) (k : Sequence) → sequence_in xs q ≡ Some k → (x : SpiSequence) × P x × (taken_sequence x ≡ k)
-found_sequence P [] all q k e = absurd (cc)
-found_sequence P (x ∷ xs) all q k e = by (found_sequence P xs (λ i y lt. all (suc i) y (omega (arith, lt))) q k) (x.id == q) e
-  where
-    by : (sequence_in xs q ≡ Some k → (x : SpiSequence) × P x × (taken_sequence x ≡ k)) → (z : Bool) → (if z then Some (taken_sequence x) else sequence_in xs q) ≡ Some k → (x : SpiSequence) × P x × (taken_sequence x ≡ k)
-    by rest true f = (x, all 0 x (omega arith), some_is (taken_sequence x) k f)
-    by rest false f = rest f
-
 -- a listed number
 number_low : (xs : List ℕ) → AreNumbers xs → (n : ℕ) → Contains xs n → n < 16
 number_low xs few n (i, lt, own) = subst (λ k. k < 16) (sym (get_or_default xs i n 0 lt) ∙ own) (few i lt)
@@ -242,7 +229,7 @@ module _ (g : SpiConfig) (sound : IsSound g) where
   sequence_at _ lt = refl
 
   jobs_fit : (j : ℕ) (k : Job) → job_of t j ≡ Some k → FitsJob t j k
-  jobs_fit j k e = job_fits (found_job (IsSoundJob g) g.jobs sound.jobs j k (sym (job_at j (in_list (jobs_by_number g.jobs) j k e)) ∙ e))
+  jobs_fit j k e = job_fits (found_in (IsSoundJob g) (λ x. x.id) taken_job job_in (λ n. refl) (λ x xs n. refl) g.jobs sound.jobs j k (sym (job_at j (in_list (jobs_by_number g.jobs) j k e)) ∙ e))
     where
       job_fits : (x : SpiJob) × IsSoundJob g x × (taken_job x ≡ k) → FitsJob t j k
       job_fits (x, s, is) =
@@ -264,7 +251,7 @@ module _ (g : SpiConfig) (sound : IsSound g) where
               (few, found.0, channel_is g.channels c few ∙ found.1)
 
   sequences_fit : (q : ℕ) (k : Sequence) → sequence_of t q ≡ Some k → FitsSequence t q k
-  sequences_fit q k e = sequence_fits (found_sequence (IsSoundSequence g) g.sequences sound.sequences q k (sym (sequence_at q low) ∙ e))
+  sequences_fit q k e = sequence_fits (found_in (IsSoundSequence g) (λ x. x.id) taken_sequence sequence_in (λ n. refl) (λ x xs n. refl) g.sequences sound.sequences q k (sym (sequence_at q low) ∙ e))
     where
       low : q < 8
       low = in_list (sequences_by_number g.sequences) q k e

@@ -1,20 +1,20 @@
 -- What the words hold of channels, and which are in use, is the machine's.
--- From spi_sequences: words.AllSequences, spi_sequences: words.WordsOfModule and 7 more.
+-- From spi_sequences: words.JobPlaces, spi_sequences: words.Cases, spi_sequences: words.WordsOfModule and 5 more.
 -- Used by bookkeeping.Joined, src/told.rt, proofs/driver/SpiDriver/internal/Answers.
-use Rattle.std.proofs.Common.{◌≡◌, ◌+◌, ◌<◌, ◌≤◌, ◌%◌, ◌==◌, ◌&&◌, ◌||◌, [], ◌∷◌, ◌∙◌, ◌⊎◌, if◌then◌else◌}
+use Rattle.std.proofs.Common.{◌≡◌, ◌+◌, ◌<◌, ◌≤◌, ◌%◌, ◌==◌, ◌&&◌, ◌||◌, [], ◌∷◌, ◌∙◌, if◌then◌else◌}
 use Rattle.spi_driver.specs.Terms
 use Terms.{all_carried, all_cases, all_of, all_pending, and_parts, any_in, ap, arith, bank_of, bank_word, Banks}
-use Terms.{BanksAgree, Bool, carried_at, carries_channel, Carrying, Channel, channel_at, channel_number, channel_of}
-use Terms.{ChannelList, channels_by, channels_of, Chip, Contains, control_word, entry_carried, false, first-at}
-use Terms.{FitsSpi, get_contained, get_or_default, has_channel, inl, inr, internal_word, is_in_use, is_off, Job}
-use Terms.{job_number, job_of, JobList, jobs_by, jobs_list, jobs_of, length, length-take-le, List, list_any, list_by}
-use Terms.{list_of, lt_from, Memory, Mode, mode_word, nat_lt, None, none_under_way, not, number_there, of_sixteen}
-use Terms.{Off, Option, or_right, PENDING, Pending, Placed, placed_of, Received, refl, Reservations, Sent, Sequence}
-use Terms.{sequence_of, sequence_word, Side, slice_get, slice_index_or, Some, some_is, SpiRepresents, SpiState}
-use Terms.{SpiTable, STATE, subst, suc, sym, trio_fits, trio_of, true, uses_channel, view, whether, word_of, WORDS}
-use Terms.{World, zero, ℕ}
+use Terms.{BanksAgree, Bool, carried_at, carries_channel, Carrying, cases, Channel, channel_at, channel_number}
+use Terms.{channel_of, ChannelList, channels_by, channels_of, Chip, Contains, control_word, entry_carried, false}
+use Terms.{first-at, FitsSpi, get_contained, get_or_default, has_channel, internal_word, is_in_use, is_off, Job}
+use Terms.{job_number, job_of, JobList, jobs_list, jobs_of, length, length-take-le, List, list_any, list_by, list_of}
+use Terms.{lt_from, Memory, Mode, mode_word, nat_lt, None, none_under_way, not, number_there, of_sixteen, Off, Option}
+use Terms.{or_right, PENDING, Pending, Placed, placed_of, Received, refl, Reservations, Sent, sequence_word, Side}
+use Terms.{slice_get, slice_index_or, Some, some_is, SpiRepresents, SpiState, SpiTable, STATE, subst, suc, sym}
+use Terms.{trio_fits, trio_of, true, uses_channel, view, whether, word_of, WORDS, World, zero, ℕ}
 use Rattle.word_shapes.specs.TripleBuffer as trio
 use Rattle.spi_machine.specs.State as machine
+use Rattle.spi_serving.specs.laws.words.NextWords.{jobs_few}
 use Rattle.spi_sequences.specs.laws.words.WordsToState as said
 
 -- ---- what is told
@@ -95,6 +95,17 @@ both_ways false false f g = refl
 upto_is : (p : ℕ → Bool) (n : ℕ) (b : Bool) → ((i : ℕ) → i < n → p i ≡ true → b ≡ true) → (b ≡ true → (i : ℕ) × (i < n) × (p i ≡ true)) → any_upto p n ≡ b
 upto_is p n b there back = both_ways (any_upto p n) b (λ e. let r = upto_some p n e in there r.0 r.1 r.2) (λ e. let r = back e in upto_in p n r.0 r.1 r.2)
 
+-- where each place below the bound has an item of the list, or none
+search_is : (at : ℕ → Option ℕ) (has : Option ℕ → Bool) (p : ℕ → Bool) (xs : List ℕ) (n : ℕ) → length xs ≤ n → ((i : ℕ) → at i ≡ slice_get xs i) → has None ≡ false → ((k : ℕ) → has (Some k) ≡ p k)
+    → any_upto (λ i. has (at i)) n ≡ list_any p xs
+search_is at has p xs n few same none some = upto_is (λ i. has (at i)) n (list_any p xs)
+    (λ i lt e. found i (slice_get xs i) refl (ap has (sym (same i)) ∙ e))
+    (λ e. let (k, (i, lt, own), is) = said.any_some p xs e in (i, omega (arith, lt, few), ap has (same i ∙ said.at_contained xs i k lt own) ∙ some k ∙ is))
+  where
+    found : (i : ℕ) (o : Option ℕ) → slice_get xs i ≡ o → has o ≡ true → list_any p xs ≡ true
+    found i None e f = absurd (let g = sym none ∙ f in cc)
+    found i (Some k) e f = any_in p xs k (get_contained xs i k e) (sym (some k) ∙ f)
+
 -- ---- which channels are in use
 
 module _ (d : SpiTable) (fits : FitsSpi d) (c : ℕ) where
@@ -110,41 +121,11 @@ module _ (d : SpiTable) (fits : FitsSpi d) (c : ℕ) where
       by None e = omega arith
       by (Some k) e = let f = fits.jobs j k e in let row = f.row in let few = f.few in let is = length-take-le k.channels.count k.channels.numbers (omega (arith, row, few)) in omega (arith, is, few)
 
-  found_number : (xs : List ℕ) (i : ℕ) (o : Option ℕ) → slice_get xs i ≡ o → is_number c o ≡ true → list_any (λ k. k == c) xs ≡ true
-  found_number xs i None e f = absurd (cc)
-  found_number xs i (Some n) e f = any_in (λ k. k == c) xs n (get_contained xs i n e) f
-
-  get_number : (xs : List ℕ) → (n : ℕ) → length xs ≤ n → list_any (λ k. k == c) xs ≡ true → (i : ℕ) × (i < n) × (is_number c (slice_get xs i) ≡ true)
-  get_number xs n few e =
-      let (k, (i, lt, own), is) = said.any_some (λ k. k == c) xs e in
-      (i, omega (arith, lt, few), ap (is_number c) (said.at_contained xs i k lt own) ∙ is)
-
   listed_is : (j : ℕ) → is_listed (list_of d j) c 4 ≡ uses_channel d c j
-  listed_is j = upto_is (λ i. is_number c (channel_number (list_of d j) i)) 4 (uses_channel d c j)
-      (λ i lt e. found_number (channels_of d j) i (slice_get (channels_of d j) i) refl (ap (is_number c) (sym (number_of j i)) ∙ e))
-      (λ e. let r = get_number (channels_of d j) 4 (channels_few j) e in (r.0, r.1, ap (is_number c) (number_of j r.0) ∙ r.2))
-
-  jobs_few : (q : ℕ) → length (jobs_of d q) ≤ 16
-  jobs_few q = by (sequence_of d q) refl
-    where
-      by : (o : Option Sequence) → sequence_of d q ≡ o → length (jobs_by o) ≤ 16
-      by None e = omega arith
-      by (Some k) e = let f = fits.sequences q k e in let row = f.row in let few = f.few in let is = length-take-le k.jobs.count k.jobs.numbers (omega (arith, row, few)) in omega (arith, is, few)
-
-  has_is : (o : Option ℕ) (j : ℕ) → o ≡ Some j → has_at d c o ≡ uses_channel d c j
-  has_is o j e = ap (has_at d c) e ∙ listed_is j
-
-  found_job : (xs : List ℕ) (i : ℕ) (o : Option ℕ) → slice_get xs i ≡ o → has_at d c o ≡ true → list_any (uses_channel d c) xs ≡ true
-  found_job xs i None e f = absurd (cc)
-  found_job xs i (Some j) e f = any_in (uses_channel d c) xs j (get_contained xs i j e) (sym (listed_is j) ∙ f)
+  listed_is j = search_is (channel_number (list_of d j)) (is_number c) (λ k. k == c) (channels_of d j) 4 (channels_few j) (number_of j) refl (λ k. refl)
 
   sequence_has : (q : ℕ) → has_in d (jobs_list d q) c 16 ≡ list_any (uses_channel d c) (jobs_of d q)
-  sequence_has q = upto_is (λ i. has_at d c (job_number (jobs_list d q) i)) 16 (list_any (uses_channel d c) (jobs_of d q))
-      (λ i lt e. found_job (jobs_of d q) i (slice_get (jobs_of d q) i) refl (ap (has_at d c) (sym (number_there d fits q i)) ∙ e))
-      (λ e. by (said.any_some (uses_channel d c) (jobs_of d q) e))
-    where
-      by : (j : ℕ) × Contains (jobs_of d q) j × (uses_channel d c j ≡ true) → (i : ℕ) × (i < 16) × (has_at d c (job_number (jobs_list d q) i) ≡ true)
-      by (j, (i, lt, own), is) = let few = jobs_few q in (i, omega (arith, lt, few), has_is (job_number (jobs_list d q) i) j (number_there d fits q i ∙ said.at_contained (jobs_of d q) i j lt own) ∙ is)
+  sequence_has q = search_is (job_number (jobs_list d q)) (has_at d c) (uses_channel d c) (jobs_of d q) 16 (jobs_few d fits q) (number_there d fits q) refl listed_is
 
   module _ (held : Reservations) (chip : Chip) (w : World) (s : SpiState) (h : SpiRepresents d held chip w s) where
     -- those under way are the pending ones, and those that units carry out
@@ -167,11 +148,9 @@ module _ (d : SpiTable) (fits : FitsSpi d) (c : ℕ) where
             some_at xs n x e = get_or_default xs n (Some x) None (some_there xs n x e) ∙ e
 
         there : (p : Pending) × Contains (all_of (view s)) p × (in_one p ≡ true) → machine.uses d s c ≡ true
-        there (p, own, is) = by (all_cases (view s) p own)
-          where
-            by : Contains s.pending p ⊎ ((u : ℕ) × ((view s).begun u ≡ Some p)) → machine.uses d s c ≡ true
-            by (inl pending) = ap (λ q. q || list_any (carries_channel d c) s.carried) (any_in in_one s.pending p pending is)
-            by (inr (u, e)) = carried_there u p (carried_at s u) refl e is
+        there (p, own, is) = cases (all_cases (view s) p own)
+            (λ pending. ap (λ q. q || list_any (carries_channel d c) s.carried) (any_in in_one s.pending p pending is))
+            (λ (u, e). carried_there u p (carried_at s u) refl e is)
 
         back : (q : Bool) → is_in_use d c s.pending ≡ q → q || list_any (carries_channel d c) s.carried ≡ true → is_in_use d c (all_of (view s)) ≡ true
         back true e f = let r = said.any_some in_one s.pending e in any_in in_one (all_of (view s)) r.0 (all_pending (view s) r.0 r.1) r.2

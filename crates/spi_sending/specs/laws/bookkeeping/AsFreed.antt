@@ -1,6 +1,6 @@
 -- A job's last word is kept while the next one's first word is in transfer: the words stand as if the unit had been freed
 -- before, but for its own.
--- From service_outline: Words, spi_serving: words.AllKept, spi_serving: words.LastKept and 5 more.
+-- From spi_serving: words.AllKept, service_outline: Words, spi_serving: services.WellEnded and 4 more.
 -- Used by services.SendGoesOn.
 use Rattle.std.proofs.Common.{◌≡◌, ◌≢◌, ◌+◌, ◌≤◌, ◌∙◌, ◌⊎◌, if◌then◌else◌}
 use Rattle.spi_sending.specs.Terms
@@ -8,7 +8,7 @@ use Terms.{AllKept, arith, At, Chip, chip_after, committing_banks, destination_w
 use Terms.{IsApart, IsBase, IsFree, length, length_after, Part, placed_of, Received, ReceivedAt, refl, running_word}
 use Terms.{same_or_other, slice_get, Some, STATE, stands-agree, stands_owed, StandsIn, Store, stored_other}
 use Terms.{stored_same, subst, sym, ToServe, trio_of, true, upto, word_of, words_of, ℕ}
-use Rattle.spi_serving.specs.laws.words.LastKept as kept_laws
+use Rattle.spi_serving.specs.laws.services.WellEnded as kept_laws
 
 module _ (st : ToServe) (at : At st st.g.at (length st.g.received)) (last : length st.g.received + 1 ≡ length (words_of st.d st.g.parts)) (v : ℕ)
     (free : Chip) (freed : IsFree st.d st.w st.chip st.u free) (sent : Chip) (outside : StandsIn sent st.w) (alike : (j : ℕ) → j ≢ running_word st.u → word_of sent j ≡ word_of st.chip j) where

@@ -1,5 +1,5 @@
 -- The unit of a call that waits carries out its sequence, so far as the frame says.
--- From bookkeeping.HeldWord, services.SendWindows, spi_serving: bookkeeping.UnderWay.
+-- From bookkeeping.HeldWord, services.SendWindows, spi_serving: words.FacingWords.
 -- Used by services.SendFirst, services.SendFurther, services.SendGoesOn, services.SendKeeps, services.SendLast.
 use Rattle.std.proofs.Common.{◌≡◌, ◌||◌, ◌∷◌, ◌∙◌, if◌then◌else◌}
 use Rattle.spi_sending.specs.Terms

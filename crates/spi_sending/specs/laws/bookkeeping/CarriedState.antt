@@ -1,5 +1,5 @@
 -- A unit carries out a sequence, from a job on: the state is sound, and the words stand for it.
--- From spi_sequences: words.ListTests, spi_sequences: words.AllSequences, spi_sequences: words.JobPlaces and 3 more.
+-- From spi_sequences: words.JobPlaces, spi_sequences: words.Cases, bookkeeping.HeldWord and 1 more.
 -- Used by services.SendGoesOn, services.SendStarts.
 use Rattle.std.proofs.Common.{◌≡◌, ◌≢◌, ◌<◌, ◌≤◌, ◌==◌, ◌||◌, ◌∷◌, ◌∙◌, ◌⊎◌, if◌then◌else◌}
 use Rattle.spi_sending.specs.Terms
@@ -39,11 +39,9 @@ module _ (d : SpiTable) (fits : FitsSpi d) (v : View) (h : IsSoundState d v) (u 
 
   -- are on other units
   unit_other : (x : Pending) → Contains (all_of v) x → x.sequence ≢ q → unit_of_sequence d x.sequence ≢ u
-  unit_other x there ne e = by (all_cases v x there)
-    where
-      by : Contains v.pending x ⊎ ((n : ℕ) × (v.begun n ≡ Some x)) → ⊥
-      by (inl is) = let f = sym (h.carries.asked x is) ∙ ap (is_sync_unit d) e ∙ t.sync in absurd (cc)
-      by (inr (n, is)) = ne (t.same x (ap v.begun (sym e ∙ (h.carries.unit n x is).2) ∙ is))
+  unit_other x there ne e = cases (all_cases v x there)
+      (λ is. let f = sym (h.carries.asked x is) ∙ ap (is_sync_unit d) e ∙ t.sync in absurd (cc))
+      (λ (n, is). ne (t.same x (ap v.begun (sym e ∙ (h.carries.unit n x is).2) ∙ is)))
 
   -- have none of its jobs
   pub none_own : (x : Pending) (i : ℕ) → Contains (all_of v) x → x.sequence ≢ q → i < length (jobs_of d x.sequence) → list_any (λ k. k == slice_index_or (jobs_of d x.sequence) i 0) (jobs_of d q) ≡ false

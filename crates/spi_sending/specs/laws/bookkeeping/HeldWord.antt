@@ -1,11 +1,11 @@
 -- What a frame holds that waits for a word: how it changes, and what it says of the unit's words.
--- From spi_serving: bookkeeping.UnderWay, spi_serving: words.Positions, spi_sequences: words.PendingWords and 4 more.
--- Used by services.SendSteps, services.SendAround, services.SendFurther, services.SendGoesOn and 9 more.
-use Rattle.std.proofs.Common.{◌≡◌, ◌/◌, ◌%◌, ◌<◌, ◌≤◌, ◌==◌, ◌∷◌, ◌∙◌, if◌then◌else◌}
+-- From spi_serving: words.FacingWords, spi_serving: words.Positions, spi_sequences: words.PendingWords and 4 more.
+-- Used by services.SendFurther, services.SendGoesOn, services.SendLast, services.SendSteps and 9 more.
+use Rattle.std.proofs.Common.{◌≡◌, ◌≢◌, ◌/◌, ◌%◌, ◌<◌, ◌≤◌, ◌==◌, ◌∷◌, ◌∙◌, if◌then◌else◌}
 use Rattle.spi_sending.specs.Terms
 use Terms.{agrees_at, ap, arith, Bool, Call, Called, carried_at, CarriesAgrees, Channel, channel_of, Chip, done_alike}
 use Terms.{false, FitsSpi, flat_map-cons, for_at, Going, going_next, GoingAgrees, held_word, holds_changed, HoldsLike}
-use Terms.{is_done, is_for, is_off, IsDone, IsSending, IsServed, job_at_place, job_place, jobs_of, KnowsEnd, length}
+use Terms.{is_done, is_for, is_off, is_sync_unit, IsDone, IsSending, IsServed, job_at_place, job_place, jobs_of, KnowsEnd, length}
 use Terms.{List, next_job, None, Option, Part, part_most, parts_few, place_back, placed_of, Position, position_in}
 use Terms.{position_word, Read, readied_by, refl, Reservation, Reservations, ReservedBy, Run, run_at, run_carried}
 use Terms.{run_in, run_of, running_says, running_word, RunsNext, Sending, SerialWait, Served, slice_get}
@@ -30,6 +30,10 @@ sends_alike d below u q n at banks failed device = record {
   readied = flat_map-cons (λ h. readied_by h.what) (sending_of u q n at banks failed device) below;
   stored = flat_map-cons (λ h. stored_by h.what) (sending_of u q n at banks failed device) below;
 }
+
+-- a unit whose jobs aren't sent is another than one whose are
+pub async_other : (d : SpiTable) (u m : ℕ) → is_sync_unit d u ≡ true → is_sync_unit d m ≡ false → m ≢ u
+async_other d u m sync async e = let f = sym async ∙ ap (is_sync_unit d) e ∙ sync in absurd (cc)
 
 pub like_through : (d : SpiTable) (a b c : Reservations) → HoldsLike d a b → HoldsLike d a c → HoldsLike d b c
 like_through d a b c x y = record {

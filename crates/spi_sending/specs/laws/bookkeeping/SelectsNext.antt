@@ -1,5 +1,5 @@
 -- Before the first word of a further job its device is selected, while the word before is done: the agreement stays.
--- From bookkeeping.HeldWord, spi_sequences: words.PendingWords, spi_serving: hardware.UnitRegisters and 2 more.
+-- From bookkeeping.HeldWord, spi_sequences: words.PendingWords, spi_serving: bookkeeping.JobEnd and 2 more.
 -- Used by services.SendSteps.
 use Rattle.std.proofs.Common.{◌≡◌, ◌<◌, ◌∷◌, ◌∙◌}
 use Rattle.spi_sending.specs.Terms

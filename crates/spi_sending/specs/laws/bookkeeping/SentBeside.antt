@@ -1,6 +1,6 @@
 -- The frames below one that waits wait for words of other units; their reservations stay where those units' words and
 -- registers do.
--- From spi_sequences: services.StartSteps, spi_sequences: words.ListTests.
+-- From spi_sequences: services.StartSteps.
 -- Used by bookkeeping.SelectsNext, services.SendFurther, services.SendGoesOn, services.SendLast.
 use Rattle.std.proofs.Common.{◌≡◌, ◌≢◌, ◌<◌, ◌==◌, [], ◌∷◌, ◌∙◌}
 use Rattle.spi_sending.specs.Terms

@@ -1,7 +1,7 @@
 -- Around the steps of a call that sends a sequence and waits: its frame may make them, they turn the mask as they should,
 -- what makes no event is calm, and the hardware leaves its places.
--- From bookkeeping.HeldWord, spi_sequences: services.SyncSteps, spi_starting: services.StartAround and 7 more.
--- Used by services.SendRight, services.SendSteps, spi_driver: bookkeeping.MaskDiscipline and 12 more.
+-- From bookkeeping.HeldWord, spi_sequences: services.SyncSteps, spi_starting: services.StartAround and 6 more.
+-- Used by services.SendRight, services.SendSteps, spi_driver: services.UnitRight, services.SendFree and 10 more.
 use Rattle.std.proofs.Common.{◌≡◌, ◌≢◌, ◌<◌, ◌==◌, ◌&&◌, ◌||◌, ◌∷◌, [], ◌∙◌, ◌⊎◌, if◌then◌else◌}
 use Rattle.spi_sending.specs.Terms
 use Terms.{ap, arith, Arrived, asking, AssertedAt, begins_word, Bool, Call, Called, carried_at, channel_of}
@@ -116,11 +116,10 @@ module _ (d : SpiTable) where
       own_at (place.Shut failed) e h = refl
       own_at (place.Taker failed) e h = frame_may d o (sync_move (k (place.Taker failed)) (place.Taker failed)) (by h.1.this h.0)
         where
-          few : u < 2
-          few = unit_small h.1.unit
-
           by : {o : Origin Call} {t : FrameHistory} → IsThisFrame (Called (calls.Sequence q SyncTransmit)) fresh_history o t → SpiRepresents d (with_holds o t.acted (Sending u q n at bs (Some failed) (device_at d q n) ∷ []) below) chip w s → is_shared (sync_move (k (place.Taker failed)) (place.Taker failed)) || may d (sync_move (k (place.Taker failed)) (place.Taker failed)) ≡ true
-          by Is_this_frame g = serve_may d fits (sending_of u q n at bs (Some failed) (device_at d q n) ∷ below) chip w s g u few (serve.Taker (served_sent d fits below chip w s u q n at bs failed (device_at d q n) g)) refl (word_sent d fits below chip w s u q n at bs failed (device_at d q n) g)
+          by Is_this_frame g =
+              let few : u < 2 = unit_small h.1.unit in
+              serve_may d fits (sending_of u q n at bs (Some failed) (device_at d q n) ∷ below) chip w s g u few (serve.Taker (served_sent d fits below chip w s u q n at bs failed (device_at d q n) g)) refl (word_sent d fits below chip w s u q n at bs failed (device_at d q n) g)
       own_at (place.Receive r x) e h = lt_from u 2 (unit_small h.1.0.unit)
       own_at (place.Serve (serve.Width a p)) e h = frame_may d o (sync_move (k (place.Serve (serve.Width a p))) (place.Serve (serve.Width a p))) (serve_may d fits _ chip w s h.0 u (unit_small h.1.0.unit) (serve.Width a p) refl h.1.2)
       own_at (place.Serve (serve.Find a p f)) e h = frame_may d o (sync_move (k (place.Serve (serve.Find a p f))) (place.Serve (serve.Find a p f))) (serve_may d fits _ chip w s h.0 u (unit_small h.1.0.unit) (serve.Find a p f) refl h.1.2)

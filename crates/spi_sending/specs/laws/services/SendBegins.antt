@@ -1,6 +1,6 @@
 -- Where a call that sends a sequence and waits begins, and that it makes no more steps than it may.
--- From spi_sequences: words.ListTests, spi_sequences: services.SyncSteps, services.SendAround and 5 more.
--- Used by spi_driver: services.SendPart.
+-- From spi_sequences: services.SyncSteps, services.SendAround, spi_sequences: bookkeeping.SequenceEnded and 4 more.
+-- Used by spi_driver: bookkeeping.Lawful.
 use Rattle.std.proofs.Common.{◌≡◌, ◌+◌, ◌-◌, ◌*◌, ◌<◌, ◌≤◌, ◌==◌, ◌||◌, ◌∷◌, [], ◌∙◌, if◌then◌else◌}
 use Rattle.std.proofs.Common.{sum_by, take_all}
 use Rattle.std.proofs.lemmas.List.Sums.{sum_by_more}

@@ -1,6 +1,6 @@
 -- A job of a call that waits has begun on a unit that was between jobs: the moves that its window owes from there, and the
 -- agreement after them.
--- From spi_starting: words.PinnedBanks, spi_sequences: words.WordsOfModule, service_outline: Words and 15 more.
+-- From spi_starting: words.PinnedBanks, spi_sequences: words.WordsOfModule and 14 more.
 -- Used by services.SendGoesOn, services.SendStarts.
 use Rattle.std.proofs.Common.{◌≡◌, ◌≢◌, ◌+◌, ◌<◌, ◌≤◌, ◌∷◌, ◌∙◌, ◌⊎◌}
 use Rattle.spi_sending.specs.Terms
@@ -14,12 +14,13 @@ use Terms.{run_carried, run_of, run_sent, running_word, RunsBy, RunsNext, same_o
 use Terms.{Sent, SequencesAgree, set_up_code, set_up_or, set_up_word, slice_get, slice_index, Some, Source, spi_owing}
 use Terms.{SpiRepresents, STATE, stands-agree, stands_owed, StandsIn, Store, stored_other, stored_same, subst, sym, sync_prepares}
 use Terms.{taken_of, Transfer, trio_of, true, unit_at, UnitAgrees, view, WiredAs, with_next_in, word_of, World, ℕ}
-use Rattle.spi_sending.specs.laws.{bookkeeping.HeldWord.{sending_of, sends_alike}, services.SendAround.{body}}
+use Rattle.spi_sending.specs.laws.{bookkeeping.HeldWord.{async_other, sending_of, sends_alike}, services.SendAround.{body}}
 use Rattle.spi_sending.specs.laws.services.SendReady as ready
-use Rattle.spi_starting.specs.laws.{ToBegin.{begun_going, going_begun, ToBegin}, words.BegunWords.{begun_runs, held_else}}
-use Rattle.spi_starting.specs.laws.words.PinnedBanks.{banks_now, else_now, here_now, not_here, sent_before, the_job}
+use Rattle.spi_starting.specs.laws.{ToBegin.{begun_going, going_begun, ToBegin}, words.PinnedBanks.{banks_now}}
+use Rattle.spi_starting.specs.laws.words.PinnedBanks.{begun_runs, else_now, held_else, here_now, not_here, sent_before}
+use Rattle.spi_starting.specs.laws.words.PinnedBanks.{the_job}
 use Rattle.spi_starting.specs.laws.bookkeeping.RanState.{sent_by}
-use Rattle.spi_starting.specs.laws.words.QuietWords.{IsQuiet, quiet_set_up, quiet_users}
+use Rattle.spi_starting.specs.laws.bookkeeping.RanState.{IsQuiet, quiet_set_up, quiet_users}
 use Rattle.spi_starting.specs.laws.words.ReadyWords.{beside_first, beside_quiet, IsBeside}
 use Rattle.spi_sequences.specs.declared.service.sync.SyncPlace.TheVariants as place
 
@@ -89,11 +90,8 @@ module _ (t : ToBegin) (base : Chip) (w : World) (q n : ℕ) (bs : List ℕ) (de
     nexts_by m lt (inl e) = subst (λ k. RunsNext d (view s) k (now k)) (sym e) (subst (λ g. RunsNext d (view s) u g) (sym (here_now t)) (all_carried (view s) u p few begun_is, subst (λ b. RunsBy b (view s) u p) (sym o.sync) begun_is, t.for))
     nexts_by m lt (inr ne) = subst (λ g. RunsNext d (view s) m g) (sym (else_now t m ne)) (o.others m lt ne)
 
-    other_one : (m : ℕ) → is_sync_unit d m ≡ false → m ≢ u
-    other_one m async e = let f = sym async ∙ ap (is_sync_unit d) e ∙ o.sync in absurd (cc)
-
     unit_by : (m : ℕ) → m < 2 → is_sync_unit d m ≡ false → UnitAgrees d (unit_at f.serials m) (run_at s m) (now m)
-    unit_by m lt async = subst (λ x. UnitAgrees d (unit_at x.serials m) (run_at s m) (now m)) (sym rest) (subst (λ g. UnitAgrees d (unit_at base.serials m) (run_at s m) g) (sym (else_now t m (other_one m async))) (o.units m lt async))
+    unit_by m lt async = subst (λ x. UnitAgrees d (unit_at x.serials m) (run_at s m) (now m)) (sym rest) (subst (λ g. UnitAgrees d (unit_at base.serials m) (run_at s m) g) (sym (else_now t m (async_other d u m o.sync async))) (o.units m lt async))
 
     carried_by : (m : ℕ) → m < 2 → is_sync_unit d m ≡ true → (m ≡ u) ⊎ (m ≢ u) → CarriesAgrees d (unit_at f.serials m) (run_carried (carried_at s m)) (now m)
     carried_by m lt sync (inl e) =

@@ -1,5 +1,5 @@
 -- The first word of a job begins for a call that waits: the event of its first job, and the word on the wire.
--- From spi_sequences: words.JobPlaces, bookkeeping.CarriedOut, bookkeeping.HeldWord, services.SendFree and 7 more.
+-- From spi_sequences: words.JobPlaces, spi_serving: words.FacingWords, bookkeeping.CarriedOut and 6 more.
 -- Used by services.SendGoesOn, services.SendStarts.
 use Rattle.std.proofs.Common.{◌≡◌, ◌+◌, ◌-◌, ◌%◌, ◌^◌, ◌<◌, ◌==◌, ◌&&◌, ◌||◌, ◌∷◌, ◌∙◌, if◌then◌else◌}
 use Rattle.spi_sending.specs.Terms

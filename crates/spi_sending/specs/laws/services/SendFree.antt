@@ -1,5 +1,5 @@
 -- A call that sends a sequence looks whether its unit is free: it finds an error, or the first word of its first job.
--- From spi_sequences: words.JobPlaces, spi_sequences: words.ListTests, services.SendAround and 8 more.
+-- From spi_sequences: words.JobPlaces, services.SendAround, spi_sequences: services.SyncSteps and 7 more.
 -- Used by services.SendSteps, services.SendFirst, services.SendGoesOn, services.SendStarts.
 use Rattle.std.proofs.Common.{◌≡◌, ◌%◌, ◌^◌, ◌<◌, ◌≤◌, ◌==◌, ◌||◌, [], ◌∙◌, if◌then◌else◌}
 use Rattle.spi_sending.specs.Terms
@@ -138,11 +138,10 @@ module _ (d : SpiTable) (fits : FitsSpi d) (below : Reservations) (chip : Chip) 
   taken : (g : Going) → h.going u ≡ Some g → FreeMakes (word_of chip (running_word u)) (sync_frees (k place.Free) (word_of chip (running_word u) == 0))
   taken g some = subst (λ b. FreeMakes (word_of chip (running_word u)) (sync_frees (k place.Free) b)) (sym nonzero) (frees_carried (carried_at s u) refl)
     where
-      runs : GoingAgrees d (word_of chip) u g
-      runs = subst (λ o. RunAgrees d (word_of chip) u o) some ((h.words.on on).runs u few)
-
       nonzero : (word_of chip (running_word u) == 0) ≡ false
-      nonzero = other_number (word_of chip (running_word u)) 0 (λ f. let z = sym f ∙ runs.running in omega (arith, z))
+      nonzero =
+          let runs : GoingAgrees d (word_of chip) u g = subst (λ o. RunAgrees d (word_of chip) u o) some ((h.words.on on).runs u few) in
+          other_number (word_of chip (running_word u)) 0 (λ f. let z = sym f ∙ runs.running in omega (arith, z))
 
       told : TellsAs (spi_machine d) (Called asks) (tells_error (named ENotOk) errors.SpiSeqInProcess) (record { answer = named ENotOk; owed = owed_error (reporting d) SpiSyncTransmit errors.SpiSeqInProcess })
       told = error_told (spi_machine d) asks (named ENotOk) errors.SpiSeqInProcess

@@ -1,6 +1,6 @@
 -- A call that sends a sequence and waits: each step leaves fewer, whatever is loaded, and they are as many as the call
 -- may make.
--- From spi_sequences: services.SyncSteps, spi_sequences: services.ServeSteps and 5 more.
+-- From spi_sequences: services.SyncSteps, spi_sequences: services.ServeSteps and 4 more.
 -- Used by services.SendRight.
 use Rattle.std.proofs.Common.{◌≡◌, ◌+◌, ◌-◌, ◌*◌, ◌<◌, ◌≤◌, ◌==◌, ◌&&◌, ◌∙◌, if◌then◌else◌}
 use Rattle.spi_sending.specs.Terms

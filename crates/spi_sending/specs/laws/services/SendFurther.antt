@@ -1,6 +1,6 @@
 -- A further word of a job begins for a call that waits: the event, and the moves that the window owes after it.
 -- spi_serving: services.FurtherBegun.
--- From spi_serving: bookkeeping.MovedOn, spi_sequences: services.ServeSteps and 23 more.
+-- From spi_serving: services.FurtherBegun, bookkeeping.HeldWord, spi_sequences: services.ServeSteps and 16 more.
 -- Used by services.SendFirst, services.SendSteps.
 use Rattle.std.proofs.Common.{◌≡◌, ◌≢◌, ◌+◌, ◌<◌, ◌==◌, ◌&&◌, ◌||◌, [], ◌∷◌, ◌++◌, ◌∙◌, ◌⊎◌, if◌then◌else◌}
 use Rattle.spi_sending.specs.Terms
@@ -23,7 +23,7 @@ use Terms.{view, wire_at, with_carried, with_item, word_after, word_of, words_af
 use Rattle.spi_sending.specs.Sending.{device_at, HasBank, IsAt, IsSender}
 use Rattle.spi_sending.specs.laws.bookkeeping.CarriedOut as carried_out
 use Rattle.spi_sending.specs.laws.bookkeeping.HeldWord as held_word_laws
-use Rattle.spi_sending.specs.laws.{bookkeeping.HeldWord.{sending_of, sendings_alike}}
+use Rattle.spi_sending.specs.laws.{bookkeeping.HeldWord.{async_other, sending_of, sendings_alike}}
 use Rattle.spi_sending.specs.laws.{bookkeeping.SentBeside.{sends_beside}, services.SendAround.{body}}
 use Rattle.spi_sending.specs.laws.{services.SendWindows.{asks, WordBegins}}
 use Rattle.spi_serving.specs.laws.services.FurtherRight as further
@@ -248,12 +248,11 @@ module _ (d : SpiTable) (fits : FitsSpi d) (below : Reservations) (chip : Chip) 
     banks_kept : (j : ℕ) (x : Part) (k : Channel) → slice_get under.job.parts j ≡ Some x → channel_of d x.channel ≡ Some k → k.internal ≡ true → 0 < taken_of p j (length x.values) → word_of final (held_word (placed_of d x.channel)) ≡ slice_index_or bs j 0
     banks_kept j x k there known internal some = by_place (same_or_other j under.job.at.channel)
       where
-        there_now : slice_get says.job.parts j ≡ Some x
-        there_now = ap (λ (g : Going). slice_get g.parts j) (sym going_same) ∙ there
-
         -- what was kept before
         before : 0 < taken_of under.job.at j (length x.values) → word_of chip (held_word (placed_of d x.channel)) ≡ slice_index_or bs j 0
-        before more = says.kept j x k there_now known internal (subst (λ z. 0 < taken_of z j (length x.values)) at_same more)
+        before more =
+            let there_now : slice_get says.job.parts j ≡ Some x = ap (λ (g : Going). slice_get g.parts j) (sym going_same) ∙ there in
+            says.kept j x k there_now known internal (subst (λ z. 0 < taken_of z j (length x.values)) at_same more)
 
         by_place : (j ≡ under.job.at.channel) ⊎ (j ≢ under.job.at.channel) → word_of final (held_word (placed_of d x.channel)) ≡ slice_index_or bs j 0
         by_place (inr ne) =
@@ -314,9 +313,6 @@ module _ (d : SpiTable) (fits : FitsSpi d) (below : Reservations) (chip : Chip) 
       sends_beside d q u says.job chip final w h.going going_after s state1 says.is says.sequence (λ m ne. going_other h.going u (Some going_on) m ne) (λ m ne. ap (λ z. z.select) (others m ne)) (λ m g j x k ne lt e there known. away m g j x k ne lt e there known) (λ m ne. item-other None s.carried u m (Some later_carrying) ne) below is.alone h.sending.1,
     )
 
-    other_one : (m : ℕ) → is_sync_unit d m ≡ false → m ≢ u
-    other_one m async e = let f = sym async ∙ ap (is_sync_unit d) e ∙ says.sync in absurd (cc)
-
     carried_now : (m : ℕ) → m < 2 → is_sync_unit d m ≡ true → (m ≡ u) ⊎ (m ≢ u) → CarriesAgrees d (unit_at final.serials m) (run_carried (carried_at state1 m)) (going_after m)
     carried_now m lt sync (inl e) =
         subst (λ k. CarriesAgrees d (unit_at final.serials k) (run_carried (carried_at state1 k)) (going_after k)) (sym e)
@@ -333,7 +329,7 @@ module _ (d : SpiTable) (fits : FitsSpi d) (below : Reservations) (chip : Chip) 
         begun_agrees st first p second follows came final words state1 seen like held1 (h.right.0, right_like d s channels like.source below h.right.1) sending_now h.carriers
         (λ m k agrees. banks_held d held held1 going_after (word_of final) (view s) m k (sendings_alike d below u q n n at p bs bs (Some a.served.failed) None device device) agrees) (λ m owes. owes)
         (stands-move c w (Store (position_word u) (packed_position p)) 0 kept.outside) rest.wiring rest.control (ap (λ x. length x.units) rest.serials ∙ length-set chip.serials.units u _ ∙ h.size)
-        (λ m lt async. let ne = other_one m async in
+        (λ m lt async. let ne = async_other d u m says.sync async in
         subst (λ x. UnitAgrees d x (run_at s m) (going_after m)) (sym (others m ne))
         (subst (λ o. UnitAgrees d (unit_at chip.serials m) (run_at s m) o) (sym (going_other h.going u (Some going_on) m ne)) (h.units m lt async)))
         (λ m lt sync. carried_now m lt sync (same_or_other m u))

@@ -1,6 +1,6 @@
 -- A further job of a sequence begins for a call that waits, and the job before has ended: what its window owes, and the
 -- agreement after it.
--- From spi_serving: services.FreedUnit, spi_sequences: words.FirstParts and 41 more.
+-- From spi_sequences: words.JobPlaces, spi_sequences: words.SameWords, spi_serving: services.FreedUnit and 33 more.
 -- Used by services.WindowsRight.
 use Rattle.std.proofs.Common.{◌≡◌, ◌≢◌, ◌+◌, ◌-◌, ◌%◌, ◌^◌, ◌<◌, ◌≤◌, ◌==◌, ◌||◌, [], ◌∷◌, ◌++◌, ◌∙◌, ◌⊎◌, if◌then◌else◌}
 use Rattle.spi_sending.specs.Terms
@@ -11,7 +11,7 @@ use Terms.{ChannelState, Chip, chip_after, CommitsAfter, Contains, Contains-get_
 use Terms.{entries_of, entry_carried, external_part, ExternalAgrees, false, few_places, first_place, FitsSpi}
 use Terms.{flat_map, fresh_history, goes_to_next, Going, going_here, going_left, going_next, going_other, going_words}
 use Terms.{happens, has_bit, held_word, holds_debt, HoldsLike, inl, inr, internal_part, InternalAgrees, InTransfer}
-use Terms.{is_for, is_left, is_number, is_of, is_off, is_on_unit, is_sent, is_sync_unit, IsAside, IsFilled, IsFree}
+use Terms.{is_for, is_left, is_number, is_of, is_off, is_on_unit, is_sent, IsAside, IsFilled, IsFree}
 use Terms.{IsLast, IsSending, IsServed, IsSoundState, IsStored, IsTold, item-other, item-same, job_at_place, job_code}
 use Terms.{job_of, job_place, job_result, job_small, job_unit, job_word, jobs_of, JobWord, keep_of, last_is}
 use Terms.{last_like, last_stored, LeftAt, length, length-set, List, list_any, MARKS, Memory, min, next_in, next_job}
@@ -31,7 +31,8 @@ use Rattle.spi_sending.specs.laws.bookkeeping.AsFreed as freed_laws
 use Rattle.spi_sending.specs.laws.bookkeeping.CarriedOut as carried_out
 use Rattle.spi_sending.specs.laws.bookkeeping.CarriedState as carried_state
 use Rattle.spi_sending.specs.laws.{bookkeeping.CarriedState.{MayTake, Takes, TakesWords}}
-use Rattle.spi_sending.specs.laws.{bookkeeping.HeldWord.{like_through, sending_of, sends_alike}, bookkeeping.SentBeside.{sends_beside}}
+use Rattle.spi_sending.specs.laws.{bookkeeping.HeldWord.{async_other, like_through, sending_of, sends_alike}}
+use Rattle.spi_sending.specs.laws.{bookkeeping.SentBeside.{sends_beside}}
 use Rattle.spi_sending.specs.laws.{bookkeeping.WordsLike.{part_like, words_like}, services.SendAround.{body}}
 use Rattle.spi_sending.specs.laws.services.SendBegun.{IsOpen, opened_owes}
 use Rattle.spi_sending.specs.laws.services.SendFirst as first_laws
@@ -347,9 +348,6 @@ module _ (d : SpiTable) (fits : FitsSpi d) (below : Reservations) (chip : Chip) 
     unit_else : (m : ℕ) → m ≢ u → unit_at base.serials m ≡ unit_at chip.serials m
     unit_else m ne = ap (λ z. unit_at z.serials m) chip_rest ∙ unit_other chip u m (serials.begun y chip.serials.time (unit_at chip.serials u)) ne
 
-    other_one : (m : ℕ) → is_sync_unit d m ≡ false → m ≢ u
-    other_one m async e = let f = sym async ∙ ap (is_sync_unit d) e ∙ says.sync in absurd (cc)
-
     going_else : (m : ℕ) → m ≢ u → going m ≡ h.going m
     going_else m ne = going_other h.going u None m ne
 
@@ -490,7 +488,7 @@ module _ (d : SpiTable) (fits : FitsSpi d) (below : Reservations) (chip : Chip) 
       word = subst (λ z. InTransfer z.word transfer) (sym unit_here) word_in;
       select = ap (λ z. z.select) unit_here ∙ says.select;
       others = λ m less ne. subst (λ o. RunsNext d (view state1) m o) (sym (going_else m ne)) (next_view d taken (view state1) m (h.going m) refl refl (carried_state.taken_nexts d fits (view s) h.sound u p (view state1).begun job_results s.sequence_results takes m ne (h.going m) (h.nexts m less)));
-      units = λ m less async. subst (λ o. UnitAgrees d (unit_at base.serials m) (run_at s m) o) (sym (going_else m (other_one m async))) (subst (λ z. UnitAgrees d z (run_at s m) (h.going m)) (sym (unit_else m (other_one m async))) (h.units m less async));
+      units = λ m less async. subst (λ o. UnitAgrees d (unit_at base.serials m) (run_at s m) o) (sym (going_else m (async_other d u m says.sync async))) (subst (λ z. UnitAgrees d z (run_at s m) (h.going m)) (sym (unit_else m (async_other d u m says.sync async))) (h.units m less async));
       sends = λ m less sync ne. subst (λ o. CarriesAgrees d (unit_at base.serials m) (run_carried (carried_at state1 m)) o) (sym (going_else m ne))
           (subst (λ z. CarriesAgrees d z (run_carried (carried_at state1 m)) (h.going m)) (sym (unit_else m ne)) (subst (λ k. CarriesAgrees d (unit_at chip.serials m) (run_carried k) (h.going m)) (sym (item-other None s.carried u m (Some carrying) ne)) (h.sends m less sync)));
       sending = sending_now;

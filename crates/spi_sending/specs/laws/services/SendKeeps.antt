@@ -1,5 +1,5 @@
 -- The job before has ended as the next one begins: its last word is kept, what came in becomes readable, and it has its result.
--- From spi_sequences: services.SyncSteps, spi_sequences: words.WordsOfModule and 19 more.
+-- From spi_serving: words.AllKept, spi_sequences: services.SyncSteps, spi_serving: services.WellEnded and 17 more.
 -- Used by services.SendGoesOn.
 use Rattle.std.proofs.Common.{◌≡◌, ◌≢◌, ◌+◌, ◌-◌, ◌<◌, ◌≤◌, ◌∷◌, ◌∙◌, if◌then◌else◌}
 use Rattle.spi_sending.specs.Terms
@@ -18,13 +18,12 @@ use Rattle.spi_sending.specs.laws.bookkeeping.HeldWord.{sending_of}
 use Rattle.spi_sending.specs.laws.services.SendAround.{body}
 use Rattle.spi_sending.specs.laws.services.SendReady.{prepares_left}
 use Rattle.spi_serving.specs.laws.bookkeeping.JobEnd as job_ends
-use Rattle.spi_serving.specs.laws.bookkeeping.JobOver.{last_part}
-use Rattle.spi_serving.specs.laws.services.EndsOwed.{OwesKeep, OwesPut}
+use Rattle.spi_serving.specs.laws.services.FreedUnit.{last_part}
+use Rattle.spi_serving.specs.laws.services.FurtherRight.{OwesKeep, OwesPut}
 use Rattle.spi_serving.specs.laws.services.JobLeft as left
-use Rattle.spi_serving.specs.laws.words.AllKept.{lt_else, put_owed}
-use Rattle.spi_serving.specs.laws.words.CommitWords.{commits_owed, held_kept}
-use Rattle.spi_serving.specs.laws.words.LastKept.{less_so, taken_all}
-use Rattle.spi_serving.specs.laws.words.LastKept as kept_laws
+use Rattle.spi_serving.specs.laws.words.AllKept.{commits_owed, held_kept, lt_else, put_owed}
+use Rattle.spi_serving.specs.laws.services.WellEnded.{less_so, taken_all}
+use Rattle.spi_serving.specs.laws.services.WellEnded as kept_laws
 use Rattle.spi_sequences.specs.declared.service.sync.SyncPlace.TheVariants as place
 
 module _ (d : SpiTable) (fits : FitsSpi d) (below : Reservations) (chip : Chip) (w : World) (s : SpiState) (q u n : ℕ) (at : Position) (bs : List ℕ) (r : Arrived) (device : ℕ)

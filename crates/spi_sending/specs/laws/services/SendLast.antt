@@ -1,11 +1,11 @@
 -- The sequence ends, with its last word or with one that failed: the event, and the moves that the last window owes after it.
 -- more.
--- From spi_sequences: services.ServeSteps, spi_serving: services.ToldRight and 27 more.
+-- From spi_sequences: services.ServeSteps, spi_serving: services.SequenceOverRight and 23 more.
 -- Used by services.SendSteps.
 use Rattle.std.proofs.Common.{◌≡◌, ◌≢◌, ◌+◌, ◌-◌, ◌<◌, ◌≤◌, ◌==◌, ◌&&◌, ◌||◌, ◌∷◌, ◌∙◌, ◌⊎◌, if◌then◌else◌}
 use Rattle.spi_sending.specs.Terms
 use Terms.{act_of, after_last, all_carried, all_of, AllSend, AnswerName, answers, ap, AreCarried, AreOwed, arith}
-use Terms.{Arrived, aside_high, asked_unit, banks_held, begun, Bool, both_outside, both_told, Call, Called}
+use Terms.{Arrived, aside_high, asked_unit, banks_held, begun, Bool, both_outside, both_told, by_unit, Call, Called}
 use Terms.{carried_at, carried_for, CarriesAgrees, Carrying, cases, ChannelState, Chip, commit_by, commit_ends}
 use Terms.{CommitsTo, Contains, DiffersIn, ended_sound, ended_view, ended_words, ends_here, ENotOk, entries_of}
 use Terms.{entry_carried, EOk, error_of_sending, FAILED, failed_word, false, first_internal, first_pinned, first_told}
@@ -26,7 +26,8 @@ use Terms.{take_gave, told_first, told_other, told_second, ToServe, true, UnderW
 use Terms.{UnitAgrees, View, view, whether, with_item, word_of, World, ℕ}
 use Rattle.spi_sending.specs.Sending.{device_at, EndsWith, IsSender, sent_answer}
 use Rattle.spi_sending.specs.laws.bookkeeping.CarriedOut as carried_out
-use Rattle.spi_sending.specs.laws.{bookkeeping.HeldWord.{like_through, sending_of, sends_alike}, bookkeeping.SentBeside.{sends_beside}}
+use Rattle.spi_sending.specs.laws.{bookkeeping.HeldWord.{async_other, like_through, sending_of, sends_alike}}
+use Rattle.spi_sending.specs.laws.{bookkeeping.SentBeside.{sends_beside}}
 use Rattle.spi_sending.specs.laws.{services.SendAround.{body}}
 use Rattle.spi_sending.specs.laws.{services.SendWindows.{asks, SequenceEnds}}
 use Rattle.spi_serving.specs.laws.services.SequenceOverRight.{told_result}
@@ -156,11 +157,9 @@ module _ (d : SpiTable) (fits : FitsSpi d) (below : Reservations) (chip : Chip) 
       few_jobs None e = omega arith
       few_jobs (Some k) e = (fits.sequences q k e).few
 
-      ended : nat_lt n 15 && nat_lt (n + 1) (jobs_list d q).count ≡ false
-      ended = ends.1 (sym by.done.failed ∙ good)
-
       by_count : (b : Bool) → nat_lt (n + 1) (jobs_list d q).count ≡ b → has_further d its ≡ false
       by_count true e =
+          let ended : nat_lt n 15 && nat_lt (n + 1) (jobs_list d q).count ≡ false = ends.1 (sym by.done.failed ∙ good) in
           let more = is_below (n + 1) (jobs_list d q).count e in
           let most = few_jobs (sequence_of d q) refl in
           let small = lt_from n 15 (omega (arith, more, most)) in
@@ -257,9 +256,7 @@ module _ (d : SpiTable) (fits : FitsSpi d) (below : Reservations) (chip : Chip) 
       (ended_sound d fits (view s) h.sound its all (its.next + 1) next_le results ran unrun (view s).pending begun1 leaves (view s).running (view s).idle ended_with (ends_named failed) (ends_over failed) (λ m ne. refl) h.sound.few h.sound.carries.idle idle_off)
 
   nexts : (m : ℕ) → m < 2 → RunsNext d (view state1) m (going_left st m)
-  nexts m lt = cases (same_or_other m u)
-      (λ e. subst (λ k. RunsNext d (view state1) k (going_left st k)) (sym e) (subst (λ o. RunsNext d (view state1) u o) (sym (going_here h.going u None)) tt))
-      (λ ne. subst (λ o. RunsNext d (view state1) m o) (sym (going_other h.going u None m ne)) (other ne (h.going m) refl (h.nexts m lt)))
+  nexts m lt = by_unit (λ k o. RunsNext d (view state1) k o) h.going u None tt m (λ ne. other ne (h.going m) refl (h.nexts m lt))
     where
       other : m ≢ u → (o : Option Going) → h.going m ≡ o → RunsNext d (view s) m o → RunsNext d (view state1) m o
       other ne None e r = tt
@@ -279,9 +276,6 @@ module _ (d : SpiTable) (fits : FitsSpi d) (below : Reservations) (chip : Chip) 
   carriers m p begun =
       let r = leaves.carried m p begun in
       sym (ap (λ b. b || list_any (λ z. is_sent p.sequence z.what) below) (other_number q p.sequence (λ e. r.1 (sym e ∙ sym sequence_is)))) ∙ h.carriers m p r.0
-
-  other_one : (m : ℕ) → is_sync_unit d m ≡ false → m ≢ u
-  other_one m async e = let f = sym async ∙ ap (is_sync_unit d) e ∙ says.sync in absurd (cc)
 
   abbrev owing : Reservations
   owing = start_owed u owner None ∷ held
@@ -372,7 +366,7 @@ module _ (d : SpiTable) (fits : FitsSpi d) (below : Reservations) (chip : Chip) 
 
     unit_now : (m : ℕ) → m < 2 → is_sync_unit d m ≡ false → UnitAgrees d (unit_at second.serials m) (run_at state1 m) (going_left st m)
     unit_now m lt async =
-        let ne = other_one m async in
+        let ne = async_other d u m says.sync async in
         subst (λ z. UnitAgrees d (unit_at z.serials m) (run_at s m) (going_left st m)) (sym t.rest)
         (subst (λ z. UnitAgrees d z (run_at s m) (going_left st m)) (sym (l.others m ne))
         (subst (λ o. UnitAgrees d (unit_at chip.serials m) (run_at s m) o) (sym (going_other h.going u None m ne)) (h.units m lt async)))

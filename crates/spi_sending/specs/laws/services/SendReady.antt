@@ -1,6 +1,6 @@
 -- A job has begun for a call that waits: its channels are made ready, and the words tell what the unit runs and where the
 -- sequence is.
--- From spi_sequences: services.SyncSteps, spi_starting: services.ReadyOwed, spi_starting: words.ReadyWords and 7 more.
+-- From spi_starting: words.ReadyWords, spi_sequences: services.SyncSteps, service_outline: Words and 7 more.
 -- Used by services.SendBegun, services.SendKeeps, services.SendStarts.
 use Rattle.std.proofs.Common.{◌≡◌, ◌+◌, ◌<◌, ◌≤◌, ◌&&◌, ◌∙◌, if◌then◌else◌}
 use Rattle.spi_sending.specs.Terms

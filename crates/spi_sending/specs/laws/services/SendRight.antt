@@ -1,6 +1,6 @@
 -- Spi_SyncTransmit is right at each of its places, from what its windows owe.
 -- From spi_sequences: services.SyncSteps, spi_sequences: services.ServeSteps, services.SendAround and 11 more.
--- Used by spi_driver: services.SendPart.
+-- Used by spi_driver: bookkeeping.Lawful, spi_driver: bookkeeping.UnpolledFrames.
 use Rattle.std.proofs.Common.{◌≡◌, ◌+◌, ◌==◌, ◌&&◌, ◌||◌, ◌∙◌, if◌then◌else◌}
 use Rattle.spi_sending.specs.Terms
 use Terms.{Act, ap, AreFree, AreLong, arith, Arrived, asking, begins_by, begins_of, begins_word, BodyTaken, Bool}

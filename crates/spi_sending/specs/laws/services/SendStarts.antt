@@ -1,5 +1,5 @@
 -- The first job of a sequence begins for a call that waits: what its window owes, and the agreement after it.
--- From spi_sequences: words.WordsOfModule, bookkeeping.CarriedState, spi_sequences: words.FirstParts and 21 more.
+-- From spi_sequences: words.JobPlaces, spi_sequences: words.SameWords, spi_sequences: words.WordsOfModule and 18 more.
 -- Used by services.WindowsRight.
 use Rattle.std.proofs.Common.{◌≡◌, ◌≢◌, ◌+◌, ◌%◌, ◌^◌, ◌<◌, ◌≤◌, ◌==◌, [], ◌∷◌, ◌++◌, ◌∙◌, ◌⊎◌, if◌then◌else◌}
 use Rattle.spi_sending.specs.Terms
@@ -21,7 +21,7 @@ use Terms.{Store, stored_other, stored_same, subst, sym, sync_prepares, Transfer
 use Terms.{unit_same, UnitAgrees, view, wire_at, with_item, with_next_in, word_of, words_are, World, Write, ℕ}
 use Rattle.spi_sending.specs.Sending.{device_at, first_of, IsSender}
 use Rattle.spi_sending.specs.laws.bookkeeping.CarriedState as carried_state
-use Rattle.spi_sending.specs.laws.{bookkeeping.CarriedState.{MayTake, Takes, TakesWords}, bookkeeping.HeldWord.{sending_of}}
+use Rattle.spi_sending.specs.laws.{bookkeeping.CarriedState.{MayTake, Takes, TakesWords}, bookkeeping.HeldWord.{async_other, sending_of}}
 use Rattle.spi_sending.specs.laws.services.SendFirst as first_laws
 use Rattle.spi_sending.specs.laws.services.SendFree as free_laws
 use Rattle.spi_sending.specs.laws.services.SendReady.{prepares_left}
@@ -163,9 +163,6 @@ module _ (d : SpiTable) (fits : FitsSpi d) (below : Reservations) (chip : Chip) 
   unit_else : (n : ℕ) → n ≢ u → unit_at base.serials n ≡ unit_at chip.serials n
   unit_else n ne = unit_other chip u n (serials.begun y chip.serials.time (unit_at chip.serials u)) ne
 
-  other_one : (n : ℕ) → is_sync_unit d n ≡ false → n ≢ u
-  other_one n async e = let f = sym async ∙ ap (is_sync_unit d) e ∙ sync in absurd (cc)
-
   going_free : h.going u ≡ None
   going_free = by (h.going u) (subst (λ o. CarriesAgrees d (unit_at chip.serials u) (run_carried o) (h.going u)) free (h.sends u few sync))
     where
@@ -273,7 +270,7 @@ module _ (d : SpiTable) (fits : FitsSpi d) (below : Reservations) (chip : Chip) 
     word = subst (λ z. InTransfer z.word transfer) (sym unit_here) word_in;
     select = ap (λ z. z.select) unit_here ∙ select;
     others = λ n lt ne. carried_state.taken_nexts d fits (view s) h.sound u p (view state1).begun job_results sequence_results takes n ne (h.going n) (h.nexts n lt);
-    units = λ n lt async. subst (λ z. UnitAgrees d z (run_at s n) (h.going n)) (sym (unit_else n (other_one n async))) (h.units n lt async);
+    units = λ n lt async. subst (λ z. UnitAgrees d z (run_at s n) (h.going n)) (sym (unit_else n (async_other d u n sync async))) (h.units n lt async);
     sends = λ n lt sync ne. subst (λ z. CarriesAgrees d z (run_carried (carried_at state1 n)) (h.going n)) (sym (unit_else n ne)) (subst (λ c. CarriesAgrees d (unit_at chip.serials n) (run_carried c) (h.going n)) (sym (item-other None s.carried u n (Some carrying) ne)) (h.sends n lt sync));
     sending = sends_as d chip base w w h.going h.going s state1 (λ n g lt sync e. refl) (λ n g lt sync e. ap (λ z. z.select) (unit_else n (same_unit n g e))) (λ n g i z k lt sync e there known. held_past z.channel k known) (λ n o knows. nobody_knows n o knows (same_or_other n u)) below h.sending;
     carriers = carried_state.taken_carriers d fits (view s) h.sound u p (view state1).begun job_results sequence_results takes below first_place bs None (device_at d q 0) (λ n z ne e. h.carriers n z e);

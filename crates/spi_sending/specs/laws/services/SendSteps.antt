@@ -1,5 +1,5 @@
 -- A call that sends a sequence and waits: each of its steps that owes nothing is right, from what its windows owe.
--- From spi_sequences: services.SyncSteps, spi_sequences: services.ServeSteps, services.SendAround and 21 more.
+-- From spi_sequences: services.SyncSteps, spi_sequences: services.ServeSteps, services.SendAround and 18 more.
 -- Used by services.SendRight.
 use Rattle.std.proofs.Common.{◌≡◌, ◌≢◌, ◌+◌, ◌-◌, ◌%◌, ◌<◌, ◌==◌, ◌&&◌, ◌∷◌, ◌∙◌, ◌⊎◌, if◌then◌else◌}
 use Rattle.spi_sending.specs.Terms

@@ -1,7 +1,7 @@
 -- What the windows of a call that sends a sequence and waits owe: a word begins in each of them, or the sequence ends, and
 -- after the moves that are owed then the words and registers agree.
 -- From services.SendAround, spi_sequences: services.SyncSteps, bookkeeping.HeldWord and 1 more.
--- Used by services.SendSteps, services.WindowsRight, services.SendFurther, services.SendGoesOn and 6 more.
+-- Used by services.SendSteps, services.WindowsRight, services.SendFurther, services.SendGoesOn and 5 more.
 use Rattle.std.proofs.Common.{◌≡◌, ◌∷◌}
 use Rattle.spi_sending.specs.Terms
 use Terms.{act_of, answers, Arrived, Begun, Call, Called, Chip, chip_after, CommitsTo, first_place, fresh_history}

@@ -1,6 +1,6 @@
 -- The windows of a call that sends a sequence and waits are right.
 -- From services.SendWindows, services.SendAround, services.SendGoesOn, services.SendStarts.
--- Used by spi_driver: bookkeeping.Joined.
+-- Used by spi_driver: bookkeeping.Lawful, spi_driver: bookkeeping.UnpolledFrames.
 use Rattle.std.proofs.Common.{◌≡◌}
 use Rattle.spi_sending.specs.Terms
 use Terms.{Arrived, Called, Chip, FitsSpi, fresh_history, job_at_place, List, None, Option, Position, Reservations, Some}

@@ -1,17 +1,18 @@
 -- What a start chooses of a unit's order is what the machine starts next.
--- From words.WordsToState, words.ListTests, services.InitPrepared, services.StartSteps, words.Cases and 3 more.
--- Used by spi_starting: services.StartBegun, spi_starting: services.StartRight, spi_starting: Starting and 3 more.
+-- From words.JobPlaces, words.Cases, words.WordsToState, services.InitPrepared, services.StartSteps and 1 more.
+-- Used by spi_starting: services.StartRight, spi_starting: services.StartWords, spi_starting: Starting and 3 more.
 use Rattle.std.proofs.Common.{◌≡◌, ◌<◌, ◌==◌, ◌&&◌, ◌||◌, [], ◌∷◌, ◌∙◌, if◌then◌else◌}
 use Rattle.spi_sequences.specs.Terms
 use Terms.{ap, arith, best, better, Bool, Chip, choice, Contains, entries_of, Entry, false, filter, FitsSpi, is_for}
 use Terms.{is_interruptible, is_off, is_running, job_at_place, job_of, keeps_unit, List, lt_since, map, MARKS, nat_lt}
-use Terms.{nat_tests, next_in, next_job, next_on, NEXTS, None, none, not, Option, over, Pending, PendingAgrees}
-use Terms.{precedes, priority_by, rank, rank_in, ranks_in, refl, Reservations, sequence_of, slice_get, Some}
-use Terms.{SpiRepresents, SpiState, SpiTable, subst, suc, sym, true, view, whether, whether_as, word_of, World, ℕ}
-use Rattle.spi_sequences.specs.laws.{services.InitPrepared.{in_first, in_later}}
-use Rattle.spi_sequences.specs.laws.{bookkeeping.SequenceEnded.{filter_back}, words.JobPlaces.{job_place}}
-use Rattle.spi_sequences.specs.laws.{words.WordsToState.{RunsOn, at_contained, going_asked, not_true, one_pending}}
-use Rattle.spi_sequences.specs.laws.{words.WordsToState.{one_unit, runs_on}, words.AllSequences.{all_pending}}
+use Terms.{nat_tests, next_in, next_job, next_on, NEXTS, None, none, not, Option, option_as, over, Pending}
+use Terms.{PendingAgrees, precedes, priority_by, rank, rank_in, ranks_in, refl, Reservations, same_Some, sequence_of}
+use Terms.{slice_get, Some, some_or_none, SpiRepresents, SpiState, SpiTable, subst, suc, sym, true, view, whether}
+use Terms.{whether_as, word_of, World, ℕ}
+use Rattle.spi_sequences.specs.laws.{bookkeeping.SequenceEnded.{filter_back}, services.InitPrepared.{in_first}}
+use Rattle.spi_sequences.specs.laws.{services.InitPrepared.{in_later}, words.JobPlaces.{all_pending, job_place}}
+use Rattle.spi_sequences.specs.laws.words.WordsToState.{at_contained, going_asked, not_true, one_pending, one_unit}
+use Rattle.spi_sequences.specs.laws.words.WordsToState.{runs_on, RunsOn}
 use Rattle.word_shapes.specs.Order as order
 
 -- an order of pending sequences that all wait
@@ -29,13 +30,13 @@ IsSorted (p ∷ ps) = ((q : Pending) → Contains ps q → p.request < q.request
 
 pub best_in : (d : SpiTable) (ps : List Pending) (b : Pending) → best d ps ≡ Some b → Contains ps b
 best_in d [] b e = absurd (cc)
-best_in d (p ∷ ps) b e = in_with_first (best d ps) refl e (λ c f. best_in d ps c f)
-  where
-    in_with_first : (o : Option Pending) → best d ps ≡ o → Some (better d p o) ≡ Some b → ((c : Pending) → best d ps ≡ Some c → Contains ps c) → Contains (p ∷ ps) b
-    in_with_first None f g rest = let same : p ≡ b = cc in subst (λ x. Contains (p ∷ ps) x) same (in_first p ps)
-    in_with_first (Some o) f g rest = whether (precedes d o p)
-        (λ h. let same : o ≡ b = ap (λ q. if q then o else p) (sym h) ∙ cc in subst (λ x. Contains (p ∷ ps) x) same (in_later p ps o (rest o f)))
-        (λ h. let same : p ≡ b = ap (λ q. if q then o else p) (sym h) ∙ cc in subst (λ x. Contains (p ∷ ps) x) same (in_first p ps))
+best_in d (p ∷ ps) b e = some_or_none (best d ps)
+    (λ o f.
+    let g : Some (if precedes d o p then o else p) ≡ Some b = sym (ap (λ x. Some (better d p x)) f) ∙ e in
+    whether (precedes d o p)
+    (λ h. let same : o ≡ b = ap (λ q. if q then o else p) (sym h) ∙ same_Some _ b g in subst (λ x. Contains (p ∷ ps) x) same (in_later p ps o (best_in d ps o f)))
+    (λ h. let same : p ≡ b = ap (λ q. if q then o else p) (sym h) ∙ same_Some _ b g in subst (λ x. Contains (p ∷ ps) x) same (in_first p ps)))
+    (λ f. let same : p ≡ b = same_Some p b (sym (ap (λ x. Some (better d p x)) f) ∙ e) in subst (λ x. Contains (p ∷ ps) x) same (in_first p ps))
 
 -- the first of a sorted order stands unless another one ranks higher
 chosen_of : (d : SpiTable) (ranks : List ℕ) (p b : Pending) → b.sequence < 8 → p.request < b.request → order.rank ranks p.sequence ≡ rank d p → order.rank ranks b.sequence ≡ rank d b
@@ -54,11 +55,11 @@ chosen_of d ranks p b few before e f =
 
 pub chosen_best : (d : SpiTable) (ranks : List ℕ) (ps : List Pending) → IsSorted ps → ((p : Pending) → Contains ps p → (p.sequence < 8) × (order.rank ranks p.sequence ≡ rank d p)) → choice ranks (waiting_entries ps) ≡ number_of (best d ps)
 chosen_best d ranks [] sorted all = refl
-chosen_best d ranks (p ∷ ps) sorted all = ap (over ranks (record { number = p.sequence; waits = true })) (chosen_best d ranks ps sorted.1 (λ q there. all q (in_later p ps q there))) ∙ by (best d ps) refl
-  where
-    by : (o : Option Pending) → best d ps ≡ o → over ranks (record { number = p.sequence; waits = true }) (number_of o) ≡ number_of (Some (better d p o))
-    by None e = refl
-    by (Some b) e = let there = best_in d ps b e in let at = all b (in_later p ps b there) in chosen_of d ranks p b at.0 (sorted.0 b there) (all p (in_first p ps)).1 at.1
+chosen_best d ranks (p ∷ ps) sorted all =
+    ap (over ranks (record { number = p.sequence; waits = true })) (chosen_best d ranks ps sorted.1 (λ q there. all q (in_later p ps q there)))
+    ∙ option_as (best d ps) (λ o. over ranks (record { number = p.sequence; waits = true }) (number_of o) ≡ number_of (Some (better d p o)))
+    (λ e. refl)
+    (λ b e. let there = best_in d ps b e in let at = all b (in_later p ps b there) in chosen_of d ranks p b at.0 (sorted.0 b there) (all p (in_first p ps)).1 at.1)
 
 -- ---- in an order that words stand for
 

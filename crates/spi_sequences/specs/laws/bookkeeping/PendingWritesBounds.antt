@@ -1,27 +1,32 @@
 -- Each move that is owed leaves fewer: what is owed are loads and stores of the module's words, and writes for its
 -- lines.
--- From services.ServeSteps, services.SyncSteps, services.StartSteps, services.UnitSteps and 5 more.
+-- From services.ServeSteps, services.SyncSteps, services.StartSteps, services.UnitSteps, words.Cases and 4 more.
 -- Used by spi_sending: services.SendRight, spi_driver: bookkeeping.KeepsToModule and 8 more.
-use Rattle.std.proofs.Common.{◌≡◌, ◌+◌, ◌-◌, ◌*◌, ◌<◌, ◌≤◌, ◌==◌, ◌&&◌, if◌then◌else◌, [], ◌∷◌}
+use Rattle.std.proofs.Common.{◌≡◌, ◌+◌, ◌-◌, ◌*◌, ◌<◌, ◌≤◌, ◌==◌, ◌&&◌, if◌then◌else◌, [], ◌∷◌, ◌∙◌}
 use Rattle.spi_sequences.specs.Terms
-use Terms.{after_serve, after_start, All, and_parts, ap, arith, BodyTaken, Bool, cancel_drops, cancel_owed_at}
-use Terms.{Cancels, channel_at_place, channel_number, choice_in, Commit, commit_at, commit_by, commit_ends}
-use Terms.{commit_last, commit_left, commit_more, commits_left, count_in, drop_after, drop_gave, drop_left, drop_more}
-use Terms.{Dropped, false, first_internal, first_pinned, FitsSpi, FrameRole, gives, goes_on, Handler, has_ended}
-use Terms.{is_pinned_at, is_simple, is_sync_unit, IsBasis, Keep, keep_ends, keep_left, keep_more, keep_of, keeping}
-use Terms.{Leaving, list_of, Main, may, meets_at, More, more_owed, nat_le, nat_lt, nat_tests, Next, next_after}
-use Terms.{next_gave, next_gives, next_left, next_more, None, none, Option, owed_left, owing_basis, PendingWrites}
-use Terms.{pinning, Placed, placed_of, Places, Prepare, prepare_at, prepare_by, prepare_ends, prepare_left}
-use Terms.{prepare_more, prepared, preparing, put_gave, put_more, refl, release_by, release_last, releasing}
-use Terms.{RequestPlace, Running, same_chip, Search, search_more, Sent, serve_commits, serve_drops, serve_keeps}
-use Terms.{serve_keeps_last, serve_lets, serve_releases, Served, ServePlace, ServeStep, simple_owed, Some, Sought}
-use Terms.{sought, spi_bare, spi_basis, spi_owing, SpiTable, start_chooses, start_prepares, start_releases, Started}
-use Terms.{StartPlace, subst, suc, Take, take_gave, take_left, take_more, Taker, tally_cleared, tally_less, true}
-use Terms.{unit_more, unit_over, unit_owed, unit_owes, unit_took, UnitBody, UnitPlace, Units, unless_done, whether_as}
-use Terms.{Wholes, zero, ℕ}
+use Terms.{after_serve, after_start, All, and_parts, ap, arith, BodyTaken, Bool, cancel_drops, cancel_owed_at, Cancels}
+use Terms.{channel_at_place, channel_number, choice_in, Commit, commit_at, commit_by, commit_ends, commit_last}
+use Terms.{commit_left, commit_more, commits_left, count_in, drop_after, drop_gave, drop_left, drop_more, Dropped}
+use Terms.{false, first_internal, first_pinned, FitsSpi, FrameRole, gives, goes_on, Handler, has_ended, is_pinned_at}
+use Terms.{is_simple, is_sync_unit, IsBasis, Keep, keep_ends, keep_left, keep_more, keep_of, keeping, Leaving, list_of}
+use Terms.{Main, may, meets_at, More, more_owed, nat_le, nat_lt, nat_tests, Next, next_after, next_gave, next_gives}
+use Terms.{next_left, next_more, None, none, Option, option_as, owed_left, owing_basis, PendingWrites, pinning, Placed}
+use Terms.{placed_of, Places, Prepare, prepare_at, prepare_by, prepare_ends, prepare_left, prepare_more, prepared}
+use Terms.{preparing, put_gave, put_more, refl, release_by, release_last, releasing, RequestPlace, Running, same_chip}
+use Terms.{Search, search_more, Sent, serve_commits, serve_drops, serve_keeps, serve_keeps_last, serve_lets}
+use Terms.{serve_releases, Served, ServePlace, ServeStep, simple_owed, Some, Sought, sought, spi_bare, spi_basis}
+use Terms.{spi_owing, SpiTable, start_chooses, start_prepares, start_releases, Started, StartPlace, subst, suc, sym}
+use Terms.{Take, take_gave, take_left, take_more, Taker, tally_cleared, tally_less, true, unit_more, unit_over}
+use Terms.{unit_owed, unit_owes, unit_took, UnitBody, UnitPlace, Units, unless_done, whether_as, Wholes, zero, ℕ}
 use Rattle.word_shapes.specs.Playing.{goes}
 use Rattle.service_outline.specs.DeferredWrites.{AreOwed}
-use Rattle.spi_sequences.specs.laws.bookkeeping.RefinementRight.{bare_right}
+use Rattle.spi_sequences.specs.{declared.service.sync.SyncBody.{SyncBody}, declared.service.sync.SyncPlace.{SyncPlace}}
+use Rattle.spi_sequences.specs.{laws.bookkeeping.RefinementRight.{bare_right}, laws.services.SyncSteps.{begins_whole}}
+use Rattle.spi_sequences.specs.laws.services.SyncSteps.{channel_sent, run_sent, sync_at, sync_commits, sync_committed}
+use Rattle.spi_sequences.specs.laws.services.SyncSteps.{sync_keeps, sync_prepared, sync_prepares, sync_prepares_at}
+use Rattle.spi_sequences.specs.laws.services.SyncSteps.{sync_prepares_by, sync_serves, sync_took}
+use Rattle.spi_sequences.specs.{laws.services.UnitSteps.{main_over}, PendingWrites.{Sends, sent_owes, serve_more}}
+use Rattle.spi_sequences.specs.PendingWrites.{sync_more, sync_owed, sync_owes}
 use Rattle.word_shapes.specs.declared.choosing.Next.TheVariants as next
 use Rattle.word_shapes.specs.declared.dropped.Dropped.TheVariants as drops
 use Rattle.word_shapes.specs.declared.search.Search.TheVariants as search
@@ -42,16 +47,8 @@ use Rattle.spi_sequences.specs.declared.service.start.Started.TheVariants as sta
 use Rattle.spi_sequences.specs.declared.service.serve.ServeStep.TheVariants as steps
 use Rattle.spi_sequences.specs.declared.service.unit.UnitPlace.TheVariants as units
 use Rattle.spi_sequences.specs.declared.service.whole.WholeBody.TheVariants as wholes
-use Rattle.spi_sequences.specs.declared.service.sync.SyncBody.{SyncBody}
-use Rattle.spi_sequences.specs.declared.service.sync.SyncPlace.{SyncPlace}
 use Rattle.spi_sequences.specs.declared.service.sync.SyncPlace.TheVariants as sends
 use Rattle.service_outline.specs.Done as outline
-use Rattle.spi_sequences.specs.PendingWrites.{Sends, sent_owes, serve_more, sync_more, sync_owed, sync_owes, where_owed}
-use Rattle.spi_sequences.specs.laws.services.SyncSteps.{begins_whole, channel_sent, run_sent, sync_at, sync_commits}
-use Rattle.spi_sequences.specs.laws.services.SyncSteps.{sync_committed, sync_keeps, sync_prepared, sync_prepares}
-use Rattle.spi_sequences.specs.laws.services.SyncSteps.{sync_prepares_at, sync_prepares_by, sync_serves, sync_took}
-use Rattle.spi_sequences.specs.laws.services.UnitSteps.{main_over}
-use Rattle.spi_sequences.specs.laws.services.ServeSteps.{serve_takes}
 
 -- ---- the routines
 
@@ -141,14 +138,23 @@ over_less k p n Main zero =
     [ true ↦ tt | false ↦ tt ]
 over_less k p n _ _ = tt
 
+-- the first of the last n places that is met comes after those before them
+first_after : (found : ℕ → Option ℕ) (met : ℕ → Bool) → found zero ≡ None → ((n : ℕ) → found (suc n) ≡ (if nat_lt 3 n then None else if met n then Some (4 - suc n) else found n)) → (n i : ℕ) → found n ≡ Some i → (4 - n ≤ i) × (i < 4)
+first_after found met empty step zero i e = absurd (let f = sym empty ∙ e in cc)
+first_after found met empty step (suc n) i e = by (nat_lt 3 n) (met n) (sym (step n) ∙ e) (first_after found met empty step n i)
+  where
+    by : (p q : Bool) → (if p then None else if q then Some (4 - suc n) else found n) ≡ Some i → (found n ≡ Some i → (4 - n ≤ i) × (i < 4)) → (4 - suc n ≤ i) × (i < 4)
+    by true q g rest = absurd (cc)
+    by false true g rest = let at : 4 - suc n ≡ i = cc in (omega (arith, at), omega (arith, at))
+    by false false g rest = let r = rest g in let low = r.0 in (omega (arith, low), r.1)
+
 module _ (k : UnitBody) where
   prepared_less : (r : Running) (n : ℕ) → 3 < n → StartLess k n (prepared k.table r, started.Goes None)
-  prepared_less r n lt = whether_as (x.channel.internal && nat_le x.channel.length 1) (λ q. StartLess k n (if q then starts.Release r (releasing x Sent) else starts.Run r, started.Goes None))
+  prepared_less r n lt =
+      let x = channel_at_place k.table r.job 0 in
+      whether_as (x.channel.internal && nat_le x.channel.length 1) (λ q. StartLess k n (if q then starts.Release r (releasing x Sent) else starts.Run r, started.Goes None))
       (λ _. lt)
       (λ _. omega (arith, lt))
-    where
-      x : Placed
-      x = channel_at_place k.table r.job 0
 
   prepares_less : (r : Running) (i n : ℕ) → 3 < n → 5 + 2 * (3 - i) < n → StartLess k n (prepare_at k.table r i, started.Goes None)
   prepares_less r i n lt more =
@@ -160,13 +166,11 @@ module _ (k : UnitBody) where
       (λ e. omega arith)
       (λ e. let lt = next_less p v e in omega (arith, lt))
   start_less (starts.Mark c) v = prepares_less c.run 0 12 (omega arith) (omega arith)
-  start_less (starts.Prepare r i p) v = start_prepares_less (prepare_ends p v) refl
-    where
-      start_prepares_less : (q : Bool) → prepare_ends p v ≡ q → StartLess k (4 + 2 * (3 - i) + prepare_more p) (start_prepares k.table r i p v q)
-      start_prepares_less true e = whether_as (nat_lt i 3) (λ q. StartLess k (4 + 2 * (3 - i) + prepare_more p) (if q then prepare_at k.table r (i + 1) else prepared k.table r, started.Goes None))
-          (λ e. let lt : i < 3 = grind (arith, nat_tests) in prepares_less r (i + 1) _ (omega arith) (omega (arith, lt)))
-          (λ e. prepared_less r _ (omega arith))
-      start_prepares_less false e = let lt = prepare_less p v e in omega (arith, lt)
+  start_less (starts.Prepare r i p) v = whether_as (prepare_ends p v) (λ q. StartLess k (4 + 2 * (3 - i) + prepare_more p) (start_prepares k.table r i p v q))
+      (λ _. whether_as (nat_lt i 3) (λ q. StartLess k (4 + 2 * (3 - i) + prepare_more p) (if q then prepare_at k.table r (i + 1) else prepared k.table r, started.Goes None))
+      (λ e. let lt : i < 3 = grind (arith, nat_tests) in prepares_less r (i + 1) _ (omega arith) (omega (arith, lt)))
+      (λ e. prepared_less r _ (omega arith)))
+      (λ e. let lt = prepare_less p v e in omega (arith, lt))
   start_less (starts.Release r p) v = whether_as (has_ended (take_gave p v)) (λ q. StartLess k (2 + take_more p) (start_releases r p v q))
       (λ e. omega arith)
       (λ e. let lt = take_less p v e in omega (arith, lt))
@@ -182,20 +186,12 @@ module _ (k : UnitBody) where
 
   -- the first of the last n channels whose pin stands comes after those before them
   pinned_after : (r : Served) (n i : ℕ) → first_pinned k.table r n ≡ Some i → (4 - n ≤ i) × (i < 4)
-  pinned_after r zero i e = absurd (cc)
-  pinned_after r (suc n) i e = by (nat_lt 3 n) (meets_at k.table (is_pinned_at r (4 - suc n)) (channel_number (list_of k.table r.run.job) (4 - suc n))) refl e (pinned_after r n i)
-    where
-      by : (p q : Bool) → nat_lt 3 n ≡ p → (if p then None else if q then Some (4 - suc n) else first_pinned k.table r n) ≡ Some i → (first_pinned k.table r n ≡ Some i → (4 - n ≤ i) × (i < 4)) → (4 - suc n ≤ i) × (i < 4)
-      by true q f g rest = absurd (cc)
-      by false true f g rest = let at : 4 - suc n ≡ i = cc in (omega (arith, at), omega (arith, at))
-      by false false f g rest = let r = rest g in let low = r.0 in (omega (arith, low), r.1)
+  pinned_after r n i e = first_after (first_pinned k.table r) (λ n. meets_at k.table (is_pinned_at r (4 - suc n)) (channel_number (list_of k.table r.run.job) (4 - suc n))) refl (λ n. refl) n i e
 
   release_less : (l : Leaving) (n m : ℕ) → 7 < m → ((i : ℕ) → 4 - n ≤ i → i < 4 → 8 + 2 * (3 - i) + 1 < m) → ServeLess k m (release_last k.table l n, steps.Goes None)
-  release_less l n m lt more = by (first_pinned k.table l.served n) refl
-    where
-      by : (o : Option ℕ) → first_pinned k.table l.served n ≡ o → ServeLess k m (release_by k.table l o, steps.Goes None)
-      by None e = lt
-      by (Some i) e = let at = pinned_after l.served n i e in more i at.0 at.1
+  release_less l n m lt more = option_as (first_pinned k.table l.served n) (λ o. ServeLess k m (release_by k.table l o, steps.Goes None))
+      (λ e. lt)
+      (λ i e. let at = pinned_after l.served n i e in more i at.0 at.1)
 
   -- and the first internal one takes its moves of those that are left
   internal_after : (l : Leaving) (n i : ℕ) → first_internal k.table l.served n ≡ Some i → commits_left k.table l n ≡ 1 + commit_more (commit_at k.table l i) + commits_left k.table l (3 - i)
@@ -213,11 +209,9 @@ module _ (k : UnitBody) where
       one_place_more false false f g rest = let is = rest g in omega (arith, is)
 
   commits_less : (l : Leaving) (n m : ℕ) → 7 + commits_left k.table l n < m → ServeLess k m (commit_last k.table l n, steps.Goes None)
-  commits_less l n m lt = by (first_internal k.table l.served n) refl
-    where
-      by : (o : Option ℕ) → first_internal k.table l.served n ≡ o → ServeLess k m (commit_by k.table l o, steps.Goes None)
-      by None e = omega (arith, lt)
-      by (Some i) e = let is = internal_after l n i e in omega (arith, lt, is)
+  commits_less l n m lt = option_as (first_internal k.table l.served n) (λ o. ServeLess k m (commit_by k.table l o, steps.Goes None))
+      (λ e. omega (arith, lt))
+      (λ i e. let is = internal_after l n i e in omega (arith, lt, is))
 
   serve_less : (p : ServePlace) (v : ℕ) → Less (unit_more k.table (units.Serve p)) (if unit_owes (units.Serve p) then unless_done (unit_took k (units.Serve p) v).1.done (unit_owed (unit_took k (units.Serve p) v).0) else None)
   serve_less (serves.Let r p t) v = whether_as (has_ended (take_gave t v)) (λ q. ServeLess k (3 + take_more t) (serve_lets k.table r p t v q))
@@ -227,14 +221,11 @@ module _ (k : UnitBody) where
       (λ e. omega arith)
       (λ e. let lt = keep_less x e in omega (arith, lt))
   serve_less (serves.Stand p) v = over_less k (units.Serve (serves.Stand p)) 0 k.errand k.unit
-  serve_less (serves.Free r c) v = by r.served.failed
-    where
-      l : Leaving
-      l = record { served = r.served; taker = r.taker; course = c }
-
-      by : (q : Bool) → ServeLess k (if q then 16 else 10 + commits_left k.table l 4) (if q then release_last k.table l (4 - r.served.at.channel) else serves.KeepLast l (keep_of k.table r), steps.Goes None)
-      by true = release_less l (4 - r.served.at.channel) 16 (omega arith) (λ i low high. omega arith)
-      by false = let few = keep_few (channel_at_place k.table r.served.run.job r.served.at.channel) r.served.at.word r.taker r.word in omega (arith, few)
+  serve_less (serves.Free r c) v =
+      let l : Leaving = record { served = r.served; taker = r.taker; course = c } in
+      let few = keep_few (channel_at_place k.table r.served.run.job r.served.at.channel) r.served.at.word r.taker r.word in
+      elim r.served.failed as (λ q. ServeLess k (if q then 16 else 10 + commits_left k.table l 4) (if q then release_last k.table l (4 - r.served.at.channel) else serves.KeepLast l (keep_of k.table r), steps.Goes None))
+      [ true ↦ release_less l (4 - r.served.at.channel) 16 (omega arith) (λ i low high. omega arith) | false ↦ omega (arith, few) ]
   serve_less (serves.Release l i t) v = whether_as (has_ended (take_gave t v)) (λ q. ServeLess k (8 + 2 * (3 - i) + take_more t) (serve_releases k.table l i t v q))
       (λ e. release_less l (3 - i) _ (omega arith) (λ j low high. omega (arith, low, high)))
       (λ e. let lt = take_less t v e in omega (arith, lt))
@@ -272,55 +263,38 @@ module _ (k : SyncBody) where
   serving = record { table = k.table; errand = Handler; unit = k.unit; place = units.Serve serves.Shut }
 
   as_served : (n : ℕ) (p : ServePlace) → ServeLess serving n (p, steps.Goes None) → SyncLess n (sync_at k (sends.Serve p), outline.goes)
-  as_served n p lt = less_owed p lt
-    where
-      owes : (b : Bool) (p : ServePlace) → Less n (where_owed b (Units (record serving { place = units.Serve p }))) → Less n (where_owed b (Sends (sync_at k (sends.Serve p))))
-      owes true p lt = lt
-      owes false p lt = tt
+  as_served n (serves.Let r p t) lt = lt
+  as_served n (serves.Keep x p) lt = lt
+  as_served n (serves.Stand p) lt = lt
+  as_served n (serves.Free r c) lt = lt
+  as_served n (serves.Release l i t) lt = lt
+  as_served n (serves.KeepLast l x) lt = lt
+  as_served n (serves.Commit l i c) lt = lt
+  as_served n (serves.Result l) lt = lt
+  as_served n (serves.End r x) lt = lt
+  as_served n _ lt = tt
 
-      less_owed : (p : ServePlace) → ServeLess serving n (p, steps.Goes None) → Less n (where_owed (sent_owes p) (Sends (sync_at k (sends.Serve p))))
-      less_owed (serves.Let r p t) lt = lt
-      less_owed (serves.Keep x p) lt = lt
-      less_owed (serves.Stand p) lt = lt
-      less_owed (serves.Free r c) lt = lt
-      less_owed (serves.Release l i t) lt = lt
-      less_owed (serves.KeepLast l x) lt = lt
-      less_owed (serves.Commit l i c) lt = lt
-      less_owed (serves.Result l) lt = lt
-      less_owed (serves.End r x) lt = lt
-      less_owed _ lt = tt
-
-  served_on : (n : ℕ) (z : ServePlace × ServeStep) → z.1 ≡ steps.Goes None → ServeLess serving n z → SyncLess n (sync_at k (sends.Serve z.0), outline.goes)
-  served_on n (p, q) e lt = as_served n p (subst (λ x. ServeLess serving n (p, x)) e lt)
+  served_on : (n : ℕ) (z : Bool → ServePlace × ServeStep) → (z true).1 ≡ steps.Goes None → (z false).1 ≡ steps.Goes None → (q : Bool) → ServeLess serving n (z q) → SyncLess n (sync_at k (sends.Serve (z q).0), outline.goes)
+  served_on n z e f true lt = as_served n (z true).0 (subst (λ x. ServeLess serving n ((z true).0, x)) e lt)
+  served_on n z e f false lt = as_served n (z false).0 (subst (λ x. ServeLess serving n ((z false).0, x)) f lt)
 
   made_ready : (i n : ℕ) → 3 < n → 5 + 2 * (3 - i) < n → SyncLess n (sync_at k (sync_prepares_at k i), outline.goes)
-  made_ready i n lt more = by (channel_number (list_of k.table (run_sent k).job) i)
-    where
-      by : (c : Option ℕ) → SyncLess n (sync_at k (sync_prepares_by c k.table i), outline.goes)
-      by None = lt
-      by (Some c) = let few = prepare_few (placed_of k.table c) in omega (arith, few, more)
+  made_ready i n lt more =
+      elim (channel_number (list_of k.table (run_sent k).job) i) as (λ c. SyncLess n (sync_at k (sync_prepares_by c k.table i), outline.goes))
+      [ None ↦ lt | Some c ↦ (let few = prepare_few (placed_of k.table c) in omega (arith, few, more)) ]
 
   first_ready : SyncLess 12 (sync_at k (sync_prepares k), outline.goes)
   first_ready =
       elim (begins_whole (channel_sent k 0)) as (λ b. SyncLess 12 (sync_at k (sync_prepares_at k (if b then 1 else 0)), outline.goes))
       [ true ↦ made_ready 1 12 (omega arith) (omega arith) | false ↦ made_ready 0 12 (omega arith) (omega arith) ]
 
-  -- the first internal one of the last n channels comes after those before them
-  internal_from : (r : Served) (n i : ℕ) → first_internal k.table r n ≡ Some i → (4 - n ≤ i) × (i < 4)
-  internal_from r zero i e = absurd (cc)
-  internal_from r (suc n) i e = by (nat_lt 3 n) (meets_at k.table (λ x. x.channel.internal) (channel_number (list_of k.table r.run.job) (4 - suc n))) refl e (internal_from r n i)
-    where
-      by : (p q : Bool) → nat_lt 3 n ≡ p → (if p then None else if q then Some (4 - suc n) else first_internal k.table r n) ≡ Some i → (first_internal k.table r n ≡ Some i → (4 - n ≤ i) × (i < 4)) → (4 - suc n ≤ i) × (i < 4)
-      by true q f g rest = absurd (cc)
-      by false true f g rest = let at : 4 - suc n ≡ i = cc in (omega (arith, at), omega (arith, at))
-      by false false f g rest = let r = rest g in let low = r.0 in (omega (arith, low), r.1)
-
   made_readable : (r : Served) (n m : ℕ) → 12 < m → ((i : ℕ) → 4 - n ≤ i → i < 4 → 14 + 2 * (3 - i) < m) → SyncLess m (sync_at k (sync_commits k r (first_internal k.table r n)), outline.goes)
-  made_readable r n m lt more = by (first_internal k.table r n) refl
-    where
-      by : (o : Option ℕ) → first_internal k.table r n ≡ o → SyncLess m (sync_at k (sync_commits k r o), outline.goes)
-      by None e = lt
-      by (Some i) e = let at = internal_from r n i e in let most = more i at.0 at.1 in omega (arith, most)
+  made_readable r n m lt more = option_as (first_internal k.table r n) (λ o. SyncLess m (sync_at k (sync_commits k r o), outline.goes))
+      (λ e. lt)
+      (λ i e.
+      let at = first_after (first_internal k.table r) (λ n. meets_at k.table (λ x. x.channel.internal) (channel_number (list_of k.table r.run.job) (4 - suc n))) refl (λ n. refl) n i e in
+      let most = more i at.0 at.1 in
+      omega (arith, most))
 
   sync_less : (p : SyncPlace) (v : ℕ) → Less (sync_more k.table p) (if sync_owes p then unless_done (sync_took k p v).1.done (sync_owed (sync_took k p v).0) else None)
   sync_less sends.Pend v = first_ready
@@ -331,47 +305,24 @@ module _ (k : SyncBody) where
       (λ e. made_readable r (3 - i) _ (omega arith) (λ j low high. omega (arith, low, high)))
       (λ e. let lt = commit_less (commits.Put p) v e in omega (arith, lt))
   sync_less (sends.Result r) v = first_ready
-  sync_less (sends.Prepare i p) v = sync_prepares_less (prepare_ends p v) refl
-    where
-      sync_prepares_less : (q : Bool) → prepare_ends p v ≡ q → SyncLess (4 + 2 * (3 - i) + prepare_more p) (sync_at k (sync_prepared k i p v q), outline.goes)
-      sync_prepares_less true e = whether_as (nat_lt i 3) (λ q. SyncLess (4 + 2 * (3 - i) + prepare_more p) (sync_at k (if q then sync_prepares_at k (i + 1) else sends.Run), outline.goes))
-          (λ e. let lt : i < 3 = grind (arith, nat_tests) in made_ready (i + 1) _ (omega arith) (omega (arith, lt)))
-          (λ e. omega arith)
-      sync_prepares_less false e = let lt = prepare_less p v e in omega (arith, lt)
+  sync_less (sends.Prepare i p) v = whether_as (prepare_ends p v) (λ q. SyncLess (4 + 2 * (3 - i) + prepare_more p) (sync_at k (sync_prepared k i p v q), outline.goes))
+      (λ _. whether_as (nat_lt i 3) (λ q. SyncLess (4 + 2 * (3 - i) + prepare_more p) (sync_at k (if q then sync_prepares_at k (i + 1) else sends.Run), outline.goes))
+      (λ e. let lt : i < 3 = grind (arith, nat_tests) in made_ready (i + 1) _ (omega arith) (omega (arith, lt)))
+      (λ e. omega arith))
+      (λ e. let lt = prepare_less p v e in omega (arith, lt))
   sync_less sends.Run v = omega arith
   sync_less sends.Stand v = omega arith
   sync_less sends.Nexts v = omega arith
-  sync_less (sends.Next n) v = tt
   sync_less (sends.Serve p) v = serve_step p
     where
       -- of each of them the step goes on
       serve_step : (p : ServePlace) → Less (serve_more k.table p) (if sent_owes p then unless_done (sync_serves k p v).1.done (sync_owed (sync_serves k p v).0) else None)
-      serve_step (serves.Let r x t) = served_on (serve_more k.table (serves.Let r x t)) (serve_takes k.table k.unit (serves.Let r x t) v) (on (has_ended (take_gave t v))) (serve_less serving (serves.Let r x t) v)
-        where
-          on : (q : Bool) → (serve_lets k.table r x t v q).1 ≡ steps.Goes None
-          on true = refl
-          on false = refl
-      serve_step (serves.Keep x y) = served_on (serve_more k.table (serves.Keep x y)) (serve_takes k.table k.unit (serves.Keep x y) v) (on (keep_ends x)) (serve_less serving (serves.Keep x y) v)
-        where
-          on : (q : Bool) → (serve_keeps x y q).1 ≡ steps.Goes None
-          on true = refl
-          on false = refl
+      serve_step (serves.Let r x t) = served_on (serve_more k.table (serves.Let r x t)) (serve_lets k.table r x t v) refl refl (has_ended (take_gave t v)) (serve_less serving (serves.Let r x t) v)
+      serve_step (serves.Keep x y) = served_on (serve_more k.table (serves.Keep x y)) (serve_keeps x y) refl refl (keep_ends x) (serve_less serving (serves.Keep x y) v)
       serve_step (serves.Free r c) = as_served _ _ (serve_less serving (serves.Free r c) v)
-      serve_step (serves.Release l i t) = served_on (serve_more k.table (serves.Release l i t)) (serve_takes k.table k.unit (serves.Release l i t) v) (on (has_ended (take_gave t v))) (serve_less serving (serves.Release l i t) v)
-        where
-          on : (q : Bool) → (serve_releases k.table l i t v q).1 ≡ steps.Goes None
-          on true = refl
-          on false = refl
-      serve_step (serves.KeepLast l x) = served_on (serve_more k.table (serves.KeepLast l x)) (serve_takes k.table k.unit (serves.KeepLast l x) v) (on (keep_ends x)) (serve_less serving (serves.KeepLast l x) v)
-        where
-          on : (q : Bool) → (serve_keeps_last k.table l x q).1 ≡ steps.Goes None
-          on true = refl
-          on false = refl
-      serve_step (serves.Commit l i c) = served_on (serve_more k.table (serves.Commit l i c)) (serve_takes k.table k.unit (serves.Commit l i c) v) (on (commit_ends c v)) (serve_less serving (serves.Commit l i c) v)
-        where
-          on : (q : Bool) → (serve_commits k.table l i c v q).1 ≡ steps.Goes None
-          on true = refl
-          on false = refl
+      serve_step (serves.Release l i t) = served_on (serve_more k.table (serves.Release l i t)) (serve_releases k.table l i t v) refl refl (has_ended (take_gave t v)) (serve_less serving (serves.Release l i t) v)
+      serve_step (serves.KeepLast l x) = served_on (serve_more k.table (serves.KeepLast l x)) (serve_keeps_last k.table l x) refl refl (keep_ends x) (serve_less serving (serves.KeepLast l x) v)
+      serve_step (serves.Commit l i c) = served_on (serve_more k.table (serves.Commit l i c)) (serve_commits k.table l i c v) refl refl (commit_ends c v) (serve_less serving (serves.Commit l i c) v)
       serve_step (serves.Result l) = as_served _ _ (serve_less serving (serves.Result l) v)
       serve_step _ = tt
   sync_less _ v = tt

@@ -1,46 +1,39 @@
 -- The basis keeps what it owes: at the start, in time, under moves elsewhere, over a reset and at rest.
--- From words.ListTests, hardware.SourceFilled, service_outline: Words, hardware.AfterReset and 5 more.
--- Used by spi_driver: bookkeeping.KeepsToModule, spi_driver: bookkeeping.Lawful and 17 more.
-use Rattle.std.proofs.Common.{◌≡◌, ◌≢◌, ◌+◌, ◌-◌, ◌*◌, ◌/◌, ◌%◌, ◌^◌, ◌<◌, ◌≤◌, ◌==◌, ◌&&◌, ◌||◌, [], ◌∷◌, ◌∙◌, ◌⊎◌}
+-- From hardware.StableUnderHardware, words.JobPlaces, hardware.SourceFilled, service_outline: Words and 3 more.
+-- Used by spi_driver: bookkeeping.KeepsToModule, spi_driver: bookkeeping.Lawful and 16 more.
+use Rattle.std.proofs.Common.{◌≡◌, ◌+◌, ◌-◌, ◌*◌, ◌/◌, ◌%◌, ◌^◌, ◌<◌, ◌≤◌, ◌==◌, ◌&&◌, ◌||◌, [], ◌∷◌, ◌∙◌, ◌⊎◌}
 use Rattle.std.proofs.Common.{if◌then◌else◌}
 use Rattle.spi_sequences.specs.Terms
-use Terms.{act-leaves, after_read, and_false, and_parts, ap, arith, best, Bool, Called, carries_channel, Carrying}
+use Terms.{act-leaves, after_read, and_false, and_parts, ap, arith, best, Bool, Call, Called, carries_channel, Carrying}
 use Terms.{channel_of, channels_by, channels_of, Chip, chip_after, clear_apart, ClockPll, ClockRate, Contains, due}
-use Terms.{EnableClear, EnableSet, eq_is, false, Fill, fills_there, filter, first_state, FitsSpi, Going, happened}
-use Terms.{Hardware, has_bit, has_bit-or, has_bit-pow_other, has_bit-without, has_done, has_handler, has_lines, Init}
-use Terms.{inl, inr, InTransfer, is_done, is_for, is_for_lines, is_in_use, is_interrupt, is_masked, is_off}
-use Terms.{is_on_unit, is_owed, is_shared, is_some, is_sync_unit, is_used, is_word_of, IsBasis, Job, job_of, jobs_of}
-use Terms.{Level, level_leaves, line-serial, List, list_any, Load, Made, may, may_name, may_write, MayCome, Move}
-use Terms.{move_there, moved, names_there, nat_lt, nat_tests, next_at, next_by, next_job, next_on, None, not}
-use Terms.{number_of, Option, Order, outcome, owns_written, Pending, PowerOn, rate-left, Read, reads_from, ready}
-use Terms.{refl, Reg, Reservations, ResetRequest, resets_chip, Run, run_at, RunsNext, Serial, SerialAck, SerialData}
-use Terms.{SerialSelect, SerialWidth, set_apart, sets_rate, Some, Spi0, Spi1, spi_bare, spi_owns, spi_setting}
-use Terms.{SpiFault, SpiRepresents, SpiState, SpiTable, stands-event, stands-move, StandsIn, Steady, Store, stores_in}
-use Terms.{subst, suc, sym, tells_nothing, TimerLow, true, unit_at, unit_of, UnitAgrees, uses, uses_by, uses_channel}
-use Terms.{uses_unit, view, whether, whether_as, wiring-left, word-left, word_apart, word_of, World, world_after}
-use Terms.{Write, zero, ℕ}
+use Terms.{EnableClear, EnableSet, eq_is, eq_isnt, false, Fill, fills_there, filter, first_state, FitsSpi, Going}
+use Terms.{happened, Hardware, has_bit, has_bit-or, has_bit-pow_other, has_bit-without, has_done, has_handler}
+use Terms.{has_lines, Init, inl, inr, InTransfer, is_done, is_for, is_for_lines, is_in_use, is_interrupt, is_masked}
+use Terms.{is_off, is_on_unit, is_owed, is_shared, is_some, is_sync_unit, is_used, is_word_of, IsBasis, Job, job_of}
+use Terms.{jobs_of, Level, level_leaves, line-serial, List, list_any, Load, Made, may, may_name, may_write, MayCome}
+use Terms.{Move, move_there, moved, names_there, nat_lt, nat_tests, next_at, next_by, next_job, next_on, None, not}
+use Terms.{number_of, Option, or_parts, Order, Origin, outcome, owns_written, Pending, PowerOn, rate-left, Read}
+use Terms.{reads_from, ready, refl, Reg, Reservations, ResetRequest, resets_chip, Run, run_at, RunsNext, Serial}
+use Terms.{SerialAck, SerialData, SerialSelect, SerialWidth, set_apart, sets_rate, Some, some_or_none, Spi0, Spi1}
+use Terms.{spi_bare, spi_owns, spi_setting, SpiFault, SpiRepresents, SpiState, SpiTable, stands-event, stands-move}
+use Terms.{StandsIn, Steady, Store, stores_in, subst, suc, sym, SyncTransmit, tells_nothing, TimerLow, true, unit_at}
+use Terms.{unit_of, unit_of_sequence, UnitAgrees, uses, uses_by, uses_channel, uses_unit, view, whether, whether_as}
+use Terms.{wiring-left, word-left, word_apart, word_of, World, world_after, Write, zero, ℕ}
 use Rattle.chip_model.specs.Chip.{is_pending}
-use Rattle.mcal_base.specs.declared.register.Reg.TheVariants.{SerialWait}
-use Rattle.run_model.specs.Frame.{Origin}
+use Rattle.mcal_base.specs.{declared.directive.Order.TheVariants.{Tick}, declared.register.Reg.TheVariants.{SerialWait}}
+use Rattle.mcal_base.specs.facts.Truths.{and_true}
 use Rattle.run_model.specs.Frame.{is_wait}
-use Rattle.spi_machine.specs.Bounds.{is_serial, may_wait}
-use Rattle.spi_machine.specs.Wiring.{unit_of_sequence}
-use Rattle.spi_machine.specs.declared.call.Call.{Call}
+use Rattle.spi_machine.specs.{Bounds.{is_serial, may_wait}, Machine.{run_of}}
+use Rattle.spi_sequences.specs.laws.hardware.SourceFilled.{fill_agrees, not_both, spared_by, spared_none}
+use Rattle.spi_sequences.specs.laws.hardware.StableUnderHardware.{by_two, done_same, fault_agrees, none_in}
+use Rattle.spi_sequences.specs.laws.hardware.StableUnderHardware.{reset_agrees, same_agrees}
+use Rattle.spi_sequences.specs.laws.{words.JobPlaces.{asked_unit, none_by}, words.WordsOfModule.{some_at}}
+use Rattle.spi_sequences.specs.laws.words.WordsToState.{any_some, is_number, none_any, not_true}
+use Rattle.std.proofs.lemmas.Bool.{or_from}
 use Rattle.spi_machine.specs.declared.call.Call.TheVariants as calls
-use Rattle.spi_machine.specs.declared.call.SequenceCall.TheVariants.{SyncTransmit}
-use Rattle.spi_machine.specs.Machine.{run_of}
-use Rattle.spi_sequences.specs.laws.{hardware.SourceFilled.{fill_agrees, not_both, spared_by, spared_none}}
-use Rattle.spi_sequences.specs.laws.{hardware.AfterReset.{by_two, none_in, reset_agrees}}
-use Rattle.spi_sequences.specs.laws.{hardware.StableUnderHardware.{done_same, fault_agrees, same_agrees}}
-use Rattle.spi_sequences.specs.laws.{words.WordsOfModule.{some_at}, words.AllSequences.{asked_unit}}
-use Rattle.spi_sequences.specs.laws.{words.WordsToState.{any_some, is_number, none_any, not_true}}
-use Rattle.spi_sequences.specs.laws.words.ListTests.{none_by}
 use Rattle.chip_units.specs.Serials as serials
 use Rattle.chip_units.specs.declared.serial.Word as chips
 use Rattle.mcal_base.specs.declared.moves.Unit as units
-use Rattle.mcal_base.specs.declared.directive.Order.TheVariants.{Tick}
-use Rattle.std.proofs.lemmas.Bool.{or_from}
-use Rattle.mcal_base.specs.facts.Truths.{and_true}
 
 -- ---- in time
 
@@ -76,13 +69,9 @@ unused_none d fits c s none = or_from (is_in_use d c s.pending) (list_any (carri
 later_agrees : (d : SpiTable) → FitsSpi d → (held : Reservations) (chip : Chip) (w : World) (s : SpiState) (order : Order) → MayCome (spi_setting d) held chip w s order → SpiRepresents d held chip w s → SpiRepresents d held (happened chip order) (world_after w chip.clock.rate order) (moved d w s order)
 later_agrees d fits held chip w s order come h = agrees_after order come (stands-event chip w order (fills_there (spi_setting d) (is_masked chip) w s come.frames order come.free) h.outside)
   where
-    nor : (a b q : Bool) → a || (b || q) ≡ false → (b ≡ false) × (q ≡ false)
-    nor false false q e = (refl, e)
-    nor _ _ q e = absurd (cc)
-
     fill : (c : ℕ) (ws : List ℕ) → MayCome (spi_setting d) held chip w s (Fill c ws) → (q : Bool) → is_some (channel_of d c) ≡ q → SpiRepresents d held (happened chip (Fill c ws)) (world_after w chip.clock.rate (Fill c ws)) (moved d w s (Fill c ws))
     fill c ws come true e =
-        let none = nor (is_masked chip) (uses d s c) (list_any (reads_from (spi_setting d) c) come.frames) (ap (λ q. is_masked chip || (q && (uses d s c || list_any (reads_from (spi_setting d) c) come.frames))) (sym e) ∙ come.free.0) in
+        let none = or_parts (uses d s c) (list_any (reads_from (spi_setting d) c) come.frames) (or_parts (is_masked chip) (uses d s c || list_any (reads_from (spi_setting d) c) come.frames) (ap (λ q. is_masked chip || (q && (uses d s c || list_any (reads_from (spi_setting d) c) come.frames))) (sym e) ∙ come.free.0)).1 in
         fill_agrees d fits held chip w s c ws come.free.1 none.0 h (spared_by d s.mode s.channels c held (come.among (reads_from (spi_setting d) c) none.1) h.right)
     fill c ws come false e = fill_agrees d fits held chip w s c ws come.free.1 (unused_none d fits c s e) h (spared_none d s.mode s.channels c held e h.right)
 
@@ -111,8 +100,7 @@ serials_apart d chip (Write r v) received e = written_apart chip r v received e
 serials_apart d chip _ received e = refl
 
 either_none : (a b c : Bool) → (a || b) || c ≡ false → (a ≡ false) × (b ≡ false) × (c ≡ false)
-either_none false false c e = (refl, refl, e)
-either_none _ _ c e = absurd (cc)
+either_none a b c e = let p = or_parts (a || b) c e in let q = or_parts a b p.0 in (q.0, q.1, p.1)
 
 no_line : (v u : ℕ) → u < 2 → has_lines v ≡ false → has_bit v (26 + u) ≡ false
 no_line v u lt e = let p = either_none (has_bit v 26) (has_bit v 27) (not (nat_lt v 4294967296)) e in by_two (λ n. has_bit v (26 + n) ≡ false) p.0 p.1 u lt
@@ -156,16 +144,16 @@ owned_plain d (Store k v) e = refl
 owned_plain d _ e = absurd (cc)
 
 -- a value for lines of the module alone is for one of them, or for both
-one_of_three : (n : ℕ) → not (67108864 * n == 0) ≡ true → n < 4 → (n ≡ 1) ⊎ ((n ≡ 2) ⊎ (n ≡ 3))
-one_of_three zero e lt = absurd (cc)
-one_of_three (suc zero) e lt = inl refl
-one_of_three (suc (suc zero)) e lt = inr (inl refl)
-one_of_three (suc (suc (suc zero))) e lt = inr (inr refl)
-one_of_three (suc (suc (suc (suc n)))) e lt = absurd (omega (arith, lt))
-
-for_lines : (v : ℕ) → is_for_lines v ≡ true → (v ≡ 67108864) ⊎ ((v ≡ 134217728) ⊎ (v ≡ 201326592))
-for_lines v e = by (one_of_three (v / 67108864) (subst (λ n. not (n == 0) ≡ true) (whole v e) (some v e)) (few v e))
+by_lines : (P : ℕ → Type 0) → P 67108864 → P 134217728 → P 201326592 → (v : ℕ) → is_for_lines v ≡ true → P v
+by_lines P one other both v e = subst P (sym (whole v e)) (at (v / 67108864) (subst (λ n. not (n == 0) ≡ true) (whole v e) (some v e)) (few v e))
   where
+    at : (n : ℕ) → not (67108864 * n == 0) ≡ true → n < 4 → P (67108864 * n)
+    at zero e lt = absurd (cc)
+    at (suc zero) e lt = one
+    at (suc (suc zero)) e lt = other
+    at (suc (suc (suc zero))) e lt = both
+    at (suc (suc (suc (suc n)))) e lt = absurd (omega (arith, lt))
+
     whole : (v : ℕ) → is_for_lines v ≡ true → v ≡ 67108864 * (v / 67108864)
     whole v e = let zero_rest : v % 67108864 ≡ 0 = grind (arith, nat_tests) in omega (arith, zero_rest)
 
@@ -175,41 +163,15 @@ for_lines v e = by (one_of_three (v / 67108864) (subst (λ n. not (n == 0) ≡ t
     few : (v : ℕ) → is_for_lines v ≡ true → v / 67108864 < 4
     few v e = let lt : v < 268435456 = grind (arith, nat_tests) in omega (arith, lt)
 
-    by : (v / 67108864 ≡ 1) ⊎ ((v / 67108864 ≡ 2) ⊎ (v / 67108864 ≡ 3)) → (v ≡ 67108864) ⊎ ((v ≡ 134217728) ⊎ (v ≡ 201326592))
-    by (inl f) = inl (let g = whole v e in omega (arith, f, g))
-    by (inr (inl f)) = inr (inl (let g = whole v e in omega (arith, f, g)))
-    by (inr (inr f)) = inr (inr (let g = whole v e in omega (arith, f, g)))
-
 lines_named : (v : ℕ) → is_for_lines v ≡ true → has_lines v ≡ true
-lines_named v e = by (for_lines v e)
-  where
-    by : (v ≡ 67108864) ⊎ ((v ≡ 134217728) ⊎ (v ≡ 201326592)) → has_lines v ≡ true
-    by (inl f) = ap has_lines f
-    by (inr (inl f)) = ap has_lines f
-    by (inr (inr f)) = ap has_lines f
+lines_named v e = by_lines (λ n. has_lines n ≡ true) refl refl refl v e
 
 other_line : (bits line : ℕ) → is_for_lines bits ≡ true → (line == 26 || line == 27) ≡ false → has_bit bits line ≡ false
-other_line bits line e f = by (for_lines bits e)
-  where
-    unlike : (line : ℕ) → (line == 26 || line == 27) ≡ false → (line ≢ 26) × (line ≢ 27)
-    unlike line f = (first line f, second line f)
-      where
-        first : (line : ℕ) → (line == 26 || line == 27) ≡ false → line ≢ 26
-        first line f = grind (arith, nat_tests)
-
-        second : (line : ℕ) → (line == 26 || line == 27) ≡ false → line ≢ 27
-        second line f = grind (arith, nat_tests)
-
-    first_bit : has_bit 67108864 line ≡ false
-    first_bit = has_bit-pow_other 26 line (unlike line f).0
-
-    second_bit : has_bit 134217728 line ≡ false
-    second_bit = has_bit-pow_other 27 line (unlike line f).1
-
-    by : (bits ≡ 67108864) ⊎ ((bits ≡ 134217728) ⊎ (bits ≡ 201326592)) → has_bit bits line ≡ false
-    by (inl g) = ap (λ n. has_bit n line) g ∙ first_bit
-    by (inr (inl g)) = ap (λ n. has_bit n line) g ∙ second_bit
-    by (inr (inr g)) = ap (λ n. has_bit n line) g ∙ has_bit-or 67108864 134217728 line ∙ ap (λ q. q || has_bit 134217728 line) first_bit ∙ second_bit
+other_line bits line e f =
+    let p = or_parts (line == 26) (line == 27) f in
+    let first : has_bit 67108864 line ≡ false = has_bit-pow_other 26 line (eq_isnt line 26 p.0) in
+    let second : has_bit 134217728 line ≡ false = has_bit-pow_other 27 line (eq_isnt line 27 p.1) in
+    by_lines (λ n. has_bit n line ≡ false) first second (has_bit-or 67108864 134217728 line ∙ ap (λ q. q || has_bit 134217728 line) first ∙ second) bits e
 
 written_owned : (r : Reg) (v : ℕ) → may_write r v ≡ true → owns_written r v ≡ true
 written_owned EnableSet v e = lines_named v e
@@ -240,15 +202,13 @@ abbrev pub FrameMoves : SpiTable → Move → Type 0
 FrameMoves d made = ((u : ℕ) × (made ≡ Read (SerialWait u)) × (names_there made ≡ true)) ⊎ (may d made ≡ true)
 
 pub frame_moves : (d : SpiTable) (o : Origin Call) (made : Move) → may_wait d made o || may d made ≡ true → FrameMoves d made
-frame_moves d o made e = by (may_wait d made o) refl e
+frame_moves d o made e = whether (may_wait d made o)
+    (λ f. inl (waits made o f))
+    (λ f. inr (sym (ap (λ b. b || may d made) f) ∙ e))
   where
     waits : (made : Move) (o : Origin Call) → may_wait d made o ≡ true → (u : ℕ) × (made ≡ Read (SerialWait u)) × (names_there made ≡ true)
     waits (Read (SerialWait u)) (Called (calls.Sequence q SyncTransmit)) e = (u, refl, (and_parts (unit_of_sequence d q == u) (names_there (Read (SerialWait u))) e).1)
     waits _ _ e = absurd (cc)
-
-    by : (b : Bool) → may_wait d made o ≡ b → b || may d made ≡ true → FrameMoves d made
-    by true f e = inl (waits made o f)
-    by false f e = inr e
 
 frame_parts : (d : SpiTable) (o : Origin Call) (made : Move) → may_wait d made o || may d made ≡ true → (spi_owns d made ≡ true) × (names_there made ≡ true)
 frame_parts d o made e =
@@ -295,47 +255,37 @@ module _ (d : SpiTable) (fits : FitsSpi d) (held : Reservations) (chip : Chip) (
   idle_sync u e = none_by (run_at s u) (h.sound.carries.idle u e)
 
   due_unit : (u line : ℕ) → u < 2 → line ≡ 26 + u → unit_of line ≡ Some u → is_pending chip line ≡ due w s line
-  due_unit u line lt at is = wired ∙ pending_as_due (is_sync_unit d u) refl ∙ sym (ap (λ o. (not (is_off s.mode) && has_done w.now (run_of s o)) && is_interrupt s.mode) is)
+  due_unit u line lt at is = wired ∙ pending_as_due ∙ sym (ap (λ o. (not (is_off s.mode) && has_done w.now (run_of s o)) && is_interrupt s.mode) is)
     where
-      back : line - 26 ≡ u
-      back = omega (arith, at)
-
       wired : is_pending chip line ≡ serials.is_done (unit_at chip.serials u) chip.serials.time && (is_interrupt s.mode && not (is_sync_unit d u))
       wired =
+          let back : line - 26 ≡ u = omega (arith, at) in
           line-serial chip line (omega (arith, at)) (omega (arith, at, lt))
           ∙ ap (λ n. serials.is_done (unit_at chip.serials n) chip.serials.time && has_bit chip.control.enabled line) back
           ∙ ap (λ q. serials.is_done (unit_at chip.serials u) chip.serials.time && q) (ap (λ n. has_bit chip.control.enabled n) at ∙ h.lines u lt)
-
-      time : chip.serials.time ≡ w.now
-      time = h.outside.together.serials ∙ h.outside.now
 
       on : has_done w.now (run_at s u) ≡ (not (is_off s.mode) && has_done w.now (run_at s u))
       on = whether_as (is_off s.mode) (λ q. has_done w.now (run_at s u) ≡ (not q && has_done w.now (run_at s u)))
           (λ e. ap (λ r. has_done w.now r) (off_none u e))
           (λ e. refl)
 
-      never : (a b : Bool) → a && (b && false) ≡ false
-      never true true = refl
-      never _ _ = refl
-
-      no_run : (a b : Bool) → (a && false) && b ≡ false
-      no_run true b = refl
-      no_run false b = refl
-
-      pending_as_due : (q : Bool) → is_sync_unit d u ≡ q → serials.is_done (unit_at chip.serials u) chip.serials.time && (is_interrupt s.mode && not (is_sync_unit d u)) ≡ (not (is_off s.mode) && has_done w.now (run_at s u)) && is_interrupt s.mode
-      pending_as_due true e = ap (λ q. serials.is_done (unit_at chip.serials u) chip.serials.time && (is_interrupt s.mode && not q)) e ∙ never (serials.is_done (unit_at chip.serials u) chip.serials.time) (is_interrupt s.mode)
-          ∙ sym (ap (λ r. (not (is_off s.mode) && has_done w.now r) && is_interrupt s.mode) (idle_sync u e) ∙ no_run (not (is_off s.mode)) (is_interrupt s.mode))
-      pending_as_due false e = ap (λ q. serials.is_done (unit_at chip.serials u) chip.serials.time && (is_interrupt s.mode && not q)) e
+      pending_as_due : serials.is_done (unit_at chip.serials u) chip.serials.time && (is_interrupt s.mode && not (is_sync_unit d u)) ≡ (not (is_off s.mode) && has_done w.now (run_at s u)) && is_interrupt s.mode
+      pending_as_due = whether (is_sync_unit d u)
+          (λ e.
+          ap (λ q. serials.is_done (unit_at chip.serials u) chip.serials.time && (is_interrupt s.mode && not q)) e
+          ∙ ap (λ q. serials.is_done (unit_at chip.serials u) chip.serials.time && q) (and_false (is_interrupt s.mode)) ∙ and_false (serials.is_done (unit_at chip.serials u) chip.serials.time)
+          ∙ sym (ap (λ r. (not (is_off s.mode) && has_done w.now r) && is_interrupt s.mode) (idle_sync u e) ∙ ap (λ q. q && is_interrupt s.mode) (and_false (not (is_off s.mode)))))
+          (λ e.
+          let time : chip.serials.time ≡ w.now = h.outside.together.serials ∙ h.outside.now in
+          ap (λ q. serials.is_done (unit_at chip.serials u) chip.serials.time && (is_interrupt s.mode && not q)) e
           ∙ ap (λ q. q && (is_interrupt s.mode && true)) (unit_done d (unit_at chip.serials u) (run_at s u) chip.serials.time (h.going u) (h.units u lt e) ∙ ap (λ t. has_done t (run_at s u)) time)
           ∙ ap (λ q. has_done w.now (run_at s u) && q) (and_true (is_interrupt s.mode))
-          ∙ ap (λ q. q && is_interrupt s.mode) on
+          ∙ ap (λ q. q && is_interrupt s.mode) on)
 
   pub due_line : (line : ℕ) → (line == 26 || line == 27) ≡ true → is_pending chip line ≡ due w s line
-  due_line line e = by (line == 26) refl e
-    where
-      by : (q : Bool) → (line == 26) ≡ q → q || line == 27 ≡ true → is_pending chip line ≡ due w s line
-      by true i f = due_unit 0 line (omega arith) (eq_is line 26 i) (ap unit_of (eq_is line 26 i))
-      by false i f = due_unit 1 line (omega arith) (eq_is line 27 f) (ap unit_of (eq_is line 27 f))
+  due_line line e = whether (line == 26)
+      (λ i. due_unit 0 line (omega arith) (eq_is line 26 i) (ap unit_of (eq_is line 26 i)))
+      (λ i. let f = sym (ap (λ b. b || line == 27) i) ∙ e in due_unit 1 line (omega arith) (eq_is line 27 f) (ap unit_of (eq_is line 27 f)))
 
   -- a handler serves a unit that runs a job
   runs_used : (u : ℕ) → u < 2 → is_some (run_at s u) ≡ true → has_handler d u ≡ true
@@ -393,27 +343,26 @@ module _ (d : SpiTable) (fits : FitsSpi d) (held : Reservations) (chip : Chip) (
           (λ e. ap (λ b. if b then p ∷ filter (is_for d u) ps else filter (is_for d u) ps) e ∙ (none_filtered ps (λ x there. none x (suc there.0, let lt = there.1 in omega (arith, lt), there.2))))
 
 used_line : (d : SpiTable) (line : ℕ) → is_used d line ≡ true → (line == 26 || line == 27) ≡ true
-used_line d line e = by (line == 26) (line == 27) refl refl
-  where
-    by : (p q : Bool) → (line == 26) ≡ p → (line == 27) ≡ q → (line == 26 || line == 27) ≡ true
-    by true q i j = ap (λ b. b || line == 27) i
-    by false true i j = ap (λ b. b || line == 27) i ∙ j
-    by false false i j = absurd (let at : unit_of line ≡ None = ap (λ b. if b then Some 0 else if line == 27 then Some 1 else None) i ∙ ap (λ b. if b then Some 1 else None) j in let g = sym e ∙ ap (uses_by d) at in cc)
+used_line d line e = whether (line == 26 || line == 27)
+    (λ i. i)
+    (λ f.
+    let p = or_parts (line == 26) (line == 27) f in
+    let at : unit_of line ≡ None = ap (λ b. if b then Some 0 else if line == 27 then Some 1 else None) p.0 ∙ ap (λ b. if b then Some 1 else None) p.1 in
+    absurd (let g = sym e ∙ ap (uses_by d) at in cc))
 
 -- no unit waits to which no start is owed
 pub waits_none : (d : SpiTable) → FitsSpi d → (held : Reservations) (chip : Chip) (w : World) (s : SpiState) (u : ℕ) → u < 2 → is_owed u held ≡ false → SpiRepresents d held chip w s → is_some (next_at d s (Some u)) ≡ false
 waits_none d fits held chip w s u lt free h = by (is_off s.mode) (run_at s u) refl
   where
-    none : run_at s u ≡ None → (sync : Bool) → is_sync_unit d u ≡ sync → (p : Pending) → Contains s.pending p → is_for d u p ≡ true → ⊥
-    none e true i p there for = let f = sym (asked_unit d fits (view s) h.sound u p there for) ∙ i in cc
-    none e false i p there for = let owed = sym free ∙ h.owed u p lt (idle (h.going u) refl) there for in cc
-      where
-        idle : (g : Option Going) → h.going u ≡ g → h.going u ≡ None
-        idle None i = i
-        idle (Some g) j = absurd (let a = subst (λ o. UnitAgrees d (unit_at chip.serials u) (run_at s u) o) j (h.units u lt i) in let f = sym e ∙ a.1 in cc)
+    none : run_at s u ≡ None → (p : Pending) → Contains s.pending p → is_for d u p ≡ true → ⊥
+    none e p there for = whether (is_sync_unit d u)
+        (λ i. let f = sym (asked_unit d fits (view s) h.sound u p there for) ∙ i in cc)
+        (λ i.
+        let idle : h.going u ≡ None = some_or_none (h.going u) (λ g j. absurd (let a = subst (λ o. UnitAgrees d (unit_at chip.serials u) (run_at s u) o) j (h.units u lt i) in let f = sym e ∙ a.1 in cc)) (λ j. j) in
+        let owed = sym free ∙ h.owed u p lt idle there for in cc)
 
     by : (q : Bool) (r : Option Run) → run_at s u ≡ r → is_some (if q then None else next_by d s u r) ≡ false
-    by false None e = ap is_some (none_for d fits held chip w s h u (none e (is_sync_unit d u) refl))
+    by false None e = ap is_some (none_for d fits held chip w s h u (none e))
     by _ _ e = refl
 
 waits : (d : SpiTable) → FitsSpi d → (chip : Chip) (w : World) (s : SpiState) (u : units.Unit) → SpiRepresents d [] chip w s → is_some (next_at d s (number_of u)) ≡ false

@@ -1,28 +1,26 @@
 -- A pending sequence ends, and its jobs that never ran have the results that they had: the state is sound, and the
 -- words stand for it.
--- From words.ListTests, words.AllSequences, words.Cases, words.JobPlaces, words.SameWords.
--- Used by services.CancelRight, spi_serving: services.SequenceOverRight, spi_sending: services.SendLast and 13 more.
-use Rattle.std.proofs.Common.{◌≡◌, ◌≢◌, ◌+◌, ◌-◌, ◌<◌, ◌≤◌, ◌==◌, ◌&&◌, ◌||◌, [], ◌∷◌, ◌++◌, ◌∙◌, ◌⊎◌, if◌then◌else◌}
+-- From words.JobPlaces, words.Cases, words.SameWords.
+-- Used by services.CancelRight, spi_serving: services.SequenceOverRight, spi_sending: services.SendLast and 9 more.
+use Rattle.std.proofs.Common.{◌≡◌, ◌≢◌, ◌+◌, ◌-◌, ◌<◌, ◌≤◌, ◌==◌, ◌&&◌, ◌||◌, [], ◌∷◌, ◌++◌, ◌∙◌, if◌then◌else◌}
 use Rattle.spi_sequences.specs.Terms
-use Terms.{all_of, AnswerName, ap, AreDifferent, arith, Bool, cancelled_bit, cases, Contains, Contains-get_or, drop}
-use Terms.{entries_begun, entries_of, Entry, false, filter, FitsSpi, get_or-drop, get_or_default, given_back, has_job}
-use Terms.{has_mark, inl, inr, is_for, is_left, is_of, is_off, is_pending, is_sync_sequence, is_sync_unit, is_there}
-use Terms.{IsLast, IsOfSequence, IsOnce, IsSoundState, item-other, item-same, job_code, job_result, job_word, jobs_by}
-use Terms.{jobs_of, length, length-drop, List, list_any, map, MARKS, Memory, next_in, NEXTS, None, not, Option}
+use Terms.{all_of, and_false, AnswerName, ap, AreDifferent, arith, Bool, cancelled_bit, cases, Contains}
+use Terms.{Contains-get_or, drop, entries_begun, entries_of, Entry, false, filter, FitsSpi, get_or-drop, get_or_default}
+use Terms.{given_back, has_job, has_mark, is_for, is_left, is_of, is_off, is_pending, is_sync_sequence, is_sync_unit}
+use Terms.{is_there, IsLast, IsOfSequence, IsOnce, IsSoundState, item-other, item-same, job_code, job_result, job_word}
+use Terms.{jobs_by, jobs_of, length-drop, List, list_any, map, MARKS, Memory, next_in, NEXTS, None, not, Option}
 use Terms.{or_right, order_word, Pending, refl, repeats, repeats-drop, results-other, results-own, same_or_other}
 use Terms.{sequence_code, sequence_of, sequence_result, sequence_word, SequencesAgree, shares_job, slice_get}
-use Terms.{slice_index_or, Some, some_is, some_or_none, SpiJobOk, SpiJobPending, SpiJobQueued, SpiSeqOk}
-use Terms.{SpiSeqPending, SpiTable, started_bit, subst, suc, sym, true, unit_of_sequence, View, whether, whether_as}
-use Terms.{with_item, without, zero, ℕ}
-use Rattle.spi_sequences.specs.laws.{words.SameWords.{job_small}, words.ListTests.{any_in, nothing_in}}
-use Rattle.spi_sequences.specs.laws.words.AllSequences.{all_carried, all_cases, all_pending, aside_pending, one_of_all}
-use Rattle.spi_sequences.specs.laws.{words.JobPlaces.{LeftAt, at_left, left_at}, words.WordsToState.{any_none}}
-use Rattle.spi_sequences.specs.laws.{words.WordsToState.{any_some, at_contained, is_number}}
-use Rattle.spi_sequences.specs.laws.{words.WordsToState.{none_any, not_true, other_number, same_number}}
+use Terms.{slice_index_or, Some, some_is, some_or_none, SpiJobOk, SpiJobPending, SpiJobQueued, SpiSeqOk, SpiSeqPending}
+use Terms.{SpiTable, started_bit, subst, suc, sym, true, unit_of_sequence, View, whether, whether_as, with_item}
+use Terms.{without, zero, ℕ}
+use Rattle.spi_sequences.specs.laws.words.JobPlaces.{all_carried, all_cases, all_pending, any_in, aside_pending}
+use Rattle.spi_sequences.specs.laws.words.JobPlaces.{at_left, left_at, LeftAt, nothing_in, one_of_all}
+use Rattle.spi_sequences.specs.laws.words.{SameWords.{job_small}, WordsToState.{any_none, any_some, at_contained}}
+use Rattle.spi_sequences.specs.laws.words.WordsToState.{is_number, none_any, not_true, other_number, same_number}
+use Rattle.std.proofs.lemmas.Bool.{or_from}
 use Rattle.word_shapes.specs.Order as order
 use Rattle.word_shapes.specs.PriorityQueue as ranked
-use Rattle.std.proofs.lemmas.Bool.{or_from}
-use Rattle.mcal_base.specs.facts.Truths.{and_false}
 
 -- ---- lists that are filtered
 
@@ -60,11 +58,10 @@ filter_keeps t [] y (k, lt, e) f = absurd (omega (arith, lt))
 filter_keeps t (z ∷ zs) y (zero, lt, e) f = whether_as (t z) (λ q. Contains (if q then z ∷ filter t zs else filter t zs) y)
     (λ g. (0, omega arith, e))
     (λ g. absurd (let i = sym g ∙ ap t e ∙ f in cc))
-filter_keeps t (z ∷ zs) y (suc k, lt, e) f = by (t z) (filter_keeps t zs y (k, omega (arith, lt), e) f)
-  where
-    by : (q : Bool) → Contains (filter t zs) y → Contains (if q then z ∷ filter t zs else filter t zs) y
-    by true r = (suc r.0, let less = r.1 in omega (arith, less), r.2)
-    by false r = r
+filter_keeps t (z ∷ zs) y (suc k, lt, e) f =
+    let r = filter_keeps t zs y (k, omega (arith, lt), e) f in
+    elim (t z) as (λ q. Contains (if q then z ∷ filter t zs else filter t zs) y)
+    [ true ↦ (suc r.0, let less = r.1 in omega (arith, less), r.2) | false ↦ r ]
 
 -- ---- the jobs of a sequence stand in it once
 
@@ -149,18 +146,13 @@ without_entry v p = record v { pending = without p.sequence v.pending }
 
 pub leaves_pending : (d : SpiTable) (v : View) (h : IsSoundState d v) (p : Pending) → Contains v.pending p → Leaves v p (without p.sequence v.pending) v.begun
 leaves_pending d v h p there = record {
-  kept = λ x is. let r = filter_back (λ z. not (is_of p.sequence z)) v.pending x is in (r.0, unlike x r.1);
+  kept = λ x is. let r = filter_back (λ z. not (is_of p.sequence z)) v.pending x is in (r.0, λ e. let f = sym r.1 ∙ ap (λ n. not (n == p.sequence)) e ∙ ap not (same_number p.sequence) in cc);
   order = λ i j x y lt a b. kept_order (λ z. not (is_of p.sequence z)) v.pending i j x y lt a b;
   carried = λ u x e. (e, λ same. let f = sym ((aside_pending d v h p there) u x e).1 ∙ ap (λ n. n == p.sequence) same ∙ same_number p.sequence in cc);
-  stays = λ x is ne. by x ne (all_cases v x is);
+  stays = λ x is ne. cases (all_cases v x is)
+      (λ one. all_pending (without_entry v p) x (filter_keeps (λ z. not (is_of p.sequence z)) v.pending x one (ap not (other_number x.sequence p.sequence ne))))
+      (λ (u, e). all_carried (without_entry v p) u x (h.carries.unit u x e).0 e);
 }
-  where
-    unlike : (x : Pending) → not (is_of p.sequence x) ≡ true → x.sequence ≢ p.sequence
-    unlike x r e = let f = sym r ∙ ap (λ n. not (n == p.sequence)) e ∙ ap not (same_number p.sequence) in cc
-
-    by : (x : Pending) → x.sequence ≢ p.sequence → Contains v.pending x ⊎ ((u : ℕ) × (v.begun u ≡ Some x)) → Contains (all_of (without_entry v p)) x
-    by x ne (inl is) = all_pending (without_entry v p) x (filter_keeps (λ z. not (is_of p.sequence z)) v.pending x is (ap not (other_number x.sequence p.sequence ne)))
-    by x ne (inr (u, e)) = all_carried (without_entry v p) u x (h.carries.unit u x e).0 e
 
 -- and as one that a unit carries out does
 abbrev with_begun : View → (ℕ → Option Pending) → View
@@ -168,26 +160,17 @@ with_begun v begun = record v { begun = begun }
 
 pub leaves_begun : (d : SpiTable) (v : View) (h : IsSoundState d v) (u : ℕ) (p : Pending) → v.begun u ≡ Some p → (begun : ℕ → Option Pending) → begun u ≡ None → ((n : ℕ) → n ≢ u → begun n ≡ v.begun n) → Leaves v p v.pending begun
 leaves_begun d v h u p is begun own other = record {
-  kept = λ x there. (there, unlike x there);
+  kept = λ x there. (there, λ e. let r = h.carries.unit u p is in let f = sym (h.carries.asked x there) ∙ ap (is_sync_sequence d) e ∙ ap (is_sync_unit d) r.2 ∙ r.1 in cc);
   order = λ i j x y lt a b. (i, j, lt, a, b);
-  carried = λ n x e. stands n x e (same_or_other n u);
-  stays = λ x there ne. by x ne (all_cases v x there);
+  carried = λ n x e. cases (same_or_other n u)
+      (λ same. absurd (let f = sym own ∙ ap begun (sym same) ∙ e in cc))
+      (λ ne. let still = sym (other n ne) ∙ e in (still, λ same. ne (sym (h.carries.unit n x still).2 ∙ ap (unit_of_sequence d) same ∙ (h.carries.unit u p is).2)));
+  stays = λ x there ne. cases (all_cases v x there)
+      (λ one. all_pending (with_begun v begun) x one)
+      (λ (n, e). cases (same_or_other n u)
+      (λ same. absurd (ne (ap (λ z. z.sequence) (some_is x p (sym e ∙ ap v.begun same ∙ is)))))
+      (λ far. all_carried (with_begun v begun) n x (h.carries.unit n x e).0 (other n far ∙ e)));
 }
-  where
-    unlike : (x : Pending) → Contains v.pending x → x.sequence ≢ p.sequence
-    unlike x there e = let r = h.carries.unit u p is in let f = sym (h.carries.asked x there) ∙ ap (is_sync_sequence d) e ∙ ap (is_sync_unit d) r.2 ∙ r.1 in cc
-
-    stands : (n : ℕ) (x : Pending) → begun n ≡ Some x → (n ≡ u) ⊎ (n ≢ u) → (v.begun n ≡ Some x) × (x.sequence ≢ p.sequence)
-    stands n x e (inl same) = absurd (let f = sym own ∙ ap begun (sym same) ∙ e in cc)
-    stands n x e (inr ne) = let still = sym (other n ne) ∙ e in (still, λ same. ne (sym (h.carries.unit n x still).2 ∙ ap (unit_of_sequence d) same ∙ (h.carries.unit u p is).2))
-
-    here : (n : ℕ) (x : Pending) → x.sequence ≢ p.sequence → v.begun n ≡ Some x → (n ≡ u) ⊎ (n ≢ u) → Contains (all_of (with_begun v begun)) x
-    here n x ne e (inl same) = absurd (ne (ap (λ z. z.sequence) (some_is x p (sym e ∙ ap v.begun same ∙ is))))
-    here n x ne e (inr far) = all_carried (with_begun v begun) n x (h.carries.unit n x e).0 (other n far ∙ e)
-
-    by : (x : Pending) → x.sequence ≢ p.sequence → Contains v.pending x ⊎ ((n : ℕ) × (v.begun n ≡ Some x)) → Contains (all_of (with_begun v begun)) x
-    by x ne (inl there) = all_pending (with_begun v begun) x there
-    by x ne (inr (n, e)) = here n x ne e (same_or_other n u)
 
 module _ (d : SpiTable) (fits : FitsSpi d) (v : View) (h : IsSoundState d v) (p : Pending) (there : Contains (all_of v) p) (from : ℕ) (from_next : p.next ≤ from) (rs : List AnswerName)
     (ran : (j : ℕ) → is_left d j p ≡ true → list_any (λ k. k == j) (drop from (jobs_of d p.sequence)) ≡ false → IsLast (job_result rs j))
@@ -203,19 +186,15 @@ module _ (d : SpiTable) (fits : FitsSpi d) (v : View) (h : IsSoundState d v) (p 
 
   -- a job that never ran has what it had
   given_had : (j : ℕ) → (l : LeftAt jobs from j) → job_result given j ≡ slice_index_or p.had l.place SpiJobOk
-  given_had j l = results-own (drop from jobs) (drop from p.had) rs (l.place - from) j (slice_index_or p.had l.place SpiJobOk) (repeats-drop from jobs (jobs_once d fits p.sequence)) at had
-    where
-      count : length p.had ≡ length jobs
-      count = (h.entries p there).had
-
-      back : from + (l.place - from) ≡ l.place
-      back = let le = l.from in omega (arith, le)
-
-      at : slice_get (drop from jobs) (l.place - from) ≡ Some j
-      at = at_contained (drop from jobs) (l.place - from) j (let rest = length-drop from jobs in let lt = l.within in let le = l.from in omega (arith, rest, lt, le)) (get_or-drop from jobs (l.place - from) j ∙ ap (λ n. slice_index_or jobs n j) back ∙ get_or_default jobs l.place j 0 l.within ∙ l.is)
-
-      had : slice_get (drop from p.had) (l.place - from) ≡ Some (slice_index_or p.had l.place SpiJobOk)
-      had = at_contained (drop from p.had) (l.place - from) (slice_index_or p.had l.place SpiJobOk) (let rest = length-drop from p.had in let lt = l.within in let le = l.from in omega (arith, rest, lt, le, count)) (get_or-drop from p.had (l.place - from) (slice_index_or p.had l.place SpiJobOk) ∙ ap (λ n. slice_index_or p.had n (slice_index_or p.had l.place SpiJobOk)) back ∙ get_or_default p.had l.place (slice_index_or p.had l.place SpiJobOk) SpiJobOk (let lt = l.within in omega (arith, lt, count)))
+  given_had j l =
+      let count = (h.entries p there).had in
+      let le = l.from in
+      let lt = l.within in
+      let back : from + (l.place - from) ≡ l.place = omega (arith, le) in
+      let had = slice_index_or p.had l.place SpiJobOk in
+      results-own (drop from jobs) (drop from p.had) rs (l.place - from) j had (repeats-drop from jobs (jobs_once d fits p.sequence))
+      (at_contained (drop from jobs) (l.place - from) j (let rest = length-drop from jobs in omega (arith, rest, lt, le)) (get_or-drop from jobs (l.place - from) j ∙ ap (λ n. slice_index_or jobs n j) back ∙ get_or_default jobs l.place j 0 l.within ∙ l.is))
+      (at_contained (drop from p.had) (l.place - from) had (let rest = length-drop from p.had in omega (arith, rest, lt, le, count)) (get_or-drop from p.had (l.place - from) had ∙ ap (λ n. slice_index_or p.had n had) back ∙ get_or_default p.had l.place had SpiJobOk (omega (arith, lt, count))))
 
   -- and any other what it has
   given_other : (j : ℕ) → rest j ≡ false → job_result given j ≡ job_result rs j
@@ -250,11 +229,9 @@ module _ (d : SpiTable) (fits : FitsSpi d) (v : View) (h : IsSoundState d v) (p 
     ended_view = record v { pending = ps; begun = begun; sequence_results = with_item SpiSeqOk v.sequence_results p.sequence result; job_results = given; running = running; idle = idle }
 
     kept : (x : Pending) → Contains (all_of ended_view) x → Contains (all_of v) x × (x.sequence ≢ p.sequence)
-    kept x is = by (all_cases ended_view x is)
-      where
-        by : Contains ps x ⊎ ((u : ℕ) × (begun u ≡ Some x)) → Contains (all_of v) x × (x.sequence ≢ p.sequence)
-        by (inl one) = let r = leaves.kept x one in (all_pending v x r.0, r.1)
-        by (inr (u, e)) = let r = leaves.carried u x e in (all_carried v u x (h.carries.unit u x r.0).0 r.0, r.1)
+    kept x is = cases (all_cases ended_view x is)
+        (λ one. let r = leaves.kept x one in (all_pending v x r.0, r.1))
+        (λ (u, e). let r = leaves.carried u x e in (all_carried v u x (h.carries.unit u x r.0).0 r.0, r.1))
 
     none_left : (j : ℕ) → list_any (is_left d j) (all_of ended_view) ≡ false → is_left d j p ≡ false → list_any (is_left d j) (all_of v) ≡ false
     none_left j none own = none_any (is_left d j) (all_of v) (λ x also. cases (same_or_other x.sequence p.sequence)
@@ -278,42 +255,29 @@ module _ (d : SpiTable) (fits : FitsSpi d) (v : View) (h : IsSoundState d v) (p 
         named = λ n lt. cases (same_or_other n p.sequence)
             (λ e. subst (λ k. IsOfSequence (sequence_result (with_item SpiSeqOk v.sequence_results p.sequence result) k)) (sym e) (subst (λ x. IsOfSequence x) (sym (item-same SpiSeqOk v.sequence_results p.sequence result)) named))
             (λ ne. subst (λ x. IsOfSequence x) (sym (item-other SpiSeqOk v.sequence_results p.sequence n result ne)) (h.results.named n lt));
-        sequences = λ n lt. represents n lt (same_or_other n p.sequence);
+        sequences = λ n lt. cases (same_or_other n p.sequence)
+            (λ e. subst (λ k. (sequence_result ended_view.sequence_results k ≡ SpiSeqPending → is_pending k (all_of ended_view) ≡ true) × (is_pending k (all_of ended_view) ≡ true → sequence_result ended_view.sequence_results k ≡ SpiSeqPending)) (sym e)
+            (λ f. absurd (over (sym (item-same SpiSeqOk v.sequence_results p.sequence result) ∙ f)), λ f. absurd (let gone = none_any (is_of p.sequence) (all_of ended_view) (λ x is. other_number x.sequence p.sequence (kept x is).1) in let g = sym gone ∙ f in cc)))
+            (λ ne.
+            let same = item-other SpiSeqOk v.sequence_results p.sequence n result ne in
+            let was = h.results.sequences n lt in
+            (λ f. stays n ne ∙ was.0 (sym same ∙ f), λ f. same ∙ was.1 (sym (stays n ne) ∙ f)));
       };
       carries = record {
         unit = λ u x e. h.carries.unit u x (leaves.carried u x e).0;
         asked = λ x is. h.carries.asked x (leaves.kept x is).0;
         idle = calm;
         queued = λ u x i e le lt. let k = leaves.carried u x e in other_result x (slice_index_or (jobs_of d x.sequence) i 0) (all_carried v u x (h.carries.unit u x k.0).0 k.0) k.1 (Contains-get_or (jobs_of d x.sequence) i 0 lt) ∙ h.carries.queued u x i k.0 le lt;
-        off = λ e u. none_begun (begun u) (λ x i. let f = sym (leaves.carried u x i).0 ∙ h.carries.off e u in cc);
+        off = λ e u. some_or_none (begun u) (λ x i. absurd (let f = sym (leaves.carried u x i).0 ∙ h.carries.off e u in cc)) (λ i. i);
       };
       few = few;
-      off = λ e. (nothing_in ps (λ x is. none_in x (subst (λ xs. Contains xs x) (h.off e).0 (leaves.kept x is).0)), off e);
+      off = λ e. (nothing_in ps (λ x is. let none = subst (λ xs. Contains xs x) (h.off e).0 (leaves.kept x is).0 in let lt = none.1 in omega (arith, lt)), off e);
     }
       where
-        none_begun : (o : Option Pending) → ((x : Pending) → o ≡ Some x → ⊥) → o ≡ None
-        none_begun None never = refl
-        none_begun (Some x) never = absurd (never x refl)
-
-        none_in : (x : Pending) → Contains [] x → ⊥
-        none_in x (k, lt, e) = omega (arith, lt)
-
-        gone : is_pending p.sequence (all_of ended_view) ≡ false
-        gone = none_any (is_of p.sequence) (all_of ended_view) (λ x is. other_number x.sequence p.sequence (kept x is).1)
-
         stays : (n : ℕ) → n ≢ p.sequence → is_pending n (all_of ended_view) ≡ is_pending n (all_of v)
         stays n ne = whether (is_pending n (all_of v))
             (λ e. let r = any_some (is_of n) (all_of v) e in any_in (is_of n) (all_of ended_view) r.0 (leaves.stays r.0 r.1 (λ f. ne (sym (is_number r.0.sequence n r.2) ∙ f))) r.2 ∙ sym e)
             (λ e. none_any (is_of n) (all_of ended_view) (λ x is. any_none (is_of n) (all_of v) e x (kept x is).0) ∙ sym e)
-
-        represents : (n : ℕ) → n < 8 → (n ≡ p.sequence) ⊎ (n ≢ p.sequence) → (sequence_result (with_item SpiSeqOk v.sequence_results p.sequence result) n ≡ SpiSeqPending → is_pending n (all_of ended_view) ≡ true) × (is_pending n (all_of ended_view) ≡ true → sequence_result (with_item SpiSeqOk v.sequence_results p.sequence result) n ≡ SpiSeqPending)
-        represents n lt (inl e) = subst (λ k. (sequence_result (with_item SpiSeqOk v.sequence_results p.sequence result) k ≡ SpiSeqPending → is_pending k (all_of ended_view) ≡ true) × (is_pending k (all_of ended_view) ≡ true → sequence_result (with_item SpiSeqOk v.sequence_results p.sequence result) k ≡ SpiSeqPending)) (sym e)
-            (λ f. absurd (over (sym (item-same SpiSeqOk v.sequence_results p.sequence result) ∙ f)), λ f. absurd (let g = sym gone ∙ f in cc))
-        represents n lt (inr ne) =
-            let same = item-other SpiSeqOk v.sequence_results p.sequence n result ne in
-            let was = h.results.sequences n lt in
-            let still = stays n ne in
-            (λ f. still ∙ was.0 (sym same ∙ f), λ f. same ∙ was.1 (sym still ∙ f))
 
     -- ---- the words
 

@@ -1,27 +1,26 @@
 -- A source array is filled on the chip and in the machine alike, and nothing else is.
--- From words.KeptWords, words.WordsOfModule, words.AllSequences, words.SameWords and 4 more.
--- Used by bookkeeping.RefinementRight, words.SideWords, mcal_drivers: proofs/SoundConverters and 15 more.
-use Rattle.std.proofs.Common.{◌≡◌, ◌≢◌, ◌+◌, ◌-◌, ◌*◌, ◌<◌, ◌≤◌, ◌==◌, ◌&&◌, [], ◌∷◌, ◌++◌, ◌∙◌, ◌⊎◌}
-use Rattle.std.proofs.Common.{if◌then◌else◌}
+-- From words.SameWords, words.Cases, words.JobPlaces, words.WordsOfModule, hardware.StableUnderHardware.
+-- Used by bookkeeping.RefinementRight, words.SideWords, mcal_drivers: proofs/SoundConverters and 14 more.
+use Rattle.std.proofs.Common.{◌≡◌, ◌≢◌, ◌+◌, ◌-◌, ◌*◌, ◌<◌, ◌≤◌, ◌==◌, ◌&&◌, [], ◌∷◌, ◌++◌, ◌∙◌, ◌⊎◌, if◌then◌else◌}
 use Rattle.spi_sequences.specs.Terms
-use Terms.{AllRight, ap, AreCarried, arith, Bool, Call, carried_at, carries_channel, Carrying, Channel, channel-seen}
-use Terms.{channel_at, channel_of, channels_of, ChannelState, Chip, Cleared, Contains, Contains-get_or}
-use Terms.{count_by-le-length, Debt, drop, entry_carried, eq_isnt, false, Fill, filled, FitsSpi, get_or-append-add}
-use Terms.{get_or-drop, get_or-take, get_or_append_left, Going, Handling, happened, HeldRight, HoldsArrays, inl, inr}
-use Terms.{internal_by, is_in_use, is_off, is_own_word, is_some, IsReady, IsSoundState, item-other, item-same}
-use Terms.{jobs_of, length, length-append, length-take, length_by, List, list_any, Mode, moved, nat_lt, nat_tests}
-use Terms.{next_job, None, not, Option, or_parts, or_rest, overwritten, own_words, owners, Part, place_of, placed_of}
-use Terms.{Preparing, put_by, put_held, Putting, Reading, reads_from, refl, Reservation, Reservations, ReservedBy}
-use Terms.{RunAgrees, RunsNext, same_or_other, same_Some, Sending, set_up_code, SetUpFits, slice_get, slice_index}
-use Terms.{slice_index_or, Some, Source, source_length, source_word, SOURCES, spi_setting, SpiRepresents, SpiState}
-use Terms.{SpiTable, stands-event, subst, suc, sum_by, sum_by-cons, sym, take, to_write, true, untouched, uses}
-use Terms.{uses_channel, view, whether, word_at, word_of, WordsAgree, World, Writing, zero, ℕ}
-use Rattle.spi_sequences.specs.laws.{words.SameWords.{contains_map, words_alike}, words.KeptWords.{banks_view}}
-use Rattle.spi_sequences.specs.laws.{words.KeptWords.{next_view, sequences_as, sound_as}}
-use Rattle.spi_sequences.specs.laws.{words.SendsKept.{sends_as}, words.AllSequences.{all_cases, none_under_way}}
-pub use Rattle.spi_sequences.specs.laws.words.ListTests.{any_in}
-use Rattle.spi_sequences.specs.laws.{words.WordsOfModule.{own_held, own_set_up, some_at}, hardware.StableUnderHardware.{pointwise}}
-use Rattle.mcal_base.specs.facts.Numbers.{eq_from, eq_is, lt_is, lt_isnt}
+use Terms.{AllRight, ap, AreCarried, arith, Bool, Call, carried_at, carries_channel, cases, Channel, channel-seen}
+use Terms.{channel_at, channel_of, channels_of, ChannelState, Chip, Contains, Contains-get_or, count_by-le-length, drop}
+use Terms.{entry_carried, eq_is, eq_isnt, false, Fill, filled, FitsSpi, get_or-append-add, get_or-drop, get_or-take}
+use Terms.{get_or_append_left, get_or_default, Going, happened, HeldRight, HoldsArrays, inl, inr, internal_by}
+use Terms.{is_in_use, is_off, is_own_word, is_some, IsReady, IsSoundState, item-other, item-same, jobs_of, length}
+use Terms.{length-append, length-take, length_by, List, list_any, Mode, moved, nat_lt, nat_tests, next_job, None, not}
+use Terms.{Option, or_parts, or_rest, overwritten, own_words, owners, Part, place_of, placed_of, Preparing, put_by}
+use Terms.{put_held, Putting, reads_from, refl, Reservation, Reservations, ReservedBy, RunAgrees, RunsNext}
+use Terms.{same_or_other, same_Some, set_up_code, SetUpFits, slice_get, slice_index, Some, some_or_none, Source}
+use Terms.{source_length, source_word, SOURCES, spi_setting, SpiRepresents, SpiState, SpiTable, stands-event, subst}
+use Terms.{suc, sum_by, sum_by-cons, sym, take, to_write, true, untouched, uses, uses_channel, view, whether, word_at}
+use Terms.{word_of, WordsAgree, World, Writing, ℕ}
+use Rattle.spi_sequences.specs.laws.{hardware.StableUnderHardware.{pointwise}, words.JobPlaces.{all_cases}}
+use Rattle.spi_sequences.specs.laws.{words.JobPlaces.{none_under_way}, words.SameWords.{banks_view, contains_map}}
+use Rattle.spi_sequences.specs.laws.words.SameWords.{next_view, sends_as, sequences_as, sound_as, words_alike}
+use Rattle.spi_sequences.specs.laws.words.WordsOfModule.{own_held, own_set_up, some_at}
+use Rattle.mcal_base.specs.facts.Numbers.{eq_from, lt_is, lt_isnt}
+pub use Rattle.spi_sequences.specs.laws.words.JobPlaces.{any_in}
 
 -- ---- how many words the module has
 
@@ -46,21 +45,14 @@ own_low d fits k own =
     high : (n : ℕ) → not (nat_lt k 49152) && nat_lt k (49152 + n) ≡ true → k < 49152 + n
     high n e = grind (arith, nat_tests)
 
-    few : (q : Bool) (n : ℕ) → n ≤ 64 → (if q then n else 0) ≤ 64
-    few true n lt = lt
-    few false n lt = omega arith
-
     at : (c : ℕ) (x : Option Channel) → channel_of d c ≡ x → internal_by x ≤ 64
     at c None e = omega arith
-    at c (Some x) e = few x.internal x.length (fits.channels c x e).few
+    at c (Some x) e =
+        elim x.internal as (λ q. (if q then x.length else 0) ≤ 64)
+        [ true ↦ (fits.channels c x e).few | false ↦ omega arith ]
 
     small : (x : Option Channel) → Contains d.channels x → internal_by x ≤ 64
-    small x there = at there.0 x (sym (other d.channels there.0 x None there.1) ∙ there.2)
-      where
-        other : (xs : List (Option Channel)) (n : ℕ) (a b : Option Channel) → n < length xs → slice_index_or xs n a ≡ slice_index_or xs n b
-        other [] n a b lt = absurd (omega (arith, lt))
-        other (y ∷ ys) zero a b lt = refl
-        other (y ∷ ys) (suc n) a b lt = other ys n a b (omega (arith, lt))
+    small x there = at there.0 x (get_or_default d.channels there.0 None x there.1 ∙ there.2)
 
 -- ---- words that become others from a place on
 
@@ -141,15 +133,13 @@ module _ (d : SpiTable) (fits : FitsSpi d) (held : Reservations) (chip : Chip) (
   abbrev given : List ℕ
   given = take (source_length chip c) ws
 
-  most : length_by (channel_of d c) ≤ 64
-  most = by (channel_of d c) refl
-    where
-      by : (o : Option Channel) → channel_of d c ≡ o → length_by o ≤ 64
-      by None e = omega arith
-      by (Some k) e = (fits.channels c k e).few
+  length_small : (n : ℕ) → length_by (channel_of d n) ≤ 64
+  length_small n = some_or_none (channel_of d n)
+      (λ k e. let width = ap length_by e in let most = (fits.channels n k e).few in omega (arith, width, most))
+      (λ e. let width = ap length_by e in omega (arith, width))
 
   few : length given ≤ 64
-  few = let wired = h.wired c lt in omega (arith, length-take (source_length chip c) ws, most, wired)
+  few = let wired = h.wired c lt in let most = length_small c in omega (arith, length-take (source_length chip c) ws, most, wired)
 
   room : place_of (Source c) 0 + length given ≤ length chip.words
   room = let size = h.outside.all.words in omega (arith, few, lt, size)
@@ -171,31 +161,20 @@ module _ (d : SpiTable) (fits : FitsSpi d) (held : Reservations) (chip : Chip) (
       (λ e. low_word _ (let below : n < c = grind (arith, nat_tests) in omega (arith, below, small)))
       (λ e. high_word _ (let above : c < n = grind (arith, nat_tests) in omega (arith, above, small)))
 
-  length_small : (n : ℕ) → length_by (channel_of d n) ≤ 64
-  length_small n = by (channel_of d n) refl
-    where
-      by : (o : Option Channel) → channel_of d n ≡ o → length_by o ≤ 64
-      by None e = omega arith
-      by (Some k) e = (fits.channels n k e).few
-
   -- the array that is filled
   own_source : (i : ℕ) → i < length_by (channel_of d c) → word_of after (place_of (Source c) i) ≡ word_at (filled ws (channel_of d c) (channel_at s c)).source i
-  own_source i small = filled_word (nat_lt i (length ws)) refl
-    where
-      places : place_of (Source c) i ≡ place_of (Source c) 0 + i
-      places = omega arith
-
-      filled_word : (q : Bool) → nat_lt i (length ws) ≡ q → word_of after (place_of (Source c) i) ≡ word_at (take (length_by (channel_of d c)) (ws ++ drop (length ws) (channel_at s c).source)) i
-      filled_word true e =
-          let wired = h.wired c lt in
-          let below : i < length ws = grind (arith, nat_tests) in
-          ap (λ n. word_of after n) places ∙ over_inside chip.words given (place_of (Source c) 0) room i (omega (arith, length-take (source_length chip c) ws, below, small, wired))
-          ∙ get_or-take (source_length chip c) ws i 0 (omega (arith, small, wired)) ∙ sym (array_filled (length_by (channel_of d c)) ws (channel_at s c).source i small true e)
-      filled_word false e =
-          let wired = h.wired c lt in
-          let above : length ws ≤ i = grind (arith, nat_tests) in
-          ap (λ n. word_of after n) places ∙ over_after chip.words given (place_of (Source c) 0) room i (omega (arith, length-take (source_length chip c) ws, above))
-          ∙ ap (λ n. word_of chip n) (sym places) ∙ (h.arrays c).source i small ∙ sym (array_filled (length_by (channel_of d c)) ws (channel_at s c).source i small false e)
+  own_source i small =
+      let places : place_of (Source c) i ≡ place_of (Source c) 0 + i = omega arith in
+      let wired = h.wired c lt in
+      whether (nat_lt i (length ws))
+      (λ e.
+      let below = lt_is i (length ws) e in
+      ap (λ n. word_of after n) places ∙ over_inside chip.words given (place_of (Source c) 0) room i (omega (arith, length-take (source_length chip c) ws, below, small, wired))
+      ∙ get_or-take (source_length chip c) ws i 0 (omega (arith, small, wired)) ∙ sym (array_filled (length_by (channel_of d c)) ws (channel_at s c).source i small true e))
+      (λ e.
+      let above = lt_isnt i (length ws) e in
+      ap (λ n. word_of after n) places ∙ over_after chip.words given (place_of (Source c) 0) room i (omega (arith, length-take (source_length chip c) ws, above))
+      ∙ ap (λ n. word_of chip n) (sym places) ∙ (h.arrays c).source i small ∙ sym (array_filled (length_by (channel_of d c)) ws (channel_at s c).source i small false e))
 
   arrays_by : (n : ℕ) → (n ≡ c) ⊎ (n ≢ c) → HoldsArrays (word_of after) d later n
   arrays_by n (inl e) = subst (λ k. HoldsArrays (word_of after) d later k) (sym e) (record {
@@ -217,28 +196,19 @@ module _ (d : SpiTable) (fits : FitsSpi d) (held : Reservations) (chip : Chip) (
   unused u g n x small is e same =
       let next = subst (λ o. RunsNext d (view s) u o) is (h.nexts u small) in
       let entry = h.sound.entries g.pending next.0 in
-      by (all_cases (view s) g.pending next.0) (any_in (uses_channel d c) (jobs_of d g.pending.sequence) (next_job d g.pending) (Contains-get_or (jobs_of d g.pending.sequence) g.pending.next 0 entry.next) (in_job x.channel same contained))
-    where
-      neither : (is_in_use d c s.pending ≡ false) × (list_any (carries_channel d c) s.carried ≡ false)
-      neither = or_parts (is_in_use d c s.pending) (list_any (carries_channel d c) s.carried) free
-
-      carried : (k : ℕ) (o : Option Carrying) → carried_at s k ≡ o → entry_carried o ≡ Some g.pending → list_any (uses_channel d c) (jobs_of d g.pending.sequence) ≡ true → ⊥
-      carried k None i j uses = cc
-      carried k (Some y) i j uses =
-          let same : y.entry ≡ g.pending = same_Some y.entry g.pending j in
-          not_both (list_any (carries_channel d c) s.carried) (some_at (carries_channel d c) s.carried k refl (ap (carries_channel d c) i ∙ ap (λ p. list_any (uses_channel d c) (jobs_of d p.sequence)) same ∙ uses)) neither.1
-
-      by : Contains s.pending g.pending ⊎ ((k : ℕ) × ((view s).begun k ≡ Some g.pending)) → list_any (uses_channel d c) (jobs_of d g.pending.sequence) ≡ true → ⊥
-      by (inl there) uses = not_both (is_in_use d c s.pending) (any_in (λ p. list_any (uses_channel d c) (jobs_of d p.sequence)) s.pending g.pending there uses) neither.0
-      by (inr (k, i)) uses = carried k (carried_at s k) refl i uses
-
-      in_job : (k : ℕ) → k ≡ c → Contains (channels_of d (next_job d g.pending)) k → uses_channel d c (next_job d g.pending) ≡ true
-      in_job k f i = any_in (λ n. n == c) (channels_of d (next_job d g.pending)) k i (eq_from k c f)
-
-      contained : Contains (channels_of d (next_job d g.pending)) x.channel
-      contained = whether (is_off s.mode)
-          (λ f. absurd (none_under_way d (view s) h.sound f g.pending (subst (λ o. RunsNext d (view s) u o) is (h.nexts u small)).0))
-          (λ f. let g1 = subst (λ o. RunAgrees d (word_of chip) u o) is ((h.words.on f).runs u small) in subst (λ cs. Contains cs x.channel) g1.channels (contains_map (λ y. y.channel) g.parts n x e))
+      let neither = or_parts (is_in_use d c s.pending) (list_any (carries_channel d c) s.carried) free in
+      let contained : Contains (channels_of d (next_job d g.pending)) x.channel = whether (is_off s.mode)
+      (λ f. absurd (none_under_way d (view s) h.sound f g.pending next.0))
+      (λ f. let g1 = subst (λ o. RunAgrees d (word_of chip) u o) is ((h.words.on f).runs u small) in subst (λ cs. Contains cs x.channel) g1.channels (contains_map (λ y. y.channel) g.parts n x e)) in
+      let in_job : uses_channel d c (next_job d g.pending) ≡ true = any_in (λ n. n == c) (channels_of d (next_job d g.pending)) x.channel contained (eq_from x.channel c same) in
+      let uses = any_in (uses_channel d c) (jobs_of d g.pending.sequence) (next_job d g.pending) (Contains-get_or (jobs_of d g.pending.sequence) g.pending.next 0 entry.next) in_job in
+      cases (all_cases (view s) g.pending next.0)
+      (λ there. not_both (is_in_use d c s.pending) (any_in (λ p. list_any (uses_channel d c) (jobs_of d p.sequence)) s.pending g.pending there uses) neither.0)
+      (λ (k, i). some_or_none (carried_at s k)
+      (λ y f.
+      let entry : y.entry ≡ g.pending = same_Some y.entry g.pending (sym (ap entry_carried f) ∙ i) in
+      not_both (list_any (carries_channel d c) s.carried) (some_at (carries_channel d c) s.carried k refl (ap (carries_channel d c) f ∙ ap (λ p. list_any (uses_channel d c) (jobs_of d p.sequence)) entry ∙ uses)) neither.1)
+      (λ f. absurd (let none = sym (ap entry_carried f) ∙ i in cc)))
 
   right_filled : (hs : Reservations) → AllSpared c hs → AllRight d s.mode s.channels hs → AllRight d later.mode later.channels hs
   right_filled [] none r = tt
@@ -254,18 +224,13 @@ module _ (d : SpiTable) (fits : FitsSpi d) (held : Reservations) (chip : Chip) (
   puts_same (x ∷ xs) none n r = ap (λ o. or_rest o (put_held d (view later).sources n r xs)) (one x.what none.0) ∙ ap (or_rest (put_by d (view s).sources n r x.what)) (puts_same xs none.1 n r)
     where
       one : (y : Reservation) → Spared c y → put_by d (view later).sources n r y ≡ put_by d (view s).sources n r y
-      one (Debt u) ne = refl
-      one (Cleared u) ne = refl
-      one Handling ne = refl
       one (Writing m p b i y) ne = by (not r) (m == n) refl
         where
           by : (a q : Bool) → (m == n) ≡ q → put_if (a && q) (record { bank = b; filled = take i (to_write (channel_of d n) p ((view later).sources n)) }) ≡ put_if (a && q) (record { bank = b; filled = take i (to_write (channel_of d n) p ((view s).sources n)) })
           by true true e = let same : m ≡ n = eq_is m n e in ap (λ z. put_if true (record { bank = b; filled = take i (to_write (channel_of d n) p z.source) })) (item-other untouched s.channels c n (filled ws (channel_of d c) (channel_at s c)) (λ g. ne (same ∙ g)))
           by _ _ e = refl
-      one (Reading m b) ne = refl
-      one (Sending u q m at banks failed device) ne = refl
       one (Preparing stored readied None) ne = refl
-      one (Preparing stored readied (Some z)) ne = refl
+      one _ ne = refl
 
   pub fill_agrees : AllSpared c held → SpiRepresents d held (happened chip (Fill c ws)) w (moved d w s (Fill c ws))
   fill_agrees none = record {

@@ -1,21 +1,23 @@
--- The agreement stays while nothing of the module's changes, and as the hardware moves.
--- From words.WordsOfModule, words.SendsKept, words.Cases, words.SameWords.
--- Used by services.QueryRight, spi_driver: bookkeeping.UnpolledFrames, bookkeeping.RefinementRight and 23 more.
-use Rattle.std.proofs.Common.{◌≡◌, ◌≢◌, ◌+◌, ◌-◌, ◌<◌, ◌≤◌, ◌||◌, [], ◌∷◌, ◌++◌, ◌∙◌, ◌⊎◌, if◌then◌else◌}
+-- The agreement stays while nothing of the module's changes, and as the hardware moves; and it stands after a reset.
+-- From words.WordsOfModule, words.SameWords, words.Cases.
+-- Used by bookkeeping.RefinementRight, services.QueryRight, services.ModuleRight and 31 more.
+use Rattle.std.proofs.Common.{◌≡◌, ◌≢◌, ◌+◌, ◌-◌, ◌*◌, ◌<◌, ◌≤◌, ◌||◌, [], ◌∷◌, ◌++◌, ◌∙◌, if◌then◌else◌, ◌⊎◌}
 use Rattle.spi_sequences.specs.Terms
-use Terms.{all_of, ap, AreCarried, arith, Bool, carried_at, CarriesAgrees, Carrying, cases, Channel, channel_of, Chip}
-use Terms.{Destination, entries_begun, entry_carried, false, faulted, faulted_carrying, faulted_run, Fill, FitsSpi}
-use Terms.{get_or-set_other, get_or-set_same, Going, happened, Hardware, has_bit, held_word, HoldsArrays, idle, inl}
-use Terms.{inr, InTransfer, is_done, is_done_at, is_fill, is_running, is_some, is_sync_unit, is_word_of, IsSoundState}
-use Terms.{item-other, item-same, KnowsEnd, length, length-set, length_by, List, list_any, moved, nat_le, nat_tests}
-use Terms.{None, not, Option, Order, Part, place_of, placed_of, refl, Reservations, Run, run_at, run_carried}
-use Terms.{runs_sequence, RunsNext, same_or_other, Serial, slice_get, slice_index, slice_index_or, slice_set, Some}
-use Terms.{Source, source_word, SpiFault, SpiRepresents, SpiState, SpiTable, stands-event, StandsIn, subst, suc, sym}
-use Terms.{Transfer, true, unit_at, UnitAgrees, view, with_carried, with_item, with_run, word-left, word_of}
-use Terms.{WordAgrees, WordsAgree, World, zero, ℕ}
-use Rattle.spi_sequences.specs.laws.words.SameWords.{words_alike}
-use Rattle.spi_sequences.specs.laws.words.SendsKept.{end_later, sends_as}
-use Rattle.spi_sequences.specs.laws.words.WordsOfModule.{word_of_own, own_held, own_set_up, source_own, destination_own}
+use Terms.{all_of, ap, AreCarried, arith, Banks, BanksAgree, Bool, carried_at, CarriesAgrees, cases, Channel}
+use Terms.{channel_of, Chip, Contains, Destination, entries_begun, entry_carried, false, faulted, faulted_carrying}
+use Terms.{faulted_run, Fill, first_items, first_state, FitsSpi, fresh, get_or-set_other, get_or-set_same, Going}
+use Terms.{happened, Hardware, has_bit, has_bit-zero, held_word, HoldsArrays, idle, inl, inr, InTransfer, is_done}
+use Terms.{is_done_at, is_fill, is_running, is_some, is_sync_unit, is_word_of, IsSoundState, item-other, item-same}
+use Terms.{KnowsEnd, length, length-replicate, length-set, length_by, List, list_any, listed, Memory, moved, nat_le}
+use Terms.{nat_tests, None, not, Option, Order, Part, place_of, placed_of, Reason, refl, replicate, Reservations}
+use Terms.{reset_chip, Run, run_at, run_carried, runs_sequence, RunsNext, same_or_other, Serial, slice_get, slice_index}
+use Terms.{slice_index-blank, slice_index_or, slice_set, Some, Source, source_word, SpiFault, SpiRepresents, SpiState}
+use Terms.{SpiTable, Stands, stands-event, stands-reset, StandsIn, STATE, subst, suc, sym, Transfer, TripleBuffer, true}
+use Terms.{unit_at, UnitAgrees, view, WiredAs, with_carried, with_item, with_run, word-left, word_of, WordAgrees}
+use Terms.{WordsAgree, World, zero, ℕ}
+use Rattle.spi_sequences.specs.laws.words.SameWords.{end_later, sends_as, words_alike}
+use Rattle.spi_sequences.specs.laws.words.WordsOfModule.{destination_own, has_channel, own_held, own_set_up}
+use Rattle.spi_sequences.specs.laws.words.WordsOfModule.{source_own, word_of_own}
 use Rattle.chip_units.specs.Serials as serials
 use Rattle.chip_units.specs.declared.serial.Word as chips
 
@@ -100,12 +102,10 @@ module _ (now : ℕ) where
     -- and a unit carries out what it did
     carried_alike : (n : ℕ) → entry_carried (carried_at faulted_state n) ≡ entry_carried (carried_at s n)
     carried_alike n = cases (same_or_other n u)
-        (λ e. subst (λ k. entry_carried (carried_at faulted_state k) ≡ entry_carried (carried_at s k)) (sym e) (ap entry_carried (item-same None s.carried u (faulted_carrying now (carried_at s u))) ∙ entry (carried_at s u)))
+        (λ e. subst (λ k. entry_carried (carried_at faulted_state k) ≡ entry_carried (carried_at s k)) (sym e) (ap entry_carried (item-same None s.carried u (faulted_carrying now (carried_at s u))) ∙ (
+        elim (carried_at s u) as (λ o. entry_carried (faulted_carrying now o) ≡ entry_carried o)
+        [ None ↦ refl | Some x ↦ refl ])))
         (λ ne. ap entry_carried (item-other None s.carried u n (faulted_carrying now (carried_at s u)) ne))
-      where
-        entry : (o : Option Carrying) → entry_carried (faulted_carrying now o) ≡ entry_carried o
-        entry None = refl
-        entry (Some x) = refl
 
     begun_same : (view faulted_state).begun ≡ (view s).begun
     begun_same = pointwise (view faulted_state).begun (view s).begun carried_alike
@@ -115,11 +115,9 @@ module _ (now : ℕ) where
 
     -- the run that it carries out fails too, unless its word is done
     carried_run : run_carried (carried_at faulted_state u) ≡ faulted_run now (run_carried (carried_at s u))
-    carried_run = ap run_carried (item-same None s.carried u (faulted_carrying now (carried_at s u))) ∙ by (carried_at s u)
-      where
-        by : (o : Option Carrying) → run_carried (faulted_carrying now o) ≡ faulted_run now (run_carried o)
-        by None = refl
-        by (Some x) = refl
+    carried_run = ap run_carried (item-same None s.carried u (faulted_carrying now (carried_at s u))) ∙ (
+        elim (carried_at s u) as (λ o. run_carried (faulted_carrying now o) ≡ faulted_run now (run_carried o))
+        [ None ↦ refl | Some x ↦ refl ])
 
 -- a word in transfer fails on the chip and in the machine
 pub done_same : (w : chips.Word) (t : Transfer) (now : ℕ) → w.start ≡ t.began → is_done_at w now ≡ is_done now t
@@ -242,3 +240,96 @@ all_later d w s order =
 pub mode_later : (d : SpiTable) (w : World) (s : SpiState) (order : Order) → (moved d w s order).mode ≡ s.mode
 mode_later d w s (Fill c ws) = refl
 mode_later d w s _ = refl
+
+-- ---- after a reset words and registers stand for the first state
+
+pub none_in : {A : Type 0} (x : A) → Contains [] x → ⊥
+none_in x h = let lt = h.1 in omega (arith, lt)
+
+-- one of two
+pub by_two : (P : ℕ → Type 0) → P 0 → P 1 → (u : ℕ) → u < 2 → P u
+by_two P a b zero lt = a
+by_two P a b (suc zero) lt = b
+by_two P a b (suc (suc u)) lt = absurd (omega (arith, lt))
+
+zeros : (m : Memory) → ((k : ℕ) → m k ≡ 0) → (n k : ℕ) → listed m k n ≡ replicate n 0
+zeros m none zero k = refl
+zeros m none (suc n) k = ap (λ x. x ∷ listed m (k + 1) n) (none k) ∙ ap (λ xs. 0 ∷ xs) (zeros m none n (k + 1))
+
+pub first_none : (n : ℕ) → first_items {A = ℕ} 0 n [] ≡ replicate n 0
+first_none zero = refl
+first_none (suc n) = ap (λ xs. 0 ∷ xs) (first_none n)
+
+-- banks of zeros, of which the first is the newest
+abbrev zero_banks : ℕ → Banks
+zero_banks n = record { bank = 0; newest = replicate n 0; put = None; take = None }
+
+zero_stands : (t : TripleBuffer) (m : Memory) → ((k : ℕ) → m k ≡ 0) → Stands t m (zero_banks t.len)
+zero_stands t m none = record {
+  below = omega arith;
+  control = none t.control;
+  newest = (length-replicate t.len 0, ap (λ n. listed m (t.banks + 0 * t.len + 0) n) (length-replicate t.len 0) ∙ zeros m none t.len (t.banks + 0 * t.len + 0));
+  put = tt;
+  take = tt;
+}
+
+module _ (d : SpiTable) (fits : FitsSpi d) (m : Memory) (none : (k : ℕ) → m k ≡ 0) where
+  abbrev free : ℕ → Option Going
+  free u = None
+
+  fresh_banks : (c : ℕ) (k : Channel) → channel_of d c ≡ Some k → BanksAgree d [] free m (view first_state) c k
+  fresh_banks c k e =
+      let same : (placed_of d c).channel.length ≡ k.length = ap (λ x. x.length) (has_channel d fits c k e) in
+      let first : replicate (placed_of d c).channel.length 0 ≡ first_items 0 k.length [] = ap (λ n. replicate n 0) same ∙ sym (first_none k.length) in
+      record {
+        sent = zero_banks (placed_of d c).channel.length;
+        sends = zero_stands _ m none;
+        written = λ p. first;
+        readied_sent = λ i. absurd (none_in _ i);
+        pinned = λ u lt. tt;
+        writes = refl;
+        received = zero_banks (placed_of d c).channel.length;
+        receives = zero_stands _ m none;
+        readable = λ p. first;
+        readied_received = λ i. absurd (none_in _ i);
+        reads = refl;
+        keeps = λ u lt. tt;
+      }
+
+-- a state in which nothing is under way is sound
+pub empty_sound : (d : SpiTable) (s : SpiState) → IsSoundState d (view (record s { job_results = []; sequence_results = []; pending = []; units = []; carried = [] }))
+empty_sound d s = record {
+  entries = λ p i. absurd (none_in p i);
+  apart = λ i j p q lt e f. absurd (cc);
+  requests = λ p i. absurd (none_in p i);
+  carries = record { unit = λ u p e. absurd (cc); asked = λ p i. absurd (none_in p i); idle = λ u e. refl; queued = λ u p i e le lt. absurd (cc); off = λ e u. refl };
+  results = record { queued = λ p i there le lt. absurd (none_in p there); last = λ j none. tt; named = λ q lt. tt; sequences = λ q lt. (λ e. absurd (cc), λ e. absurd (cc)) };
+  few = λ u le. refl;
+  off = λ e. (refl, λ u. refl);
+}
+
+pub reset_agrees : (d : SpiTable) → FitsSpi d → (chip : Chip) (w : World) (reason : Reason) → StandsIn chip w → WiredAs d chip → SpiRepresents d [] (reset_chip chip reason) w first_state
+reset_agrees d fits chip w reason stands wired = record {
+  right = tt;
+  outside = stands-reset chip w reason stands;
+  wired = wired;
+  size = refl;
+  sound = empty_sound d first_state;
+  going = λ u. None;
+  nexts = λ u lt. tt;
+  units = λ u lt async. (by_two (λ n. (unit_at (fresh chip.serials.time) n).word ≡ None) refl refl u lt, refl);
+  sends = λ u lt sync. (by_two (λ n. (unit_at (fresh chip.serials.time) n).word ≡ None) refl refl u lt, refl);
+  sending = tt;
+  carriers = λ u p e. absurd (cc);
+  words = record {
+    state = slice_index-blank STATE;
+    on = λ on. absurd (cc);
+    banks = λ c k e internal. fresh_banks d fits (word_of (reset_chip chip reason)) (λ k. slice_index-blank k) c k e;
+    stored = λ k n i. absurd (none_in _ i);
+  };
+  set_ups = λ on. absurd (cc);
+  sizes = λ on. absurd (cc);
+  arrays = λ c. record { source = λ i lt. slice_index-blank _; destination = λ i lt. slice_index-blank _ };
+  lines = λ u lt. has_bit-zero (26 + u);
+  owed = λ u p lt free there for. absurd (none_in p there);
+}

@@ -1,82 +1,50 @@
 -- The moves of the module's frames wait for no word, but for one of a call that sends a sequence and waits.
--- services.CancelSteps, services.UnitSteps.
--- From services.InitSteps, services.UnitSteps, services.ModuleSteps, services.QuerySteps and 7 more.
--- Used by spi_driver: bookkeeping.Lawful, spi_sending: services.SendRight, spi_driver: services.UnitBegins.
-use Rattle.std.specs.Prelude.{◌≡◌, ℕ, true, false, ◌&&◌, ◌==◌, if◌then◌else◌, Option, Some, None}
-use Rattle.std.proofs.Common.{refl, sym, ◌∙◌}
-use Rattle.mcal_base.specs.declared.moves.Move.{Move}
-use Rattle.mcal_base.specs.declared.moves.Move.TheVariants.{Load, Write}
-use Rattle.mcal_base.specs.declared.register.Reg.TheVariants.{EnableSet, EnableClear}
+-- From services.ChannelSteps, services.UnitSteps, services.InitSteps, services.ModuleSteps and 4 more.
+-- Used by spi_driver: bookkeeping.Lawful, spi_sending: services.SendRight.
+use Rattle.std.proofs.Common.{◌∙◌}
+use Rattle.std.specs.Prelude.{◌≡◌, ◌&&◌, ◌==◌, if◌then◌else◌}
+use Rattle.spi_sequences.specs.Terms
+use Terms.{Add, cancel_work, CancelBody, Channel, channel_of, Commit, control_word, Dropped, EnableClear, EnableSet}
+use Terms.{false, held_word, InitBody, InitPlace, JobPlace, JobQuery, Keep, LINES, Load, Move, Next, None, Option}
+use Terms.{Placed, Prepare, Put, put_move, QueryBody, ReadBody, ReadPlace, Received, refl, RequestPlace, Search}
+use Terms.{ServePlace, SetUpBody, Some, SpiTable, StartPlace, sym, Take, take_move, true, UnitBody, UnitPlace, Whole}
+use Terms.{whole_work, WholeBody, Write, WriteBody, ℕ}
 use Rattle.run_model.specs.Frame.{is_wait}
-use Rattle.word_shapes.specs.PriorityQueue.{add_move, again_move, drop_move, next_move, search_move}
-use Rattle.word_shapes.specs.TripleBuffer.{put_move, take_move}
-use Rattle.word_shapes.specs.declared.add.Add.{Add}
-use Rattle.word_shapes.specs.declared.add.Add.TheVariants as adds
-use Rattle.word_shapes.specs.declared.again.Again.{Again}
-use Rattle.word_shapes.specs.declared.again.Again.TheVariants as agains
-use Rattle.word_shapes.specs.declared.choosing.Next.{Next}
-use Rattle.word_shapes.specs.declared.choosing.Next.TheVariants as nexts
-use Rattle.word_shapes.specs.declared.dropped.Dropped.{Dropped}
-use Rattle.word_shapes.specs.declared.dropped.Dropped.TheVariants as drops
-use Rattle.word_shapes.specs.declared.put.Put.{Put}
-use Rattle.word_shapes.specs.declared.put.Put.TheVariants as puts
-use Rattle.word_shapes.specs.declared.search.Search.{Search}
-use Rattle.word_shapes.specs.declared.search.Search.TheVariants as searches
-use Rattle.word_shapes.specs.declared.take.Take.{Take}
-use Rattle.word_shapes.specs.declared.take.Take.TheVariants as takes
-use Rattle.spi_jobs.specs.Parts.{asking, commit_move, find_move, keep_move, prepare_move}
-use Rattle.spi_jobs.specs.Placing.{control_word, held_word}
-use Rattle.spi_jobs.specs.declared.banks.Commit.{Commit}
-use Rattle.spi_jobs.specs.declared.banks.Commit.TheVariants as commits
-use Rattle.spi_jobs.specs.declared.channel.Channel.{Channel}
-use Rattle.spi_jobs.specs.declared.channel.Placed.{Placed}
-use Rattle.spi_jobs.specs.declared.channel.Side.TheVariants.{Received}
-use Rattle.spi_jobs.specs.declared.finding.Find.{Find}
-use Rattle.spi_jobs.specs.declared.finding.Find.TheVariants as finds
-use Rattle.spi_jobs.specs.declared.keeping.Keep.{Keep}
-use Rattle.spi_jobs.specs.declared.keeping.Keep.TheVariants as keeps
-use Rattle.spi_jobs.specs.declared.preparing.Prepare.{Prepare}
-use Rattle.spi_jobs.specs.declared.preparing.Prepare.TheVariants as prepares
+use Rattle.word_shapes.specs.{declared.again.Again.{Again}, PriorityQueue.{add_move, again_move, drop_move, next_move}}
+use Rattle.word_shapes.specs.PriorityQueue.{search_move}
+use Rattle.spi_jobs.specs.{declared.finding.Find.{Find}, Parts.{asking, commit_move, find_move, keep_move}}
+use Rattle.spi_jobs.specs.Parts.{prepare_move}
 use Rattle.spi_machine.specs.declared.call.AsyncMode.TheVariants.{Interrupt}
-use Rattle.spi_machine.specs.Table.{channel_of}
-use Rattle.spi_machine.specs.declared.table.SpiTable.{SpiTable}
-use Rattle.spi_sequences.specs.declared.service.cancel.CancelBody.{CancelBody}
+use Rattle.spi_sequences.specs.{declared.service.whole.Whole.TheVariants.{Mode}, laws.services.ChannelSteps.{read_move}}
+use Rattle.spi_sequences.specs.laws.services.ChannelSteps.{read_work, set_up_work, write_work}
+use Rattle.spi_sequences.specs.laws.services.InitSteps.{init_move, init_work, set_up_move}
+use Rattle.spi_sequences.specs.{laws.services.ModuleSteps.{lines_move}, laws.services.QuerySteps.{job_move, query_work}}
+use Rattle.spi_sequences.specs.laws.services.ServeSteps.{channel_served, serve_move}
+use Rattle.spi_sequences.specs.{laws.services.StartSteps.{start_move}, laws.services.UnitSteps.{request_move}}
+use Rattle.spi_sequences.specs.laws.services.UnitSteps.{requested_by, unit_move, unit_work}
+use Rattle.word_shapes.specs.declared.add.Add.TheVariants as adds
+use Rattle.word_shapes.specs.declared.again.Again.TheVariants as agains
+use Rattle.word_shapes.specs.declared.choosing.Next.TheVariants as nexts
+use Rattle.word_shapes.specs.declared.dropped.Dropped.TheVariants as drops
+use Rattle.word_shapes.specs.declared.put.Put.TheVariants as puts
+use Rattle.word_shapes.specs.declared.search.Search.TheVariants as searches
+use Rattle.word_shapes.specs.declared.take.Take.TheVariants as takes
+use Rattle.spi_jobs.specs.declared.banks.Commit.TheVariants as commits
+use Rattle.spi_jobs.specs.declared.finding.Find.TheVariants as finds
+use Rattle.spi_jobs.specs.declared.keeping.Keep.TheVariants as keeps
+use Rattle.spi_jobs.specs.declared.preparing.Prepare.TheVariants as prepares
 use Rattle.spi_sequences.specs.declared.service.cancel.CancelBody.TheVariants as cancel
-use Rattle.spi_sequences.specs.declared.service.init.InitBody.{InitBody}
-use Rattle.spi_sequences.specs.declared.service.init.InitPlace.{InitPlace}
 use Rattle.spi_sequences.specs.declared.service.init.InitPlace.TheVariants as init
-use Rattle.spi_sequences.specs.declared.service.query.JobPlace.{JobPlace}
 use Rattle.spi_sequences.specs.declared.service.query.JobPlace.TheVariants as job
-use Rattle.spi_sequences.specs.declared.service.query.JobQuery.{JobQuery}
-use Rattle.spi_sequences.specs.declared.service.query.QueryBody.{QueryBody}
 use Rattle.spi_sequences.specs.declared.service.query.QueryBody.TheVariants as query
-use Rattle.spi_sequences.specs.declared.service.read.ReadBody.{ReadBody}
-use Rattle.spi_sequences.specs.declared.service.read.ReadPlace.{ReadPlace}
 use Rattle.spi_sequences.specs.declared.service.read.ReadPlace.TheVariants as read
-use Rattle.spi_sequences.specs.declared.service.request.RequestPlace.{RequestPlace}
 use Rattle.spi_sequences.specs.declared.service.request.RequestPlace.TheVariants as request
-use Rattle.spi_sequences.specs.declared.service.serve.ServePlace.{ServePlace}
 use Rattle.spi_sequences.specs.declared.service.serve.ServePlace.TheVariants as serve
-use Rattle.spi_sequences.specs.declared.service.set_up.SetUpBody.{SetUpBody}
 use Rattle.spi_sequences.specs.declared.service.set_up.SetUpBody.TheVariants as set_up
-use Rattle.spi_sequences.specs.declared.service.start.StartPlace.{StartPlace}
 use Rattle.spi_sequences.specs.declared.service.start.StartPlace.TheVariants as start
-use Rattle.spi_sequences.specs.declared.service.unit.UnitBody.{UnitBody}
-use Rattle.spi_sequences.specs.declared.service.unit.UnitPlace.{UnitPlace}
 use Rattle.spi_sequences.specs.declared.service.unit.UnitPlace.TheVariants as place
-use Rattle.spi_sequences.specs.declared.service.whole.Whole.{Whole}
-use Rattle.spi_sequences.specs.declared.service.whole.Whole.TheVariants.{Mode}
-use Rattle.spi_sequences.specs.declared.service.whole.WholeBody.{WholeBody}
 use Rattle.spi_sequences.specs.declared.service.whole.WholeBody.TheVariants as whole
-use Rattle.spi_sequences.specs.declared.service.write.WriteBody.{WriteBody}
 use Rattle.spi_sequences.specs.declared.service.write.WriteBody.TheVariants as write
-use Rattle.spi_sequences.specs.declared.words.TheConstants.{LINES}
-use Rattle.spi_sequences.specs.laws.{services.CancelSteps.{cancel_work}, services.InitSteps.{init_move, init_work, set_up_move}}
-use Rattle.spi_sequences.specs.laws.{services.ModuleSteps.{lines_move, whole_work}}
-use Rattle.spi_sequences.specs.laws.{services.QuerySteps.{job_move, query_work}, services.ReadSteps.{read_move, read_work}}
-use Rattle.spi_sequences.specs.laws.{services.RequestSteps.{request_move}, services.ServeSteps.{channel_served, serve_move}}
-use Rattle.spi_sequences.specs.laws.{services.SetUpSteps.{set_up_work}, services.StartSteps.{start_move}}
-use Rattle.spi_sequences.specs.laws.{services.UnitSteps.{requested_by, unit_move, unit_work}, services.WriteSteps.{write_work}}
 
 -- the move waits for nothing
 abbrev pub IsAtOnce : Move → Type 0

@@ -1,43 +1,42 @@
 -- Spi_Cancel: that it is right.
--- From words.NumbersApart, bookkeeping.SequenceEnded, words.WordsToState, services.CancelSteps and 14 more.
--- Used by spi_driver: bookkeeping.Lawful, services.RequestRight, spi_serving: services.GoesOnRight and 10 more.
+-- From words.NumbersApart, bookkeeping.SequenceEnded, words.WordsToState, words.JobPlaces and 12 more.
+-- Used by spi_driver: bookkeeping.Lawful, services.RequestRight, spi_serving: services.SequenceOverRight and 10 more.
 use Rattle.std.proofs.Common.{◌≡◌, ◌≢◌, ◌+◌, ◌<◌, ◌≤◌, ◌==◌, ◌||◌, [], ◌∷◌, ◌∙◌, if◌then◌else◌}
 use Rattle.spi_sequences.specs.Terms
-use Terms.{Act, acts, acts_by, and_parts, Answer, ap, AreFree, AreLong, AreThere, AreWindows, arith, AssertedAt}
-use Terms.{begins_word, bit_or, BodyTaken, Bool, Call, Called, Cancel, cancel_drops, cancel_owed, cancel_owed_at}
-use Terms.{cancel_takes, cancel_work, CancelBody, CANCELLED, Cancelled, cancelled, cancelled_bit, cancelled_by}
-use Terms.{Cancels, cancels, cases, changed, Chip, chip_after, Cleans, CommitsTo, Contains, Continues, DiffersIn}
-use Terms.{drop, drop-ends, drop_gave, drop_left, Dropped, dropping, ended, ends, entries_of, error_by, error_in}
-use Terms.{false, filter, find, FitsSpi, FrameHistory, fresh_history, goes, GoesFree, GoesOwing, Going, happened}
-use Terms.{has_ended, holds-agree, is_for, is_left, is_of, is_off, is_own_word, is_pending, is_running}
-use Terms.{is_running_sequence, is_shared, is_simple, is_some, is_sync_sequence, is_sync_unit, Is_this_frame, IsPart}
-use Terms.{IsSoundState, IsThisFrame, job_word, jobs_of, List, list_any, Load, LongBodies, MARKS, may, Memory}
-use Terms.{missed_after, Move, moved, NamesOwn, next_job, NEXTS, no_answer, None, not, notes, Nothing, notices_in}
-use Terms.{notifies_sequence, One, Option, Order, order_word, Origin, outcome, owed_left, owed_move, owing, PartTo}
-use Terms.{PENDING, Pending, PendingWrites, place_at, PointAssertion, position_word, PriorityQueue, refl}
-use Terms.{Reservations, resets_chip, Right, run_in, running_word, RunsBy, RunsNext, same_chip, same_or_other}
-use Terms.{same_Some, search_of, sequence_notice, sequence_of, sequence_word, SequencesAgree, settles_part, Shortens}
-use Terms.{Some, spi_bare, spi_basis, spi_machine, spi_owing, SpiRepresents, SpiSeqCanceled, SpiSeqEndNotification}
-use Terms.{SpiState, SpiTable, stands-move, StandsIn, STATE, Store, stored_other, stored_same, subst, suc, sym}
-use Terms.{tells_nothing, true, TurnsTo, Under, unit_of_sequence, unless_done, value_of, view, whether, whether_as}
-use Terms.{Windows, windows, windows_right, Within, word_later, word_of, Works, World, world_after, ℕ}
+use Terms.{Act, acts, acts_by, and_parts, Answer, ap, AreFree, AreLong, AreThere, AreWindows, arith, AssertedAt, bit_or}
+use Terms.{BodyTaken, Bool, Call, Called, Cancel, cancel_drops, cancel_owed, cancel_owed_at, cancel_takes, cancel_work}
+use Terms.{CancelBody, CANCELLED, Cancelled, cancelled, cancelled_bit, cancelled_by, Cancels, cancels, cases, changed}
+use Terms.{Chip, chip_after, CommitsTo, Contains, Continues, DiffersIn, drop, drop-ends, drop_gave, drop_left, Dropped}
+use Terms.{dropping, ended, ends, entries_of, error_by, error_in, false, filter, find, FitsSpi, FrameHistory}
+use Terms.{fresh_history, goes, GoesFree, GoesOwing, Going, happened, has_ended, holds-agree, is_for, is_left, is_of}
+use Terms.{is_off, is_own_word, is_pending, is_running, is_running_sequence, is_shared, is_simple, is_some}
+use Terms.{is_sync_sequence, is_sync_unit, Is_this_frame, IsPart, IsThisFrame, jobs_of, List, list_any, Load}
+use Terms.{LongBodies, MARKS, may, Memory, missed_after, Move, moved, NamesOwn, next_job, NEXTS, no_answer, None, not}
+use Terms.{notes, Nothing, notices_in, notifies_sequence, One, Option, Order, order_word, Origin, outcome, owed_left}
+use Terms.{owed_move, owing, PartTo, PENDING, Pending, PendingWrites, place_at, PointAssertion, PriorityQueue, refl}
+use Terms.{Reservations, Right, run_in, running_word, RunsBy, RunsNext, same_chip, same_or_other, same_Some, search_of}
+use Terms.{sequence_notice, sequence_of, sequence_word, SequencesAgree, settles_part, Shortens, Some, spi_bare}
+use Terms.{spi_basis, spi_machine, spi_owing, SpiRepresents, SpiSeqCanceled, SpiSeqEndNotification, SpiState, SpiTable}
+use Terms.{stands-move, StandsIn, STATE, Store, stored_other, stored_same, subst, suc, sym, tells_nothing, true}
+use Terms.{TurnsTo, Under, unit_of_sequence, unless_done, value_of, view, whether, whether_as, Windows, windows}
+use Terms.{windows_right, Within, word_later, word_of, Works, World, world_after, ℕ}
+use Rattle.spi_sequences.specs.laws.bookkeeping.MarkedState.{cancelled_now}
+use Rattle.spi_sequences.specs.laws.bookkeeping.PendingWritesBounds.{owed_right}
 use Rattle.spi_sequences.specs.laws.bookkeeping.RefinementRight.{frame_may, frame_names}
-use Rattle.spi_sequences.specs.laws.{words.NumbersApart.{before_sequences, high_enough, high_order, job_at, low_enough}}
-use Rattle.spi_sequences.specs.laws.{words.NumbersApart.{low_order, marks_at, nexts_at, one_sequence, order_at}}
-use Rattle.spi_sequences.specs.laws.{words.NumbersApart.{other_order, past_sequences, position_at, position_order}}
-use Rattle.spi_sequences.specs.laws.{words.NumbersApart.{running_at, running_order, sequence_at, state_at}}
-use Rattle.spi_sequences.specs.laws.{bookkeeping.SequenceEnded.{ended_sound, ended_words, Leaves, leaves_pending, left_order}}
-use Rattle.spi_sequences.specs.laws.{bookkeeping.SequenceEnded.{stay, there_back, there_by, filter_back, filter_keeps}}
-use Rattle.spi_sequences.specs.laws.words.AllSequences.{all_pending, aside_pending, IsAside}
-use Rattle.spi_sequences.specs.laws.{words.PendingWords.{firsts_changed, holds_same, stands_owed}}
-use Rattle.spi_sequences.specs.laws.{hardware.StableUnderHardware.{mode_later, pending_later, running_later}}
-use Rattle.spi_sequences.specs.laws.{bookkeeping.MarkedState.{cancelled_now}}
-use Rattle.spi_sequences.specs.laws.{bookkeeping.PendingWritesBounds.{owed_right}, words.WordsOfModule.{in_order}}
-use Rattle.spi_sequences.specs.laws.{words.WordsOfModule.{own_first}, words.JobPlaces.{job_unit, unit_few}}
-use Rattle.spi_sequences.specs.laws.{services.QueryRight.{may_first}, words.WordsToState.{RunsOn, going_next}}
-use Rattle.spi_sequences.specs.laws.{words.WordsToState.{going_runs, is_number, not_true, one_pending, one_unit}}
-use Rattle.spi_sequences.specs.laws.{words.WordsToState.{other_number, pending_alone, pending_word, running_by, running_says}}
-use Rattle.spi_sequences.specs.laws.{words.WordsToState.{runs_on, same_number}, services.SetUpRight.{may_store}}
+use Rattle.spi_sequences.specs.laws.bookkeeping.SequenceEnded.{ended_sound, ended_words, filter_back, filter_keeps}
+use Rattle.spi_sequences.specs.laws.bookkeeping.SequenceEnded.{Leaves, leaves_pending, left_order, stay, there_back}
+use Rattle.spi_sequences.specs.laws.{bookkeeping.SequenceEnded.{there_by}, hardware.StableUnderHardware.{mode_later}}
+use Rattle.spi_sequences.specs.laws.hardware.StableUnderHardware.{pending_later, running_later}
+use Rattle.spi_sequences.specs.laws.services.QueryRight.{IsCalm, may_first, owed_cleans, owed_turns}
+use Rattle.spi_sequences.specs.laws.{services.SetUpRight.{may_store}, words.JobPlaces.{all_pending, aside_pending}}
+use Rattle.spi_sequences.specs.laws.words.JobPlaces.{IsAside, job_unit, unit_few}
+use Rattle.spi_sequences.specs.laws.words.NumbersApart.{before_sequences, high_order, low_enough, low_order, marks_at}
+use Rattle.spi_sequences.specs.laws.words.NumbersApart.{nexts_at, sequence_at, words_stay, WordsStay}
+use Rattle.spi_sequences.specs.laws.words.PendingWords.{firsts_changed, holds_same, stands_owed}
+use Rattle.spi_sequences.specs.laws.{words.WordsOfModule.{in_order, own_first}, words.WordsToState.{going_next}}
+use Rattle.spi_sequences.specs.laws.words.WordsToState.{going_runs, is_number, not_true, one_pending, one_unit}
+use Rattle.spi_sequences.specs.laws.words.WordsToState.{other_number, pending_alone, pending_word, running_by}
+use Rattle.spi_sequences.specs.laws.words.WordsToState.{running_says, runs_on, RunsOn, same_number}
 use Rattle.word_shapes.specs.Order as order
 use Rattle.word_shapes.specs.PriorityQueue as ranked
 use Rattle.word_shapes.specs.declared.dropped.Dropped.TheVariants as drops
@@ -62,13 +61,11 @@ pub record IsFound (q : ℕ) (ps : List Pending) : Type 0 where
 
 pub found_entry : (q : ℕ) (ps : List Pending) → is_pending q ps ≡ true → IsFound q ps
 found_entry q [] e = absurd (cc)
-found_entry q (p ∷ ps) e = found_with_first (is_of q p) refl e (found_entry q ps)
-  where
-    found_with_first : (b : Bool) → is_of q p ≡ b → is_of q p || is_pending q ps ≡ true → (is_pending q ps ≡ true → IsFound q ps) → IsFound q (p ∷ ps)
-    found_with_first true f g rest = record { entry = p; is = ap (λ b. if b then Some p else find (is_of q) ps) f; there = (0, omega arith, refl); of = is_number p.sequence q f }
-    found_with_first false f g rest =
-        let r = rest (ap (λ b. b || is_pending q ps) (sym f) ∙ g) in
-        record { entry = r.entry; is = ap (λ b. if b then Some p else find (is_of q) ps) f ∙ r.is; there = (suc r.there.0, let lt = r.there.1 in omega (arith, lt), r.there.2); of = r.of }
+found_entry q (p ∷ ps) e = whether (is_of q p)
+    (λ f. record { entry = p; is = ap (λ b. if b then Some p else find (is_of q) ps) f; there = (0, omega arith, refl); of = is_number p.sequence q f })
+    (λ f.
+    let r = found_entry q ps (ap (λ b. b || is_pending q ps) (sym f) ∙ e) in
+    record { entry = r.entry; is = ap (λ b. if b then Some p else find (is_of q) ps) f ∙ r.is; there = (suc r.there.0, let lt = r.there.1 in omega (arith, lt), r.there.2); of = r.of })
 
 -- ---- places
 
@@ -196,40 +193,19 @@ module _ (d : SpiTable) (fits : FitsSpi d) (below : Reservations) (chip : Chip) 
     word_same : (j : ℕ) → ranked.own_of (ordered unit) j ≡ false → j ≢ sequence_word p.sequence → word_of c j ≡ word_of chip j
     word_same j e ne = differs.others j e ∙ stored_other chip (sequence_word p.sequence) CANCELLED 0 j ne
 
-    above : (j : ℕ) → STATE + 64 ≤ j → word_of c j ≡ word_of chip j
-    above j le = word_same j (high_order unit j few (high_enough j le).0) (past_sequences p.sequence j number le)
+    unchanged : WordsStay (word_of chip) (word_of c) p.sequence unit
+    unchanged = words_stay (word_of chip) (word_of c) p.sequence unit number few (λ j own ne _ _. word_same j own ne)
 
     below_orders : (j : ℕ) → STATE ≤ j → j < STATE + 10 → word_of c j ≡ word_of chip j
     below_orders j low high = word_same j (low_order unit j high) (before_sequences p.sequence j (low_enough j high))
 
-    jobs_same : (j : ℕ) → j < 16 → word_of c (job_word j) ≡ word_of chip (job_word j)
-    jobs_same j lt = word_same (job_word j) (high_order unit (job_word j) few (job_at j lt).1) (before_sequences p.sequence (job_word j) (job_at j lt).0)
-
-    others_same : (n : ℕ) → n < 8 → n ≢ p.sequence → word_of c (sequence_word n) ≡ word_of chip (sequence_word n)
-    others_same n lt ne = word_same (sequence_word n) (high_order unit (sequence_word n) few (sequence_at n).0) (λ e. ne (one_sequence n p.sequence e))
-
     told : word_of c (sequence_word p.sequence) ≡ CANCELLED
     told = differs.others (sequence_word p.sequence) (high_order unit (sequence_word p.sequence) few (sequence_at p.sequence).0) ∙ stored_same chip (sequence_word p.sequence) CANCELLED 0 (omega (arith, number)) h.outside.all.words
-
-    runs_same : (u : ℕ) → u < 2 → (word_of c (running_word u) ≡ word_of chip (running_word u)) × (word_of c (position_word u) ≡ word_of chip (position_word u))
-    runs_same u lt = (
-      word_same (running_word u) (running_order unit u few lt) (before_sequences p.sequence (running_word u) (running_at u lt).0),
-      word_same (position_word u) (position_order unit u few lt) (before_sequences p.sequence (position_word u) (position_at u lt).0),
-    )
 
     orders : (u : ℕ) → u < 2 → ranked.Holds (ordered u) (word_of c) (entries_of d (view after) u)
     orders u lt = cases (same_or_other u unit)
         (λ e. subst (λ n. ranked.Holds (ordered n) (word_of c) (entries_of d (view after) n)) (sym e) (subst (λ xs. ranked.Holds (ordered unit) (word_of c) xs) (sym (left_order d unit p.sequence (is_running s) (is_running s) (λ n ne. refl) s.pending ((h.words.on on).sequences.orders unit few).once)) holds))
-        (λ ne. subst (λ xs. ranked.Holds (ordered u) (word_of c) xs) (sym (stay d u p.sequence (is_running s) (is_running s) (λ n ne. refl) s.pending (in_other u ne))) (holds-agree (ordered u) (word_of chip) (word_of c) (entries_of d (view s) u) (other_words ne) was))
-      where
-        was : ranked.Holds (ordered u) (word_of chip) (entries_of d (view s) u)
-        was = (h.words.on on).sequences.orders u lt
-
-        other_words : u ≢ unit → (j : ℕ) → ranked.own_of (ordered u) j ≡ true → word_of chip j ≡ word_of c j
-        other_words ne j own =
-            let low = from_order u j own in
-            let high = to_order u j own in
-            sym (word_same j (other_order unit u j few lt ne low high) (before_sequences p.sequence j (order_at u j lt low high).0))
+        (λ ne. subst (λ xs. ranked.Holds (ordered u) (word_of c) xs) (sym (stay d u p.sequence (is_running s) (is_running s) (λ n ne. refl) s.pending (in_other u ne))) (holds-agree (ordered u) (word_of chip) (word_of c) (entries_of d (view s) u) (λ j own. unchanged.orders u j lt ne own) ((h.words.on on).sequences.orders u lt)))
 
     -- its jobs that are left never ran
     none_ran : (j : ℕ) → is_left d j p ≡ true → list_any (λ k. k == j) (drop p.next (jobs_of d p.sequence)) ≡ false → ⊥
@@ -238,12 +214,9 @@ module _ (d : SpiTable) (fits : FitsSpi d) (below : Reservations) (chip : Chip) 
     leaves : Leaves (view s) p after.pending (view s).begun
     leaves = leaves_pending d (view s) h.sound p there
 
-    soundly : IsSoundState d (view after)
-    soundly = ended_sound d fits (view s) h.sound p (all_pending (view s) p there) p.next (omega arith) s.job_results (λ j a b. absurd (none_ran j a b)) (λ j e. refl) after.pending (view s).begun leaves (view s).running (view s).idle SpiSeqCanceled tt (λ e. absurd (cc)) (λ n ne. refl) h.sound.few h.sound.carries.idle (λ e. (h.sound.off e).1)
-
     wordly : SequencesAgree d (word_of c) (view after)
     wordly = ended_words d fits (view s) h.sound p (all_pending (view s) p there) p.next (omega arith) s.job_results (λ j a b. absurd (none_ran j a b)) (λ j e. refl) after.pending (view s).begun leaves (view s).running (view s).idle SpiSeqCanceled tt (λ e. absurd (cc)) (λ n ne. refl) h.sound.few h.sound.carries.idle (λ e. (h.sound.off e).1) (word_of chip) (word_of c) (h.words.on on).sequences
-        others_same told (below_orders NEXTS nexts_at.0 nexts_at.1) (below_orders MARKS marks_at.0 marks_at.1) (λ j lt e. jobs_same j lt) (λ j lt a b. absurd (none_ran j a b)) orders
+        unchanged.sequences told (below_orders NEXTS nexts_at.0 nexts_at.1) (below_orders MARKS marks_at.0 marks_at.1) (λ j lt e. unchanged.jobs j lt) (λ j lt a b. absurd (none_ran j a b)) orders
 
     -- what runs is of another sequence
     nexts_kept : (u : ℕ) → u < 2 → (g : Option Going) → h.going u ≡ g → RunsNext d (view s) u g → RunsNext d (view after) u g
@@ -259,8 +232,9 @@ module _ (d : SpiTable) (fits : FitsSpi d) (below : Reservations) (chip : Chip) 
         runs false i r = (filter_keeps (λ z. not (is_of p.sequence z)) s.pending g.pending r.0 (ap not (other_number g.pending.sequence p.sequence (unlike false i r))), r.1)
 
     ended_now : StandsIn c w → SpiRepresents d below c w after
-    ended_now outside = firsts_changed d fits below below chip c w s h on (holds_same d below) outside (ap (λ x. x.wiring) differs.rest) (ap (λ x. x.serials.units) differs.rest) (ap (λ x. x.control) differs.rest) above (below_orders STATE state_at.0 state_at.1) runs_same
-        after.pending after.requests after.sequence_results after.job_results h.right h.sending h.carriers soundly (λ u lt. nexts_kept u lt (h.going u) refl (h.nexts u lt)) wordly (λ u x lt free is for. h.owed u x lt free (filter_back (λ z. not (is_of p.sequence z)) s.pending x is).0 for)
+    ended_now outside = firsts_changed d fits below below chip c w s h on (holds_same d below) outside (ap (λ x. x.wiring) differs.rest) (ap (λ x. x.serials.units) differs.rest) (ap (λ x. x.control) differs.rest) unchanged.past unchanged.state unchanged.runs
+        after.pending after.requests after.sequence_results after.job_results h.right h.sending h.carriers (ended_sound d fits (view s) h.sound p (all_pending (view s) p there) p.next (omega arith) s.job_results (λ j a b. absurd (none_ran j a b)) (λ j e. refl) after.pending (view s).begun leaves (view s).running (view s).idle SpiSeqCanceled tt (λ e. absurd (cc)) (λ n ne. refl) h.sound.few h.sound.carries.idle (λ e. (h.sound.off e).1))
+        (λ u lt. nexts_kept u lt (h.going u) refl (h.nexts u lt)) wordly (λ u x lt free is for. h.owed u x lt free (filter_back (λ z. not (is_of p.sequence z)) s.pending x is).0 for)
 
 -- ---- the steps
 
@@ -269,29 +243,18 @@ module _ (d : SpiTable) (fits : FitsSpi d) (below : Reservations) (chip : Chip) 
   owes_drop : (r : Cancelled) (p : Pending) (there : Contains s.pending p) (waits : is_running s p.sequence ≡ false) → r.sequence ≡ p.sequence → r.unit ≡ unit_of_sequence d p.sequence
       → (n : ℕ) × CommitsTo (spi_owing d) n (Cancels (cancel.Drop r (drops.Look (search_of r.unit) r.sequence))) (chip_after chip (Store (sequence_word r.sequence) CANCELLED) y) (λ c. SpiRepresents d below c w (ended d s p p.next SpiSeqCanceled))
   owes_drop r p there waits sequence at =
+      let u : ℕ = unit_of_sequence d p.sequence in
+      let small = unit_few d fits p.sequence in
+      let first : Chip = chip_after chip (Store (sequence_word p.sequence) CANCELLED) 0 in
+      let stands = stands-move chip w (Store (sequence_word p.sequence) CANCELLED) 0 h.outside in
+      let held : ranked.Holds (record { at = order_word u }) (word_of first) (entries_of d (view s) u) =
+      holds-agree (record { at = order_word u }) (word_of chip) (word_of first) (entries_of d (view s) u) (λ j own. sym (stored_other chip (sequence_word p.sequence) CANCELLED 0 j (λ e. let high = to_order u j own in omega (arith, e, high, small)))) ((h.words.on on).sequences.orders u small) in
       subst (λ n. (i : ℕ) × CommitsTo (spi_owing d) i (Cancels (cancel.Drop r (drops.Look (search_of r.unit) n))) (chip_after chip (Store (sequence_word n) CANCELLED) y) (λ c. SpiRepresents d below c w (ended d s p p.next SpiSeqCanceled))) (sym sequence)
-      (subst (λ u. (i : ℕ) × CommitsTo (spi_owing d) i (Cancels (cancel.Drop r (drops.Look (search_of u) p.sequence))) (chip_after chip (Store (sequence_word p.sequence) CANCELLED) y) (λ c. SpiRepresents d below c w (ended d s p p.next SpiSeqCanceled))) (sym at) settled)
-    where
-      u : ℕ
-      u = unit_of_sequence d p.sequence
-
-      small : u < 2
-      small = unit_few d fits p.sequence
-
-      first : Chip
-      first = chip_after chip (Store (sequence_word p.sequence) CANCELLED) 0
-
-      stands : StandsIn first w
-      stands = stands-move chip w (Store (sequence_word p.sequence) CANCELLED) 0 h.outside
-
-      held : ranked.Holds (record { at = order_word u }) (word_of first) (entries_of d (view s) u)
-      held = holds-agree (record { at = order_word u }) (word_of chip) (word_of first) (entries_of d (view s) u) (λ j own. sym (stored_other chip (sequence_word p.sequence) CANCELLED 0 j (λ e. let high = to_order u j own in omega (arith, e, high, small)))) ((h.words.on on).sequences.orders u small)
-
-      settled : (i : ℕ) × CommitsTo (spi_owing d) i (Cancels (cancel.Drop r (drops.Look (search_of u) p.sequence))) first (λ c. SpiRepresents d below c w (ended d s p p.next SpiSeqCanceled))
-      settled = settles_part dropping (ranked.own_of (record { at = order_word u })) (spi_owing d) (λ x. Cancels (cancel.Drop r x)) (λ xs. None) (drop_part d fits r u small) (order_there u small)
-          (λ after words. ranked.Holds (record { at = order_word u }) after (order.without p.sequence (entries_of d (view s) u)) × (words ≡ [])) (λ c. SpiRepresents d below c w (ended d s p p.next SpiSeqCanceled))
-          _ (drops.Look (search_of u) p.sequence) first stands.all.words (drop-ends (record { at = order_word u }) p.sequence (word_of first) (entries_of d (view s) u) held (in_own d fits below chip w s h on p there waits))
-          (λ c xs differs holds. ended_now d fits below chip w s h on p there waits c differs holds.0 (stands_owed (ranked.own_of (record { at = order_word u })) first c w differs stands))
+      (subst (λ u. (i : ℕ) × CommitsTo (spi_owing d) i (Cancels (cancel.Drop r (drops.Look (search_of u) p.sequence))) (chip_after chip (Store (sequence_word p.sequence) CANCELLED) y) (λ c. SpiRepresents d below c w (ended d s p p.next SpiSeqCanceled))) (sym at)
+      (settles_part dropping (ranked.own_of (record { at = order_word u })) (spi_owing d) (λ x. Cancels (cancel.Drop r x)) (λ xs. None) (drop_part d fits r u small) (order_there u small)
+      (λ after words. ranked.Holds (record { at = order_word u }) after (order.without p.sequence (entries_of d (view s) u)) × (words ≡ [])) (λ c. SpiRepresents d below c w (ended d s p p.next SpiSeqCanceled))
+      _ (drops.Look (search_of u) p.sequence) first stands.all.words (drop-ends (record { at = order_word u }) p.sequence (word_of first) (entries_of d (view s) u) held (in_own d fits below chip w s h on p there waits))
+      (λ c xs differs holds. ended_now d fits below chip w s h on p there waits c differs holds.0 (stands_owed (ranked.own_of (record { at = order_word u })) first c w differs stands))))
 
   abbrev CancelMakes : ℕ → CancelBody → Move → Chip → ℕ → CancelBody × BodyTaken → Type 0
   CancelMakes q k made after value p = Works (spi_basis d) (cancel_bodies d) below chip after w s (Called (asks q)) made false value y fresh_history m p.0 p.1.event p.1.done
@@ -322,15 +285,13 @@ module _ (d : SpiTable) (fits : FitsSpi d) (below : Reservations) (chip : Chip) 
 
   runs_here : (q : ℕ) → is_sync_sequence d q ≡ false → (g : Option Going) → h.going (unit_of_sequence d q) ≡ g → is_running_sequence q (running_by d g) ≡ is_running s q
   runs_here q there None e = sym (not_true (is_running s q) (λ f. let c = sym e ∙ own_unit q (runs_on d fits below chip w s h q f) in cc))
-  runs_here q there (Some g) e = runs_alike (g.pending.sequence == q) refl
-    where
-      runs_alike : (b : Bool) → (g.pending.sequence == q) ≡ b → (g.pending.sequence == q) ≡ is_running s q
-      runs_alike true f = f ∙ sym (ap (is_running s) (sym (is_number g.pending.sequence q f)) ∙ going_runs d fits below chip w s h (unit_of_sequence d q) g (unit_few d fits q) there e)
-      runs_alike false f = f ∙ sym (not_true (is_running s q) (λ i.
-          let r : RunsOn d fits below chip w s h q = runs_on d fits below chip w s h q i in
-          let same : Some g ≡ Some r.job = sym e ∙ own_unit q r in
-          let job : g ≡ r.job = cc in
-          let no = sym f ∙ ap (λ x. x.pending.sequence == q) job ∙ ap (λ n. n == q) r.of ∙ same_number q in cc))
+  runs_here q there (Some g) e = whether (g.pending.sequence == q)
+      (λ f. f ∙ sym (ap (is_running s) (sym (is_number g.pending.sequence q f)) ∙ going_runs d fits below chip w s h (unit_of_sequence d q) g (unit_few d fits q) there e))
+      (λ f. f ∙ sym (not_true (is_running s q) (λ i.
+      let r : RunsOn d fits below chip w s h q = runs_on d fits below chip w s h q i in
+      let job : g ≡ r.job = same_Some g r.job (sym e ∙ own_unit q r) in
+      let no = sym f ∙ ap (λ x. x.pending.sequence == q) job ∙ ap (λ n. n == q) r.of ∙ same_number q in
+      cc)))
 
   running : (r : Cancelled) (q n value : ℕ) → q < 8 → error_by d (asks q) (is_off s.mode) false ≡ None → IsOf d r q → is_pending q s.pending ≡ true → (b : Bool) → is_running s q ≡ b → CancelMakes q (cancel.Running r) (Load n) chip value (if b then cancel.Marks r else cancel.Store r, goes)
   running r q n value lt clear of there true e = (h, (q, (Is_this_frame, lt, clear, on), of, there, e))
@@ -392,10 +353,6 @@ module _ (d : SpiTable) (fits : FitsSpi d) where
 
   -- ---- the bodies
 
-  -- what is left after a step of the drop
-  left_by : Cancelled → Dropped → ℕ → Bool → Option PendingWrites
-  left_by r p v b = unless_done (cancel_drops r p v b).1.done (cancel_owed_at (cancel_drops r p v b).0)
-
   cancel_wins : AreWindows (cancel_windows d) (λ k. None)
   cancel_wins = record {
     makes = makes;
@@ -436,12 +393,7 @@ module _ (d : SpiTable) (fits : FitsSpi d) where
 
       stands_by : (r : Cancelled) (p : Dropped) (v : ℕ) (below : Reservations) (chip : Chip) (w : World) (s : SpiState) (o : Origin Call) (t : FrameHistory) (m : ℕ → Bool) (b : Bool) → unless_done (cancel_drops r p v b).1.done (cancel_owed_at (cancel_drops r p v b).0) ≡ None → CancelledBy d (Some r) o t → SpiRepresents d below chip w s
           → Continues (spi_basis d) (cancel_bodies d) below chip w s o t m (cancel_drops r p v b).0 (cancel_drops r p v b).1.done
-      stands_by r p v below chip w s o t m true i (q, Is_this_frame, of) h = (h, record { may = (refl, refl); served = false; owed = noted r q of; shown = λ e. absurd (cc); report = refl_report r })
-        where
-          refl_report : (r : Cancelled) → None ≡ error_in (cancel_owed r)
-          refl_report r = whether_as r.notification (λ a. None ≡ error_in (if a then One (record { kind = SpiSeqEndNotification; id = r.sequence }) else Nothing))
-              (λ _. refl)
-              (λ _. refl)
+      stands_by r p v below chip w s o t m true i (q, Is_this_frame, of) h = (h, record { may = (refl, refl); served = false; owed = noted r q of; shown = λ e. absurd (cc); report = whether_as r.notification (λ a. None ≡ error_in (if a then One (record { kind = SpiSeqEndNotification; id = r.sequence }) else Nothing)) (λ _. refl) (λ _. refl) })
       stands_by r p v below chip w s o t m false i place h = absurd (cc)
 
       stands : (k : CancelBody) (x : PendingWrites) (v : ℕ) (below : Reservations) (chip : Chip) (w : World) (s : SpiState) (o : Origin Call) (t : FrameHistory) (m : ℕ → Bool) → cancel_owed_at k ≡ Some x → owed_left x v ≡ None → CancelledBy d (cancel_about x) o t → SpiRepresents d below chip w s
@@ -452,39 +404,26 @@ module _ (d : SpiTable) (fits : FitsSpi d) where
   cancel_own : (below : Reservations) (chip : Chip) (w : World) (s : SpiState) (k : CancelBody) (o : Origin Call) (t : FrameHistory) → cancel_owed_at k ≡ None → AssertedAt (spi_basis d) (cancel_bodies d) below chip w s k o t → is_shared (cancel_work k) || may d (cancel_work k) ≡ true
   cancel_own below chip w s (cancel.Result r) o t e (h, (q, (being, lt, clear, on), of)) = may_first d fits (sequence_word r.sequence) (omega arith) (let n = of.sequence in omega (arith, lt, n))
   cancel_own below chip w s (cancel.Running r) o t e (h, (q, (being, lt, clear, on), of, there)) = may_first d fits (running_word r.unit) (omega arith) (let n = of.unit in let few = unit_few d fits q in omega (arith, few, n))
-  cancel_own below chip w s (cancel.Marks r) o t e h = may_first d fits MARKS (omega arith) (omega arith)
-  cancel_own below chip w s (cancel.Mark v) o t e h = may_first d fits MARKS (omega arith) (omega arith)
   cancel_own below chip w s (cancel.Store r) o t e (h, (q, (being, lt, clear, on), of, there, runs)) = may_first d fits (sequence_word r.sequence) (omega arith) (let n = of.sequence in omega (arith, lt, n))
   cancel_own below chip w s (cancel.Drop r p) o t e h = absurd (cc)
+  cancel_own below chip w s _ o t e h = may_first d fits MARKS (omega arith) (omega arith)
 
-  cancel_turns : (k : CancelBody) (x : ℕ) → cancel_owed_at k ≡ None → TurnsTo (cancel_bodies d) 32 k (cancel_takes k x)
-  cancel_turns (cancel.Result r) x e = by (x == PENDING)
-    where
-      by : (b : Bool) → TurnsTo (cancel_bodies d) 32 (cancel.Result r) (if b then (cancel.Running r, goes) else (cancel.Result r, ends (Some Act) no_answer Nothing))
-      by true = (refl, omega arith)
-      by false = omega arith
-  cancel_turns (cancel.Running r) x e = by (is_running_sequence r.sequence (run_in x))
-    where
-      by : (b : Bool) → TurnsTo (cancel_bodies d) 32 (cancel.Running r) (if b then cancel.Marks r else cancel.Store r, goes)
-      by true = (refl, omega arith)
-      by false = (refl, omega arith)
-  cancel_turns (cancel.Mark v) x e = omega arith
-  cancel_turns (cancel.Drop r p) x e = absurd (cc)
-  cancel_turns _ x e = (refl, omega arith)
+  cancel_plain : (k : CancelBody) → cancel_owed_at k ≡ None → IsCalm (cancel_work k)
+  cancel_plain (cancel.Drop r p) e = absurd (cc)
+  cancel_plain _ e = (refl, refl, refl)
 
   cancel_short : (k : CancelBody) (x : ℕ) → cancel_owed_at k ≡ None → Shortens (cancel_bodies d).fuel k (cancel_takes k x)
-  cancel_short (cancel.Result r) x e = by (x == PENDING)
-    where
-      by : (b : Bool) → Shortens (cancel_bodies d).fuel (cancel.Result r) (if b then (cancel.Running r, goes) else (cancel.Result r, ends (Some Act) no_answer Nothing))
-      by true = omega arith
-      by false = omega arith
-  cancel_short (cancel.Running r) x e = by (is_running_sequence r.sequence (run_in x))
-    where
-      by : (b : Bool) → Shortens (cancel_bodies d).fuel (cancel.Running r) (if b then cancel.Marks r else cancel.Store r, goes)
-      by true = omega arith
-      by false = omega arith
+  cancel_short (cancel.Result r) x e =
+      elim (x == PENDING) as (λ b. Shortens (cancel_bodies d).fuel (cancel.Result r) (if b then (cancel.Running r, goes) else (cancel.Result r, ends (Some Act) no_answer Nothing)))
+      [ true ↦ omega arith | false ↦ omega arith ]
+  cancel_short (cancel.Running r) x e =
+      elim (is_running_sequence r.sequence (run_in x)) as (λ b. Shortens (cancel_bodies d).fuel (cancel.Running r) (if b then cancel.Marks r else cancel.Store r, goes))
+      [ true ↦ omega arith | false ↦ omega arith ]
   cancel_short (cancel.Drop r p) x e = absurd (cc)
   cancel_short _ x e = omega arith
+
+  cancel_turns : (k : CancelBody) (x : ℕ) → cancel_owed_at k ≡ None → TurnsTo (cancel_bodies d) 32 k (cancel_takes k x)
+  cancel_turns k x e = owed_turns d (cancel_windows d) (λ k. refl) k (cancel_takes k x) (cancel_plain k e).0 (cancel_short k x e)
 
   place_later : (w : World) (s : SpiState) (order : Order) (q : ℕ) (o : Origin Call) (t : FrameHistory) → IsCancel d (is_off s.mode) q o t → IsCancel d (is_off (moved d w s order).mode) q o t
   place_later w s order q o t h = subst (λ mode. IsCancel d (is_off mode) q o t) (sym (mode_later d w s order)) h
@@ -509,29 +448,10 @@ module _ (d : SpiTable) (fits : FitsSpi d) where
     turns = λ below chip w s k o t e h. cancel_turns k (value_of chip (cancel_work k)) e;
     steps = λ below chip w s k o y t m e come few h. cancel_steps below chip w s k o y t m e h;
     later = λ below chip w s order k o t e come shut h. cancel_later below chip w s order k o t e h;
-    calm = λ below chip w s k o t e h i. calm k e;
+    calm = λ below chip w s k o t e h i. ((cancel_plain k e).1, (cancel_plain k e).2);
     shortens = cancel_short;
-    cleans = cleans;
+    cleans = λ k x e. owed_cleans d (cancel_windows d) (λ k. refl) (cancel_work k) k (cancel_takes k x);
   }
-    where
-      calm : (k : CancelBody) → cancel_owed_at k ≡ None → (resets_chip (cancel_work k) ≡ false) × (begins_word (cancel_work k) ≡ false)
-      calm (cancel.Drop r p) e = absurd (cc)
-      calm _ e = (refl, refl)
-
-      cleans : (k : CancelBody) (x : ℕ) → cancel_owed_at k ≡ None → Cleans (cancel_bodies d).clean (cancel_work k) k (cancel_takes k x)
-      cleans (cancel.Result r) x e = by (x == PENDING)
-        where
-          by : (b : Bool) → Cleans (cancel_bodies d).clean (Load (sequence_word r.sequence)) (cancel.Result r) (if b then (cancel.Running r, goes) else (cancel.Result r, ends (Some Act) no_answer Nothing))
-          by true = λ f. absurd (cc)
-          by false = tt
-      cleans (cancel.Running r) x e = by (is_running_sequence r.sequence (run_in x))
-        where
-          by : (b : Bool) → Cleans (cancel_bodies d).clean (Load (running_word r.unit)) (cancel.Running r) (if b then cancel.Marks r else cancel.Store r, goes)
-          by true = λ f. absurd (cc)
-          by false = λ f. absurd (cc)
-      cleans (cancel.Mark v) x e = tt
-      cleans (cancel.Drop r p) x e = absurd (cc)
-      cleans _ x e = λ f. absurd (cc)
 
   pub cancel_right : AreLong (spi_basis d) (cancel_bodies d)
   cancel_right = windows_right (spi_bare d) (spi_owing d) same_chip (owed_right d) (cancel_windows d) (λ k. None) cancel_wins cancel_free

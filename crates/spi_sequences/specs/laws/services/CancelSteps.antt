@@ -1,25 +1,13 @@
 -- Spi_Cancel: its steps.
 -- Used by services.CancelRight, src/service/cancel.rt, PendingWrites, bookkeeping.PendingWritesBounds, services.AtOnce.
-use Rattle.std.specs.Prelude.{ℕ, ◌==◌, Bool, true, false, if◌then◌else◌, Option, Some, None, bit_or}
-use Rattle.mcal_base.specs.declared.moves.Event.TheVariants.{Act}
-use Rattle.mcal_base.specs.declared.moves.Move.{Move}
-use Rattle.mcal_base.specs.declared.moves.Move.TheVariants.{Load, Store}
-use Rattle.mcal_base.specs.declared.notice.NoticeKind.TheVariants.{SpiSeqEndNotification}
-use Rattle.run_model.specs.Machine.{no_answer}
-use Rattle.service_outline.specs.Done.{goes, acts, ends}
-use Rattle.service_outline.specs.declared.done.BodyTaken.{BodyTaken}
-use Rattle.service_outline.specs.declared.done.Epilogue.{Epilogue}
-use Rattle.service_outline.specs.declared.done.Epilogue.TheVariants.{Nothing, One}
-use Rattle.word_shapes.specs.PriorityQueue.{drop_move, drop_left, drop_gave}
-use Rattle.word_shapes.specs.declared.dropped.Dropped.{Dropped}
+use Rattle.std.specs.Prelude.{◌==◌, if◌then◌else◌}
+use Rattle.spi_sequences.specs.StepTerms
+use StepTerms.{Act, acts, bit_or, BodyTaken, Bool, CancelBody, CANCELLED, Cancelled, cancelled_bit, drop_gave}
+use StepTerms.{drop_left, drop_move, Dropped, ends, Epilogue, false, goes, has_ended, Load, MARKS, Move, no_answer}
+use StepTerms.{None, Nothing, One, Option, PENDING, run_in, Running, running_word, search_of, sequence_word, Some}
+use StepTerms.{SpiSeqEndNotification, Store, true, ℕ}
 use Rattle.word_shapes.specs.declared.dropped.Dropped.TheVariants as drops
-use Rattle.spi_jobs.specs.Parts.{has_ended}
-use Rattle.spi_sequences.specs.Words.{running_word, sequence_word, search_of, run_in, cancelled_bit}
-use Rattle.spi_sequences.specs.declared.service.cancel.CancelBody.{CancelBody}
 use Rattle.spi_sequences.specs.declared.service.cancel.CancelBody.TheVariants as cancel
-use Rattle.spi_sequences.specs.declared.service.cancel.Cancelled.{Cancelled}
-use Rattle.spi_sequences.specs.declared.words.Running.{Running}
-use Rattle.spi_sequences.specs.declared.words.TheConstants.{MARKS, PENDING, CANCELLED}
 
 abbrev pub cancel_work : CancelBody → Move
 cancel_work (cancel.Result r) = Load (sequence_word r.sequence)

@@ -1,6 +1,6 @@
 -- What stands of a module that is being initialised, and what the steps of Spi_Init change of it.
--- From words.SideWords, words.ListTests, words.WordsOfModule, service_outline: Words, words.Cases and 2 more.
--- Used by services.InitWords, services.InitClearing, services.InitActRight, bookkeeping.NextChosen and 1 more.
+-- From words.SideWords, words.Cases, words.WordsOfModule, service_outline: Words, hardware.SourceFilled and 2 more.
+-- Used by services.InitActRight, services.InitRight, bookkeeping.NextChosen, spi_starting: words.UnitWords.
 use Rattle.std.proofs.Common.{◌≡◌, ◌≢◌, ◌+◌, ◌*◌, ◌%◌, ◌/◌, ◌<◌, ◌==◌, ◌&&◌, [], ◌∷◌, ◌∙◌, ◌⊎◌, ◌++◌, if◌then◌else◌}
 use Rattle.spi_sequences.specs.Terms
 use Terms.{ap, arith, Banks, BanksAgree, Bool, Call, Called, carried_at, CarriesAgrees, Carrying, cases, Channel}
@@ -9,14 +9,15 @@ use Terms.{filling, fills, FitsSpi, flat_map-cons, Going, HoldsArrays, Init, inl
 use Terms.{is_sync_unit, IsSoundState, Keeps, length, LinesAgree, List, Memory, mode_word, None, not, Option, or_rest}
 use Terms.{own-control, own-word, Pins, placed_of, Preparing, put_held, PutRight, Putting, readied_by, readied_in}
 use Terms.{Received, refl, replicate, Reservation, Reservations, ReservedBy, run_at, run_carried, same_or_other, Sent}
-use Terms.{Side, Some, some_is, SOURCES, SpiRepresents, SpiState, SpiTable, stands-agree, stands-move, StandsIn}
-use Terms.{STATE, Store, stored_by, stored_in, stored_other, stored_same, subst, suc, sym, take_held, TakeRight}
-use Terms.{Taking, trio_of, TripleBuffer, true, unit_at, UnitAgrees, view, whether, WiredAs, word_of, World, zero, ℕ}
-use Rattle.spi_sequences.specs.laws.{words.SideWords.{mine, not_first, not_of_other, sides_apart, stands_by_store}}
-use Rattle.spi_sequences.specs.laws.{words.SideWords.{trio_fits}, hardware.SourceFilled.{own_low}}
-use Rattle.spi_sequences.specs.laws.{hardware.AfterReset.{none_in}, words.WordsOfModule.{has_channel, of_banks}}
-use Rattle.spi_sequences.specs.laws.{words.WordsOfModule.{own_banks}, words.WordsToState.{other_number, same_number}}
-use Rattle.spi_sequences.specs.laws.words.ListTests.{none_by}
+use Terms.{Side, Some, some_is, some_or_none, SOURCES, SpiRepresents, SpiState, SpiTable, stands-agree, stands-move}
+use Terms.{StandsIn, STATE, Store, stored_by, stored_in, stored_other, stored_same, subst, suc, sym, take_held}
+use Terms.{TakeRight, Taking, trio_of, TripleBuffer, true, unit_at, UnitAgrees, view, whether, WiredAs, word_of, World}
+use Terms.{zero, ℕ}
+use Rattle.spi_sequences.specs.laws.{hardware.SourceFilled.{own_low}, hardware.StableUnderHardware.{none_in}}
+use Rattle.spi_sequences.specs.laws.{words.JobPlaces.{none_by}, words.SideWords.{mine, not_first, not_of_other}}
+use Rattle.spi_sequences.specs.laws.words.SideWords.{sides_apart, stands_by_store, trio_fits}
+use Rattle.spi_sequences.specs.laws.words.WordsOfModule.{has_channel, of_banks, own_banks}
+use Rattle.spi_sequences.specs.laws.words.WordsToState.{other_number, same_number}
 use Rattle.word_shapes.specs.TripleBuffer as trio
 
 -- ---- what is held
@@ -96,17 +97,11 @@ no_run_carried (Some x) e = absurd (cc)
 -- the agreement says so
 module _ (d : SpiTable) (held : Reservations) (chip : Chip) (w : World) (s : SpiState) (h : SpiRepresents d held chip w s) (off : is_off s.mode ≡ true) where
   free : (u : ℕ) → u < 2 → h.going u ≡ None
-  free u lt = whether (is_sync_unit d u)
-      (λ sync. by_carried (h.going u) (h.sends u lt sync))
-      (λ async. by (h.going u) (h.units u lt async))
-    where
-      by : (g : Option Going) → UnitAgrees d (unit_at chip.serials u) (run_at s u) g → g ≡ None
-      by None a = refl
-      by (Some g) a = absurd (let e = sym (none_by (run_at s u) ((h.sound.off off).1 u)) ∙ a.1 in cc)
-
-      by_carried : (g : Option Going) → CarriesAgrees d (unit_at chip.serials u) (run_carried (carried_at s u)) g → g ≡ None
-      by_carried None a = refl
-      by_carried (Some g) a = absurd (let e = sym (no_run_carried (carried_at s u) (h.sound.carries.off off u)) ∙ a.1 in cc)
+  free u lt = some_or_none (h.going u)
+      (λ g e. absurd (whether (is_sync_unit d u)
+      (λ sync. let a = subst (λ o. CarriesAgrees d (unit_at chip.serials u) (run_carried (carried_at s u)) o) e (h.sends u lt sync) in let f = sym (no_run_carried (carried_at s u) (h.sound.carries.off off u)) ∙ a.1 in cc)
+      (λ async. let a = subst (λ o. UnitAgrees d (unit_at chip.serials u) (run_at s u) o) e (h.units u lt async) in let f = sym (none_by (run_at s u) ((h.sound.off off).1 u)) ∙ a.1 in cc)))
+      (λ e. e)
 
   word_free : (u : ℕ) → u < 2 → (unit_at chip.serials u).word ≡ None
   word_free u lt = whether (is_sync_unit d u)
@@ -237,17 +232,15 @@ module _ (d : SpiTable) (fits : FitsSpi d) (c : ℕ) (k : Channel) (known : chan
   elsewhere_by n k1 other e i (inl at) (inl is) = inl (at, is)
   elsewhere_by n k1 other e i (inl at) (inr ne) = inr (record {
     put = λ p. put_of_side c n side other p ne;
-    readied = λ rd is. later rd (in_cons (c, is_in side) rd (n, is_in other) is);
+    readied = λ rd is. cases (in_cons (c, is_in side) rd (n, is_in other) is)
+        (λ f. absurd (let g = ap (λ y. y.1) f ∙ ne in unlike (is_in side) g))
+        (λ is. is);
     apart = λ j own. subst (λ m. trio.own_of (trio_of (placed_of d m) other) j ≡ false) (sym at) (by side other ne j own);
   })
     where
-      later : (rd : List (ℕ × Bool)) → (◌≡◌ {A = ℕ × Bool} (c, is_in side) (n, is_in other)) ⊎ Contains rd (n, is_in other) → Contains rd (n, is_in other)
-      later rd (inl f) = absurd (let g : is_in side ≡ is_in other = ap (λ y. y.1) f in unlike (is_in side) (g ∙ ne))
-        where
-          unlike : (b : Bool) → b ≡ not b → ⊥
-          unlike true f = absurd (cc)
-          unlike false f = absurd (cc)
-      later rd (inr is) = is
+      unlike : (b : Bool) → b ≡ not b → ⊥
+      unlike true f = absurd (cc)
+      unlike false f = absurd (cc)
 
       by : (side other : Side) → is_in other ≡ not (is_in side) → (j : ℕ) → trio.own_of (trio_of (placed_of d c) side) j ≡ true → trio.own_of (trio_of (placed_of d c) other) j ≡ false
       by Sent Received f j own = sides_apart (placed_of d c) Received j own
@@ -267,6 +260,17 @@ module _ (d : SpiTable) (fits : FitsSpi d) (c : ℕ) (k : Channel) (known : chan
 -- ---- what the steps leave
 
 module _ (d : SpiTable) (fits : FitsSpi d) (st : List (ℕ × ℕ)) (rd : List (ℕ × Bool)) (x : Option (ℕ × Bool × Putting)) (chip : Chip) (w : World) (s : SpiState) (p : Prepared d st rd x chip w s) where
+  -- a side of other words than the one that is stored
+  pub side_stays : (j v : ℕ) (rd1 : List (ℕ × Bool)) (x1 : Option (ℕ × Bool × Putting)) (c : ℕ) (k : Channel) (side : Side) → trio.own_of (trio_of (placed_of d c) side) j ≡ false → (Contains rd1 (c, is_in side) → Contains rd (c, is_in side))
+      → put_at x1 c (is_in side) ≡ put_at x c (is_in side) → SidePrepared d (word_of chip) rd x c k side → SidePrepared d (word_of (chip_after chip (Store j v) 0)) rd1 x1 c k side
+  side_stays j v rd1 x1 c k side apart readied puts a = record {
+    banks = a.banks;
+    stands = stands-agree (trio_of (placed_of d c) side) (word_of chip) (word_of (chip_after chip (Store j v) 0)) a.banks (λ i is. sym (stored_other chip j v 0 i (λ e. let f = sym is ∙ ap (trio.own_of (trio_of (placed_of d c) side)) e ∙ apart in absurd (cc)))) a.stands;
+    readied = λ is. a.readied (readied is);
+    none = a.none;
+    put = a.put ∙ sym puts;
+  }
+
   -- a store of a driver word of the module
   module _ (j v : ℕ) (own : is_own_word d j ≡ true) (ne : j ≢ STATE) where
     abbrev after_store : Chip
@@ -298,21 +302,10 @@ module _ (d : SpiTable) (fits : FitsSpi d) (st : List (ℕ × ℕ)) (rd : List (
       lines = p.lines;
     }
 
-    -- a side of other words
-    side_stays : (rd1 : List (ℕ × Bool)) (x1 : Option (ℕ × Bool × Putting)) (c : ℕ) (k : Channel) (side : Side) → trio.own_of (trio_of (placed_of d c) side) j ≡ false → (Contains rd1 (c, is_in side) → Contains rd (c, is_in side))
-        → put_at x1 c (is_in side) ≡ put_at x c (is_in side) → SidePrepared d (word_of chip) rd x c k side → SidePrepared d (word_of after_store) rd1 x1 c k side
-    side_stays rd1 x1 c k side apart readied puts a = record {
-      banks = a.banks;
-      stands = stands-agree (trio_of (placed_of d c) side) (word_of chip) (word_of after_store) a.banks (λ i is. sym (other i (λ e. let f = sym is ∙ ap (trio.own_of (trio_of (placed_of d c) side)) e ∙ apart in absurd (cc)))) a.stands;
-      readied = λ is. a.readied (readied is);
-      none = a.none;
-      put = a.put ∙ sym puts;
-    }
-
   -- a word that is of no bank is cleared
   pub cleared : (j : ℕ) → is_own_word d j ≡ true → j ≢ STATE → ((c : ℕ) (k : Channel) → channel_of d c ≡ Some k → k.internal ≡ true → (side : Side) → trio.own_of (trio_of (placed_of d c) side) j ≡ false)
       → ((i n : ℕ) → Contains st (i, n) → n ≡ 0) → Prepared d ((j, 0) ∷ st) rd x (chip_after chip (Store j 0) 0) w s
-  cleared j own ne apart zeros = stored_prepared j 0 own ne ((j, 0) ∷ st) rd x (λ c k e internal side. side_stays j 0 own ne rd x c k side (apart c k e internal side) (λ is. is) refl (p.sides c k e internal side)) (λ i n is. cases (in_cons (j, 0) st (i, n) is)
+  cleared j own ne apart zeros = stored_prepared j 0 own ne ((j, 0) ∷ st) rd x (λ c k e internal side. side_stays j 0 rd x c k side (apart c k e internal side) (λ is. is) refl (p.sides c k e internal side)) (λ i n is. cases (in_cons (j, 0) st (i, n) is)
       (λ e. let a : j ≡ i = ap (λ y. y.0) e in let b : 0 ≡ n = ap (λ y. y.1) e in (subst (λ m. is_own_word d m ≡ true) a own, ap (word_of (chip_after chip (Store j 0) 0)) (sym a) ∙ here j 0 own ne ∙ b))
       (λ is. ((p.stored i n is).0, still i n is (same_or_other i j))))
     where
@@ -336,11 +329,14 @@ module _ (d : SpiTable) (fits : FitsSpi d) (c : ℕ) (k : Channel) (known : chan
       elim side as (λ side. (trio_of (placed_of d c) side).len ≡ k.length)
       [ Sent ↦ ap (λ x. x.length) (has_channel d fits c k known) | Received ↦ ap (λ x. x.length) (has_channel d fits c k known) ]
 
-  -- of the side itself
-  at_place : (m : Memory) (rd1 : List (ℕ × Bool)) (x1 : Option (ℕ × Bool × Putting)) (n : ℕ) (k1 : Channel) (other : Side) → channel_of d n ≡ Some k1 → n ≡ c → other ≡ side → SidePrepared d m rd1 x1 c k side → SidePrepared d m rd1 x1 n k1 other
-  at_place m rd1 x1 n k1 other e at is a =
+  -- the side itself, and those elsewhere
+  sides_by : (m : Memory) (rd1 : List (ℕ × Bool)) (x1 : Option (ℕ × Bool × Putting)) → SidePrepared d m rd1 x1 c k side → ((n : ℕ) (k1 : Channel) (other : Side) → channel_of d n ≡ Some k1 → k1.internal ≡ true → IsElsewhere d fits c k known internal side n other → SidePrepared d m rd1 x1 n k1 other)
+      → (n : ℕ) (k1 : Channel) → channel_of d n ≡ Some k1 → k1.internal ≡ true → (other : Side) → SidePrepared d m rd1 x1 n k1 other
+  sides_by m rd1 x1 mine others n k1 e i other = cases (elsewhere d fits c k known internal side n k1 other e i)
+      (λ (at, is).
       let same : k1 ≡ k = some_is k1 k (sym e ∙ ap (channel_of d) at ∙ known) in
-      subst (λ i. SidePrepared d m rd1 x1 i k1 other) (sym at) (subst (λ z. SidePrepared d m rd1 x1 c z other) (sym same) (subst (λ z. SidePrepared d m rd1 x1 c k z) (sym is) a))
+      subst (λ i. SidePrepared d m rd1 x1 i k1 other) (sym at) (subst (λ z. SidePrepared d m rd1 x1 c z other) (sym same) (subst (λ z. SidePrepared d m rd1 x1 c k z) (sym is) mine)))
+      (λ far. others n k1 other e i far)
 
   -- a bank is chosen
   pub chosen : Prepared d st rd None chip w s → (b : ℕ) → b ≡ trio.free (word_of chip at.control) → Prepared d st rd (filling_with b []) chip w s
@@ -352,7 +348,7 @@ module _ (d : SpiTable) (fits : FitsSpi d) (c : ℕ) (k : Channel) (known : chan
     off = p.off;
     units = p.units;
     state = p.state;
-    sides = λ n k1 e i other. by n k1 e i other (elsewhere d fits c k known internal side n k1 other e i);
+    sides = sides_by (word_of chip) rd (filling_with b []) (mine_now (p.sides c k known internal side)) (λ n k1 other e i far. let a = p.sides n k1 e i other in record { banks = a.banks; stands = a.stands; readied = a.readied; none = a.none; put = a.put ∙ sym (far.put (record { bank = b; filled = [] })) });
     stored = p.stored;
     arrays = p.arrays;
     lines = p.lines;
@@ -360,10 +356,6 @@ module _ (d : SpiTable) (fits : FitsSpi d) (c : ℕ) (k : Channel) (known : chan
     where
       mine_now : SidePrepared d (word_of chip) rd None c k side → SidePrepared d (word_of chip) rd (filling_with b []) c k side
       mine_now a = record { banks = choosing b a.banks; stands = subst (λ n. trio.Stands at (word_of chip) (choosing n a.banks)) (sym is) (chooses at (word_of chip) a.banks a.stands); readied = a.readied; none = a.none; put = sym (put_here c side (record { bank = b; filled = [] })) }
-
-      by : (n : ℕ) (k1 : Channel) → channel_of d n ≡ Some k1 → k1.internal ≡ true → (other : Side) → ((n ≡ c) × (other ≡ side)) ⊎ IsElsewhere d fits c k known internal side n other → SidePrepared d (word_of chip) rd (filling_with b []) n k1 other
-      by n k1 e i other (inl (same, one)) = at_place (word_of chip) rd (filling_with b []) n k1 other e same one (mine_now (p.sides c k known internal side))
-      by n k1 e i other (inr apart) = let a = p.sides n k1 e i other in record { banks = a.banks; stands = a.stands; readied = a.readied; none = a.none; put = a.put ∙ sym (apart.put (record { bank = b; filled = [] })) }
 
   module _ (b : ℕ) (xs : List ℕ) (p : Prepared d st rd (filling_with b xs) chip w s) where
     abbrev put_now : Putting
@@ -386,47 +378,38 @@ module _ (d : SpiTable) (fits : FitsSpi d) (c : ℕ) (k : Channel) (known : chan
 
     -- the next word is filled in
     pub filled_on : (v : ℕ) → length xs < k.length → ((i n : ℕ) → Contains st (i, n) → mine d fits c k known internal side i ≡ false) → Prepared d st rd (filling_with b (xs ++ v ∷ [])) (chip_after chip (Store (trio.word_at at b (length xs)) v) 0) w s
-    filled_on v lt apart = stored_prepared d fits st rd (filling_with b xs) chip w s p j v (own_banks d fits c k known internal side j own) (not_state j own) st rd (filling_with b (xs ++ v ∷ [])) (λ n k1 e i other. by n k1 e i other (elsewhere d fits c k known internal side n k1 other e i)) (still j v own apart)
-      where
-        j : ℕ
-        j = trio.word_at at b (length xs)
-
-        own : mine d fits c k known internal side j ≡ true
-        own = own-word at b (length xs) small (omega (arith, lt, width))
-
-        mine_now : SidePrepared d (word_of (chip_after chip (Store j v) 0)) rd (filling_with b (xs ++ v ∷ [])) c k side
-        mine_now = record {
+    filled_on v lt apart =
+        let j : ℕ = trio.word_at at b (length xs) in
+        let own : mine d fits c k known internal side j ≡ true = own-word at b (length xs) small (omega (arith, lt, width)) in
+        let of_module = own_banks d fits c k known internal side j own in
+        let p1 : Putting = record { bank = b; filled = xs ++ v ∷ [] } in
+        stored_prepared d fits st rd (filling_with b xs) chip w s p j v of_module (not_state j own) st rd (filling_with b (xs ++ v ∷ []))
+        (sides_by (word_of (chip_after chip (Store j v) 0)) rd (filling_with b (xs ++ v ∷ []))
+        (record {
           banks = filling v put_now mine_was.banks;
           stands = stands_by_store at chip j v (filling v put_now mine_was.banks) fit p.outside.all.words own (fills at (word_of chip) mine_was.banks put_now v fit (omega (arith, lt, width)) open_put mine_was.stands);
           readied = mine_was.readied;
           none = mine_was.none;
-          put = sym (put_here c side (record { bank = b; filled = xs ++ v ∷ [] }));
-        }
-
-        by : (n : ℕ) (k1 : Channel) → channel_of d n ≡ Some k1 → k1.internal ≡ true → (other : Side) → ((n ≡ c) × (other ≡ side)) ⊎ IsElsewhere d fits c k known internal side n other → SidePrepared d (word_of (chip_after chip (Store j v) 0)) rd (filling_with b (xs ++ v ∷ [])) n k1 other
-        by n k1 e i other (inl (same, one)) = at_place _ rd (filling_with b (xs ++ v ∷ [])) n k1 other e same one mine_now
-        by n k1 e i other (inr far) = side_stays d fits st rd (filling_with b xs) chip w s p j v (own_banks d fits c k known internal side j own) (not_state j own) rd (filling_with b (xs ++ v ∷ [])) n k1 other (far.apart j own) (λ is. is) (far.put (record { bank = b; filled = xs ++ v ∷ [] }) ∙ sym (far.put put_now)) (p.sides n k1 e i other)
+          put = sym (put_here c side p1);
+        })
+        (λ n k1 other e i far. side_stays d fits st rd (filling_with b xs) chip w s p j v rd (filling_with b (xs ++ v ∷ [])) n k1 other (far.apart j own) (λ is. is) (far.put p1 ∙ sym (far.put put_now)) (p.sides n k1 e i other)))
+        (still j v own apart)
 
     -- the bank is the newest
     pub committed : xs ≡ replicate k.length (first_of k side) → length xs ≡ k.length → ((i n : ℕ) → Contains st (i, n) → mine d fits c k known internal side i ≡ false)
         → Prepared d st ((c, is_in side) ∷ rd) None (chip_after chip (Store at.control (b % 4 + 4 * (word_of chip at.control / 4))) 0) w s
-    committed is all apart = stored_prepared d fits st rd (filling_with b xs) chip w s p at.control v (own_banks d fits c k known internal side at.control own) (not_state at.control own) st ((c, is_in side) ∷ rd) None (λ n k1 e i other. by n k1 e i other (elsewhere d fits c k known internal side n k1 other e i)) (still at.control v own apart)
-      where
-        v : ℕ
-        v = b % 4 + 4 * (word_of chip at.control / 4)
-
-        own : mine d fits c k known internal side at.control ≡ true
-        own = own-control at
-
-        mine_now : SidePrepared d (word_of (chip_after chip (Store at.control v) 0)) ((c, is_in side) ∷ rd) None c k side
-        mine_now = record {
+    committed is all apart =
+        let v : ℕ = b % 4 + 4 * (word_of chip at.control / 4) in
+        let own : mine d fits c k known internal side at.control ≡ true = own-control at in
+        let of_module = own_banks d fits c k known internal side at.control own in
+        stored_prepared d fits st rd (filling_with b xs) chip w s p at.control v of_module (not_state at.control own) st ((c, is_in side) ∷ rd) None
+        (sides_by (word_of (chip_after chip (Store at.control v) 0)) ((c, is_in side) ∷ rd) None
+        (record {
           banks = committing put_now mine_was.banks;
           stands = stands_by_store at chip at.control v (committing put_now mine_was.banks) fit p.outside.all.words own (commits at (word_of chip) mine_was.banks put_now fit (all ∙ sym width) open_put mine_was.stands);
           readied = λ there. is;
           none = mine_was.none;
           put = refl;
-        }
-
-        by : (n : ℕ) (k1 : Channel) → channel_of d n ≡ Some k1 → k1.internal ≡ true → (other : Side) → ((n ≡ c) × (other ≡ side)) ⊎ IsElsewhere d fits c k known internal side n other → SidePrepared d (word_of (chip_after chip (Store at.control v) 0)) ((c, is_in side) ∷ rd) None n k1 other
-        by n k1 e i other (inl (same, one)) = at_place _ ((c, is_in side) ∷ rd) None n k1 other e same one mine_now
-        by n k1 e i other (inr far) = side_stays d fits st rd (filling_with b xs) chip w s p at.control v (own_banks d fits c k known internal side at.control own) (not_state at.control own) ((c, is_in side) ∷ rd) None n k1 other (far.apart at.control own) (far.readied rd) (sym (far.put put_now)) (p.sides n k1 e i other)
+        })
+        (λ n k1 other e i far. side_stays d fits st rd (filling_with b xs) chip w s p at.control v ((c, is_in side) ∷ rd) None n k1 other (far.apart at.control own) (far.readied rd) (sym (far.put put_now)) (p.sides n k1 e i other)))
+        (still at.control v own apart)

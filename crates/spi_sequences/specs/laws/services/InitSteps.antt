@@ -1,5 +1,5 @@
 -- Spi_Init: its steps.
--- Used by services.InitRight, services.InitWords, src/service/init.rt, services.AtOnce.
+-- Used by services.InitRight, src/service/init.rt, services.AtOnce.
 use Rattle.std.proofs.Common.{◌+◌, if◌then◌else◌}
 use Rattle.spi_sequences.specs.Terms
 use Terms.{Act, bank_word, BodyTaken, Bool, Channel, channel_of, control_word, ends, false, free_bank, goes, has_ended}

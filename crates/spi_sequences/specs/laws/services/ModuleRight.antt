@@ -1,42 +1,40 @@
 -- Spi_DeInit, Spi_SetAsyncMode and Spi_GetStatus: that they are right.
--- From services.ModuleSteps, words.WordsOfModule, words.WordsToState, words.KeptWords, words.ListTests and 10 more.
--- Used by spi_driver: bookkeeping.Lawful, spi_driver: bookkeeping.UnpolledFrames.
-use Rattle.std.proofs.Common.{◌≡◌, ◌≢◌, ◌+◌, ◌-◌, ◌<◌, ◌≤◌, ◌==◌, ◌&&◌, ◌||◌, ◌^◌, [], ◌∷◌, ◌∙◌, ◌⊎◌, if◌then◌else◌}
+-- From words.SameWords, services.ModuleSteps, words.JobPlaces, services.QueryRight, words.WordsOfModule and 7 more.
+-- Used by spi_driver: bookkeeping.Lawful, spi_driver: bookkeeping.UnpolledFrames, spi_driver: services.UnitBegins.
+use Rattle.std.proofs.Common.{◌≡◌, ◌≢◌, ◌+◌, ◌-◌, ◌<◌, ◌≤◌, ◌==◌, ◌&&◌, ◌||◌, ◌^◌, [], ◌∷◌, ◌∙◌, if◌then◌else◌}
 use Rattle.spi_sequences.specs.Terms
-use Terms.{Act, acts_by, all_looked, all_of, and_parts, answers, ap, AreFree, AreLong, AreWindows, arith, AssertedAt}
-use Terms.{begins_word, BodyTaken, Bool, busy_answer, Call, Called, carried_at, CarriesAgrees, Carrying, Channel}
-use Terms.{channel_of, Chip, chip_after, Cleans, CommitsTo, Contains, Continues, EnableClear, EnableSet, ends, ENotOk}
+use Terms.{Act, acts_by, all_looked, all_of, and_false, and_parts, answers, ap, AreFree, AreLong, AreWindows, arith}
+use Terms.{AssertedAt, BodyTaken, Bool, busy_answer, Call, Called, carried_at, CarriesAgrees, cases, Channel}
+use Terms.{channel_of, Chip, chip_after, CommitsTo, Contains, Continues, EnableClear, EnableSet, ends, ENotOk}
 use Terms.{entry_carried, EOk, error_by, false, FitsSpi, FrameHistory, fresh_history, Get, get_or_default, goes}
-use Terms.{GoesFree, Going, happened, has_bit, has_bit-or, has_bit-without, held_word, idle, inl, inr, Interrupt}
-use Terms.{is_busy, is_interrupt, is_off, is_pending, is_shared, is_simple, is_some, is_sync_unit, Is_this_frame}
-use Terms.{IsSoundState, IsThisFrame, length, length_by, LINES, LinesAgree, List, list_any, Load, LongBodies}
-use Terms.{looked_at, may, missed_after, Mode, mode_of, mode_word, Modes, moved, named, nat_eq, nat_lt, None, not}
-use Terms.{Nothing, Off, Option, Order, Origin, owed_left, owed_move, Part, PENDING, Pending, PendingWrites, place_at}
-use Terms.{placed_of, PointAssertion, Polling, refl, Reg, Reservations, resets_chip, Right, run_at, run_carried}
-use Terms.{same_chip, same_Some, sequence_word, served_lines, SetAsyncMode, Shortens, slice_get, slice_index}
-use Terms.{slice_index_or, Some, some_or_none, source_word, spi_bare, spi_basis, spi_machine, spi_owing, SpiBusy}
-use Terms.{SpiIdle, SpiRepresents, SpiState, SpiTable, stands-move, StandsIn, STATE, state_word_after, status_by}
-use Terms.{Store, stored_other, stored_same, subst, suc, sym, true, TurnsTo, Under, UnitAgrees, unless_busy, value_of}
-use Terms.{View, view, whether, Whole, whole_owed, whole_takes, whole_work, WholeBody, Wholes, Windows, windows}
-use Terms.{windows_right, Within, word_of, Works, World, world_after, Write, ℕ}
-use Rattle.spi_sequences.specs.laws.bookkeeping.RefinementRight.{frame_may, frame_names}
+use Terms.{GoesFree, Going, happened, has_bit, has_bit-or, has_bit-without, held_word, idle, Interrupt, is_busy}
+use Terms.{is_interrupt, is_off, is_pending, is_shared, is_simple, is_some, is_sync_unit, Is_this_frame, IsSoundState}
+use Terms.{IsThisFrame, length, length_by, LINES, LinesAgree, List, list_any, Load, LongBodies, looked_at, may}
+use Terms.{missed_after, Mode, mode_of, mode_word, Modes, moved, named, nat_eq, nat_lt, None, not, Nothing, Off, Option}
+use Terms.{Order, Origin, owed_left, owed_move, Part, PENDING, Pending, PendingWrites, place_at, placed_of}
+use Terms.{PointAssertion, Polling, refl, Reg, Reservations, Right, run_at, run_carried, same_chip, same_Some}
+use Terms.{sequence_word, served_lines, SetAsyncMode, Shortens, slice_get, slice_index, slice_index_or, Some}
+use Terms.{some_or_none, source_word, spi_bare, spi_basis, spi_machine, spi_owing, SpiBusy, SpiIdle, SpiRepresents}
+use Terms.{SpiState, SpiTable, stands-move, StandsIn, STATE, state_word_after, status_by, Store, stored_other}
+use Terms.{stored_same, subst, suc, sym, true, TurnsTo, Under, UnitAgrees, unless_busy, value_of, View, view, whether}
+use Terms.{whether_as, Whole, whole_owed, whole_takes, whole_work, WholeBody, Wholes, Windows, windows, windows_right}
+use Terms.{Within, word_of, Works, World, world_after, Write, ℕ}
 use Rattle.spi_sequences.specs.declared.service.whole.Whole.TheVariants.{DeInit, Status}
-use Rattle.spi_sequences.specs.laws.words.SameWords.{sequences_alike, run_alike, banks_alike}
-use Rattle.spi_sequences.specs.laws.hardware.AfterReset.{by_two, none_in}
-use Rattle.spi_sequences.specs.laws.words.KeptWords.{banks_view, next_view, sequences_as, sound_as}
-use Rattle.spi_sequences.specs.laws.hardware.StableUnderHardware.{all_later, mode_later}
 use Rattle.spi_sequences.specs.laws.bookkeeping.PendingWritesBounds.{owed_right}
-use Rattle.spi_sequences.specs.laws.words.WordsOfModule.{past_the_first, of_held, of_set_up, of_banks, some_at}
-use Rattle.spi_sequences.specs.laws.services.QueryRight.{answers_now, may_first}
+use Rattle.spi_sequences.specs.laws.bookkeeping.RefinementRight.{frame_may, frame_names}
+use Rattle.spi_sequences.specs.laws.hardware.StableUnderHardware.{all_later, by_two, mode_later, none_in}
+use Rattle.spi_sequences.specs.laws.services.QueryRight.{answers_now, IsCalm, may_first, owed_cleans, owed_turns}
+use Rattle.spi_sequences.specs.laws.words.JobPlaces.{all_carried, all_cases, all_pending, last_below, nothing_in}
+use Rattle.spi_sequences.specs.laws.words.SameWords.{banks_alike, banks_view, next_view, run_alike, sequences_alike}
+use Rattle.spi_sequences.specs.{laws.words.SameWords.{sequences_as, sound_as}, laws.words.WordsOfModule.{of_banks}}
+use Rattle.spi_sequences.specs.laws.words.WordsOfModule.{of_held, of_set_up, past_the_first, some_at}
 use Rattle.spi_sequences.specs.laws.words.WordsToState.{entry_of, going_free, going_next, is_below, is_past, is_there}
 use Rattle.spi_sequences.specs.laws.words.WordsToState.{none_any, other_number, pending_word}
-use Rattle.spi_sequences.specs.laws.words.AllSequences.{all_carried, all_cases, all_pending}
-use Rattle.spi_sequences.specs.laws.words.ListTests.{last_below, nothing_in}
+use Rattle.mcal_base.specs.facts.Truths.{or_true}
 use Rattle.spi_machine.specs.declared.call.AsyncMode.TheVariants as modes
 use Rattle.spi_machine.specs.declared.call.Call.TheVariants as calls
 use Rattle.spi_machine.specs.declared.call.Query.TheVariants as queries
 use Rattle.spi_sequences.specs.declared.service.whole.WholeBody.TheVariants as whole
-use Rattle.mcal_base.specs.facts.Truths.{and_false, or_true}
 
 -- ---- a module in which a sequence is under way, and one in which none is
 
@@ -45,15 +43,13 @@ pending_some [] p (k, lt, e) = absurd (omega (arith, lt))
 pending_some (x ∷ xs) p there = ap not (other_number (suc (length xs)) 0 (λ e. omega (arith, e)))
 
 busy_some : (s : SpiState) (p : Pending) → Contains (all_of (view s)) p → is_busy s ≡ true
-busy_some s p there = by (all_cases (view s) p there)
-  where
-    some : (u : ℕ) (o : Option Carrying) → carried_at s u ≡ o → entry_carried o ≡ Some p → list_any is_some s.carried ≡ true
-    some u None i e = absurd (cc)
-    some u (Some x) i e = some_at is_some s.carried u refl (ap is_some i)
-
-    by : Contains s.pending p ⊎ ((u : ℕ) × ((view s).begun u ≡ Some p)) → is_busy s ≡ true
-    by (inl is) = ap (λ b. b || list_any is_some s.carried) (pending_some s.pending p is)
-    by (inr (u, e)) = ap (λ b. not (nat_eq (length s.pending) 0) || b) (some u (carried_at s u) refl e) ∙ or_true (not (nat_eq (length s.pending) 0))
+busy_some s p there = cases (all_cases (view s) p there)
+    (λ is. ap (λ b. b || list_any is_some s.carried) (pending_some s.pending p is))
+    (λ (u, e).
+    let some : list_any is_some s.carried ≡ true = some_or_none (carried_at s u)
+    (λ x i. some_at is_some s.carried u refl (ap is_some i))
+    (λ i. absurd (let f = sym (ap entry_carried i) ∙ e in cc)) in
+    ap (λ b. not (nat_eq (length s.pending) 0) || b) some ∙ or_true (not (nat_eq (length s.pending) 0)))
 
 none_pending : (v : View) → all_of v ≡ [] → v.pending ≡ []
 none_pending v none = nothing_in v.pending (λ p there. none_in p (subst (λ ps. Contains ps p) none (all_pending v p there)))
@@ -64,14 +60,11 @@ none_begun d v h none u = some_or_none (v.begun u)
     (λ e. e)
 
 busy_none : (d : SpiTable) (s : SpiState) → IsSoundState d (view s) → all_of (view s) ≡ [] → is_busy s ≡ false
-busy_none d s h none = ap (λ ps. not (nat_eq (length ps) 0) || list_any is_some s.carried) (none_pending (view s) none) ∙ none_any is_some s.carried (λ o there. by o there)
-  where
-    no_entry : (o : Option Carrying) → entry_carried o ≡ None → is_some o ≡ false
-    no_entry None e = refl
-    no_entry (Some x) e = absurd (cc)
-
-    by : (o : Option Carrying) → Contains s.carried o → is_some o ≡ false
-    by o (u, lt, at) = ap is_some (sym at ∙ get_or_default s.carried u o None lt) ∙ no_entry (carried_at s u) (none_begun d (view s) h none u)
+busy_none d s h none = ap (λ ps. not (nat_eq (length ps) 0) || list_any is_some s.carried) (none_pending (view s) none) ∙ none_any is_some s.carried (λ o (u, lt, at).
+    let free : is_some (carried_at s u) ≡ false = some_or_none (carried_at s u)
+    (λ x i. absurd (let f = sym (none_begun d (view s) h none u) ∙ ap entry_carried i in cc))
+    (λ i. ap is_some i) in
+    ap is_some (sym at ∙ get_or_default s.carried u o None lt) ∙ free)
 
 -- ---- another mode, while nothing is under way and nothing is held
 
@@ -237,10 +230,9 @@ module _ (d : SpiTable) (fits : FitsSpi d) where
     lines_now n bits u lt = enabled chip 2 n u ∙ ap (λ q. has_bit chip.control.enabled (26 + u) || q) (bits u lt) ∙ ap (λ q. q || not (is_sync_unit d u)) (h.lines u lt) ∙ absorbs (is_interrupt s.mode) (is_sync_unit d u)
       where
         absorbs : (a b : Bool) → (a && not b) || not b ≡ not b
-        absorbs true true = refl
         absorbs true false = refl
-        absorbs false true = refl
         absorbs false false = refl
+        absorbs _ _ = refl
 
     interrupt : (n : ℕ) (a b : Bool) → is_sync_unit d 0 ≡ a → is_sync_unit d 1 ≡ b → n ≡ (if a then 0 else 2 ^ 26) + (if b then 0 else 2 ^ 27) → Rest (Modes modes.Interrupt n)
     interrupt n true true e f is = subst (λ k. Rest (Modes modes.Interrupt k)) (sym is)
@@ -261,14 +253,8 @@ module _ (d : SpiTable) (fits : FitsSpi d) where
     -- the act
     stores : (x : Whole) (y : ℕ) (m : ℕ → Bool) → changes x → HasLines d x → error_by d (call_by x) (is_off s.mode) false ≡ None
         → Works (spi_basis d) (whole_bodies d) [] chip (chip_after chip (Store STATE (state_word_after x)) y) w s (Called (call_by x)) (Store STATE (state_word_after x)) false 0 y fresh_history m (whole.Lines x) (Some Act) None
-    stores DeInit y m c l clear = record { may = refl; stands = tt; state = record s { mode = Off }; told = answers (named EOk); begins = None; is = ap (λ e. Some (acts_by d s calls.DeInit e)) clear ∙ ap (λ b. Some (unless_busy b s (record s { mode = Off }))) idle_now; sends = tt; acts = tt; reset = refl; next = (owes_rest DeInit tt tt, (Is_this_frame, tt)) }
-      where
-        idle_now : is_busy s ≡ false
-        idle_now = busy_none d s h.sound none
-    stores (Modes a n) y m c l clear = record { may = refl; stands = tt; state = record s { mode = mode_of a }; told = answers (named EOk); begins = None; is = ap (λ e. Some (acts_by d s (SetAsyncMode a) e)) clear ∙ ap (λ b. Some (unless_busy b s (record s { mode = mode_of a }))) idle_now; sends = tt; acts = tt; reset = refl; next = (owes_rest (Modes a n) tt l, (Is_this_frame, tt)) }
-      where
-        idle_now : is_busy s ≡ false
-        idle_now = busy_none d s h.sound none
+    stores DeInit y m c l clear = record { may = refl; stands = tt; state = record s { mode = Off }; told = answers (named EOk); begins = None; is = ap (λ e. Some (acts_by d s calls.DeInit e)) clear ∙ ap (λ b. Some (unless_busy b s (record s { mode = Off }))) (busy_none d s h.sound none); sends = tt; acts = tt; reset = refl; next = (owes_rest DeInit tt tt, (Is_this_frame, tt)) }
+    stores (Modes a n) y m c l clear = record { may = refl; stands = tt; state = record s { mode = mode_of a }; told = answers (named EOk); begins = None; is = ap (λ e. Some (acts_by d s (SetAsyncMode a) e)) clear ∙ ap (λ b. Some (unless_busy b s (record s { mode = mode_of a }))) (busy_none d s h.sound none); sends = tt; acts = tt; reset = refl; next = (owes_rest (Modes a n) tt l, (Is_this_frame, tt)) }
     stores Status y m c l clear = absurd c
 
   -- a look at a sequence
@@ -290,9 +276,9 @@ module _ (d : SpiTable) (fits : FitsSpi d) where
 
     looks : (x : Whole) (n value q : ℕ) → error_by d (call_by x) (is_off s.mode) false ≡ None → IsAbove x below → HasLines d x → q < 8 → NoneBefore (all_of (view s)) q → (b : Bool) → is_pending q (all_of (view s)) ≡ b → LookMakes x n value (looked_at x q b)
     looks x n value q clear above l lt none true e = let p = entry_of d fits below chip w s h (all_of (view s)) q e in busy x n value q clear (busy_some s p.0 p.1)
-    looks x n value q clear above l lt none false e = whether (nat_lt q 7)
-        (λ f. subst (λ b. LookMakes x n value (if b then (whole.Look x (q + 1), goes) else all_looked x q)) (sym f) (h, ((Is_this_frame, clear, on, above, l), let less = is_below q 7 f in omega (arith, less), upto)))
-        (λ f. subst (λ b. LookMakes x n value (if b then (whole.Look x (q + 1), goes) else all_looked x q)) (sym f) (all_seen x n value q clear above l (all_gone (λ k less. upto k (let past = is_past q 7 f in omega (arith, past, less))))))
+    looks x n value q clear above l lt none false e = whether_as (nat_lt q 7) (λ b. LookMakes x n value (if b then (whole.Look x (q + 1), goes) else all_looked x q))
+        (λ f. (h, ((Is_this_frame, clear, on, above, l), let less = is_below q 7 f in omega (arith, less), upto)))
+        (λ f. all_seen x n value q clear above l (all_gone (λ k less. upto k (let past = is_past q 7 f in omega (arith, past, less)))))
       where
         upto : NoneBefore (all_of (view s)) (q + 1)
         upto k less = whether (nat_lt k q)
@@ -344,46 +330,36 @@ module _ (d : SpiTable) (fits : FitsSpi d) where
   whole_own below chip w s (whole.Store x) o t e h = may_first d fits STATE (omega arith) (omega arith)
   whole_own below chip w s (whole.Lines x) o t e h = absurd (cc)
 
-  looked_turns : (x : Whole) (q : ℕ) (b : Bool) → TurnsTo (whole_bodies d) 32 (whole.Look x q) (looked_at x q b)
-  looked_turns x q true = omega arith
-  looked_turns x q false = further_turns (nat_lt q 7) refl
-    where
-      further_turns : (b : Bool) → nat_lt q 7 ≡ b → TurnsTo (whole_bodies d) 32 (whole.Look x q) (if b then (whole.Look x (q + 1), goes) else all_looked x q)
-      further_turns true e = let lt : q < 7 = is_below q 7 e in (refl, omega (arith, lt))
-      further_turns false e =
-          elim x as (λ x. TurnsTo (whole_bodies d) 32 (whole.Look x q) (all_looked x q))
-          [ Status ↦ omega arith | _ ↦ (refl, omega arith) ]
-
   whole_free : AreFree (spi_basis d) (whole_bodies d) whole_owed (λ k. None)
   whole_free = record {
     own = λ below chip w s k o t e h. frame_may d o (whole_work k) (whole_own below chip w s k o t e h);
     turns = λ below chip w s k o t e h. turns k (value_of chip (whole_work k)) e;
     steps = λ below chip w s k o y t m e come few h. whole_steps below chip w s k o y t m e h;
     later = λ below chip w s order k o t e come shut h. later below chip w s order k o t e h;
-    calm = λ below chip w s k o t e h i. calm k e;
+    calm = λ below chip w s k o t e h i. ((plain k e).1, (plain k e).2);
     shortens = shortens;
-    cleans = cleans;
+    cleans = λ k x e. owed_cleans d (whole_windows d) (λ k. refl) (whole_work k) k (whole_takes k x);
   }
     where
-      turns : (k : WholeBody) (x : ℕ) → whole_owed k ≡ None → TurnsTo (whole_bodies d) 32 k (whole_takes k x)
-      turns (whole.Look x q) v e = looked_turns x q (v == PENDING)
-      turns (whole.Store x) v e = (refl, omega arith)
-      turns (whole.Lines x) v e = absurd (cc)
+      plain : (k : WholeBody) → whole_owed k ≡ None → IsCalm (whole_work k)
+      plain (whole.Lines x) e = absurd (cc)
+      plain _ e = (refl, refl, refl)
 
       shortens : (k : WholeBody) (x : ℕ) → whole_owed k ≡ None → Shortens (whole_bodies d).fuel k (whole_takes k x)
-      shortens (whole.Look x q) v e = looked_short x q (v == PENDING)
+      shortens (whole.Look x q) v e = looked_short (v == PENDING)
         where
-          looked_short : (x : Whole) (q : ℕ) (b : Bool) → Shortens (whole_bodies d).fuel (whole.Look x q) (looked_at x q b)
-          looked_short x q true = omega arith
-          looked_short x q false = further_short (nat_lt q 7) refl
-            where
-              further_short : (b : Bool) → nat_lt q 7 ≡ b → Shortens (whole_bodies d).fuel (whole.Look x q) (if b then (whole.Look x (q + 1), goes) else all_looked x q)
-              further_short true e = let lt : q < 7 = is_below q 7 e in omega (arith, lt)
-              further_short false e =
-                  elim x as (λ x. Shortens (whole_bodies d).fuel (whole.Look x q) (all_looked x q))
-                  [ DeInit ↦ omega arith | _ ↦ omega arith ]
+          looked_short : (b : Bool) → Shortens (whole_bodies d).fuel (whole.Look x q) (looked_at x q b)
+          looked_short true = omega arith
+          looked_short false = whether_as (nat_lt q 7) (λ b. Shortens (whole_bodies d).fuel (whole.Look x q) (if b then (whole.Look x (q + 1), goes) else all_looked x q))
+              (λ e. let lt : q < 7 = is_below q 7 e in omega (arith, lt))
+              (λ e.
+              elim x as (λ x. Shortens (whole_bodies d).fuel (whole.Look x q) (all_looked x q))
+              [ DeInit ↦ omega arith | _ ↦ omega arith ])
       shortens (whole.Store x) v e = omega arith
       shortens (whole.Lines x) v e = absurd (cc)
+
+      turns : (k : WholeBody) (x : ℕ) → whole_owed k ≡ None → TurnsTo (whole_bodies d) 32 k (whole_takes k x)
+      turns k x e = owed_turns d (whole_windows d) (λ k. refl) k (whole_takes k x) (plain k e).0 (shortens k x e)
 
       place_later : (w : World) (s : SpiState) (order : Order) (x : Whole) (below : Reservations) (o : Origin Call) (t : FrameHistory) → IsWhole d (is_off s.mode) x below o t → IsWhole d (is_off (moved d w s order).mode) x below o t
       place_later w s order x below o t h = subst (λ mode. IsWhole d (is_off mode) x below o t) (sym (mode_later d w s order)) h
@@ -392,25 +368,6 @@ module _ (d : SpiTable) (fits : FitsSpi d) where
       later below chip w s order (whole.Look x q) o t e (h, (asks, lt, none)) = (place_later w s order x below o t asks, lt, subst (λ ps. NoneBefore ps q) (sym (all_later d w s order)) none)
       later below chip w s order (whole.Store x) o t e (h, (asks, c, none)) = (place_later w s order x below o t asks, c, all_later d w s order ∙ none)
       later below chip w s order (whole.Lines x) o t e h = absurd (cc)
-
-      calm : (k : WholeBody) → whole_owed k ≡ None → (resets_chip (whole_work k) ≡ false) × (begins_word (whole_work k) ≡ false)
-      calm (whole.Lines x) e = absurd (cc)
-      calm _ e = (refl, refl)
-
-      cleans : (k : WholeBody) (x : ℕ) → whole_owed k ≡ None → Cleans (whole_bodies d).clean (whole_work k) k (whole_takes k x)
-      cleans (whole.Look x q) v e = looked_clean x q (v == PENDING)
-        where
-          looked_clean : (x : Whole) (q : ℕ) (b : Bool) → Cleans (whole_bodies d).clean (Load (sequence_word q)) (whole.Look x q) (looked_at x q b)
-          looked_clean x q true = tt
-          looked_clean x q false = further_clean (nat_lt q 7)
-            where
-              further_clean : (b : Bool) → Cleans (whole_bodies d).clean (Load (sequence_word q)) (whole.Look x q) (if b then (whole.Look x (q + 1), goes) else all_looked x q)
-              further_clean true = λ f. absurd (cc)
-              further_clean false =
-                  elim x as (λ x. Cleans (whole_bodies d).clean (Load (sequence_word q)) (whole.Look x q) (all_looked x q))
-                  [ Status ↦ tt | _ ↦ (λ f. absurd (cc)) ]
-      cleans (whole.Store x) v e = λ f. absurd (cc)
-      cleans (whole.Lines x) v e = absurd (cc)
 
   pub whole_right : AreLong (spi_basis d) (whole_bodies d)
   whole_right = windows_right (spi_bare d) (spi_owing d) same_chip (owed_right d) (whole_windows d) (λ k. None) whole_wins whole_free

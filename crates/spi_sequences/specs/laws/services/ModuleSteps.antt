@@ -1,23 +1,11 @@
 -- Spi_DeInit, Spi_SetAsyncMode and Spi_GetStatus: their steps.
 -- Used by services.ModuleRight, src/service/whole.rt, PendingWrites, services.AtOnce.
-use Rattle.std.specs.Prelude.{ℕ, ◌+◌, ◌==◌, nat_lt, Bool, true, false, if◌then◌else◌, None, Some}
-use Rattle.mcal_base.specs.declared.answer_name.AnswerName.{AnswerName}
-use Rattle.mcal_base.specs.declared.answer_name.AnswerName.TheVariants.{EOk, ENotOk, SpiIdle, SpiBusy}
-use Rattle.mcal_base.specs.declared.moves.Event.TheVariants.{Act}
-use Rattle.mcal_base.specs.declared.moves.Move.{Move}
-use Rattle.mcal_base.specs.declared.moves.Move.TheVariants.{Write, Load, Store}
-use Rattle.mcal_base.specs.declared.register.Reg.TheVariants.{EnableSet, EnableClear}
-use Rattle.run_model.specs.Machine.{named}
-use Rattle.service_outline.specs.Done.{goes, acts, ends}
-use Rattle.service_outline.specs.declared.done.BodyTaken.{BodyTaken}
-use Rattle.service_outline.specs.declared.done.Epilogue.TheVariants.{Nothing}
-use Rattle.spi_sequences.specs.Words.{sequence_word}
-use Rattle.spi_machine.specs.declared.call.AsyncMode.TheVariants.{Polling, Interrupt}
-use Rattle.spi_sequences.specs.declared.service.whole.Whole.{Whole}
-use Rattle.spi_sequences.specs.declared.service.whole.Whole.TheVariants.{DeInit, Mode, Status}
-use Rattle.spi_sequences.specs.declared.service.whole.WholeBody.{WholeBody}
+use Rattle.std.specs.Prelude.{◌+◌, ◌==◌, if◌then◌else◌}
+use Rattle.spi_sequences.specs.StepTerms
+use StepTerms.{Act, acts, AnswerName, BodyTaken, Bool, DeInit, EnableClear, EnableSet, ends, ENotOk, EOk, false, goes}
+use StepTerms.{Interrupt, LINES, Load, Mode, Move, named, nat_lt, None, Nothing, PENDING, Polling, sequence_word, Some}
+use StepTerms.{SpiBusy, SpiIdle, STATE, Status, Store, true, Whole, WholeBody, Write, ℕ}
 use Rattle.spi_sequences.specs.declared.service.whole.WholeBody.TheVariants as whole
-use Rattle.spi_sequences.specs.declared.words.TheConstants.{STATE, LINES, PENDING}
 
 -- the state word afterwards, what enables the lines or disables them, and the answer while a sequence is pending; no line
 -- is named where there is none to enable

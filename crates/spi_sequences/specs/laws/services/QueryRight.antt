@@ -1,38 +1,37 @@
 -- Spi_GetJobResult, Spi_GetSequenceResult and Spi_GetHWUnitStatus: that they are right.
--- From words.WordsToState, services.QuerySteps, words.ListTests, hardware.StableUnderHardware and 8 more.
--- Used by spi_driver: bookkeeping.Lawful, services.ModuleRight, spi_driver: bookkeeping.UnpolledFrames and 6 more.
-use Rattle.std.proofs.Common.{◌≡◌, ◌+◌, ◌-◌, ◌<◌, ◌≤◌, ◌==◌, ◌&&◌, ◌||◌, [], ◌++◌, ◌∙◌, ◌⊎◌, if◌then◌else◌}
+-- From words.WordsToState, words.JobPlaces, services.QuerySteps, hardware.StableUnderHardware, words.Cases and 5 more.
+-- Used by services.ModuleRight, spi_driver: bookkeeping.Lawful, services.CancelRight and 7 more.
+use Rattle.std.proofs.Common.{◌≡◌, ◌+◌, ◌-◌, ◌<◌, ◌≤◌, ◌==◌, ◌&&◌, ◌||◌, [], ◌++◌, ◌∙◌, if◌then◌else◌}
 use Rattle.spi_sequences.specs.Terms
-use Terms.{Act, acts_by, all_of, AnswerName, answers, ap, AreLong, arith, asks_no, AssertedAt, AsyncTransmit}
-use Terms.{begins_word, Bool, Call, Called, Cancel, cases, Chip, chip_after, Contains, Contains-append_cases, DeInit}
-use Terms.{entries_begun, error_by, false, FitsSpi, FrameHistory, fresh_history, Get, get_or_default, Going, has_job}
-use Terms.{HwUnitStatus, Init, inl, inr, is_left, is_of, is_off, is_on_unit, is_pending, is_reset_service, is_running}
-use Terms.{is_shared, is_sync_unit, Is_this_frame, IsEntry, IsThisFrame, Job, job_of, job_result, job_result_in}
-use Terms.{job_word, JobPlace, JobQuery, JobResult, jobs_list, jobs_of, length, List, list_any, Load, LongBodies}
-use Terms.{MainFunctionHandling, MakesTo, may, missed_after, moved, named, nat_le, nat_lt, nat_tests, never_clean}
-use Terms.{next_in, next_job, NEXTS, None, Nothing, Option, or_parts, Order, Origin, outcome, PENDING, Pending}
-use Terms.{place_in, PointAssertion, Query, query_answer, QueryBody, ReadIb, refl, Reservations, resets_chip, Right}
-use Terms.{run_in, running_word, RunsBy, RunsNext, sequence_result_in, sequence_word, SequenceResult, service_of}
-use Terms.{SetAsyncMode, SetupEb, shares_job, Shortens, ShortensTo, slice_index_or, Some, spi_basis, spi_machine}
-use Terms.{SpiBusy, SpiIdle, SpiJobPending, SpiJobQueued, SpiRepresents, SpiState, SpiTable, STATE, Status, subst}
-use Terms.{suc, sym, SyncTransmit, true, TurnsMask, TurnsTo, Under, value_of, view, whether, Within, word_of, Works}
-use Terms.{World, WriteIb, zero, ℕ}
+use Terms.{Act, acts_by, all_of, AnswerName, answers, ap, AreLong, arith, asks_no, AssertedAt, begins_word, BodyTaken}
+use Terms.{Bool, Call, Called, cases, Chip, chip_after, Cleans, Contains, Done, entries_begun, error_by, false, FitsSpi}
+use Terms.{FrameHistory, fresh_history, Get, get_or_default, Going, has_job, HwUnitStatus, is_closed, is_left, is_of}
+use Terms.{is_off, is_on_unit, is_pending, is_reset_service, is_running, is_shared, is_sync_unit, Is_this_frame}
+use Terms.{IsThisFrame, Job, job_of, job_result, job_result_in, job_word, JobPlace, JobQuery, JobResult, jobs_list}
+use Terms.{jobs_of, KeepsMask, length, List, list_any, Load, LongBodies, MakesTo, may, missed_after, Move, moved, named}
+use Terms.{nat_le, nat_lt, nat_tests, never_clean, next_in, next_job, NEXTS, None, Nothing, Option, option_as, or_parts}
+use Terms.{Order, Origin, outcome, PENDING, Pending, PendingWrites, place_in, PointAssertion, Query, query_answer}
+use Terms.{QueryBody, Read, refl, Reservations, resets_chip, Right, run_in, running_word, RunsBy, sequence_result_in}
+use Terms.{sequence_word, SequenceResult, service_of, SetupEb, shares_job, Shortens, ShortensTo, slice_index_or, Some}
+use Terms.{spi_bare, spi_basis, spi_machine, spi_owing, SpiBusy, SpiIdle, SpiJobPending, SpiJobQueued, SpiRepresents}
+use Terms.{SpiState, SpiTable, STATE, Store, subst, sym, SyncTransmit, true, TurnsMask, TurnsTo, Under, value_of, view}
+use Terms.{whether, whether_as, Windows, windows, Within, word_of, Works, World, Write, ℕ}
+use Rattle.mcal_base.specs.declared.moves.Event.{Event}
+use Rattle.service_outline.specs.DeferredWrites.{or_owed, spot_or}
 use Rattle.spi_sequences.specs.laws.bookkeeping.RefinementRight.{frame_may}
-use Rattle.spi_machine.specs.declared.call.Call.TheVariants.{Channel, Sequence}
-use Rattle.spi_sequences.specs.laws.hardware.StableUnderHardware.{begun_later, mode_later, pending_later}
-use Rattle.spi_sequences.specs.laws.hardware.StableUnderHardware.{running_later}
-use Rattle.spi_sequences.specs.laws.words.WordsOfModule.{in_list, own_first}
-use Rattle.spi_sequences.specs.laws.words.JobPlaces.{at_left, place_found, place_missing, one_place}
-use Rattle.spi_sequences.specs.laws.services.QuerySteps.{job_move, job_took, job_looked, by_place, after_look}
-use Rattle.spi_sequences.specs.laws.services.QuerySteps.{is_running_job, answers_by, query_work, query_takes}
-use Rattle.spi_sequences.specs.laws.words.ListTests.{any_in, any_some, last_below}
-use Rattle.spi_sequences.specs.laws.words.AllSequences.{all_carried, all_cases}
-use Rattle.spi_sequences.specs.laws.words.WordsToState.{is_below, is_number, is_past, is_there, entry_of}
-use Rattle.spi_sequences.specs.laws.words.WordsToState.{job_said, none_any, not_true, one_by_job, one_pending, one_unit}
+use Rattle.spi_sequences.specs.laws.hardware.StableUnderHardware.{begun_later, mode_later, pending_later, pointwise}
+use Rattle.spi_sequences.specs.laws.{hardware.StableUnderHardware.{running_later}, services.QuerySteps.{after_look}}
+use Rattle.spi_sequences.specs.laws.services.QuerySteps.{answers_by, by_place, is_running_job, job_looked, job_move}
+use Rattle.spi_sequences.specs.laws.services.QuerySteps.{job_took, query_takes, query_work}
+use Rattle.spi_sequences.specs.laws.{services.SetUpRight.{may_store}, words.JobPlaces.{all_carried, all_cases, any_in}}
+use Rattle.spi_sequences.specs.laws.words.JobPlaces.{any_some, at_left, last_below, one_place, place_found}
+use Rattle.spi_sequences.specs.laws.{words.JobPlaces.{place_missing}, words.WordsOfModule.{in_list, own_first}}
+use Rattle.spi_sequences.specs.laws.words.WordsToState.{carried_going, entry_of, going_asked, going_next, going_runs}
+use Rattle.spi_sequences.specs.laws.words.WordsToState.{is_below, is_number, is_past, is_there, job_said, next_says}
+use Rattle.spi_sequences.specs.laws.words.WordsToState.{none_any, not_true, one_by_job, one_pending, one_unit}
 use Rattle.spi_sequences.specs.laws.words.WordsToState.{pending_word, running_by, running_says, runs_on, same_number}
-use Rattle.spi_sequences.specs.laws.words.WordsToState.{carried_going, going_asked, going_next, going_runs, next_says}
 use Rattle.spi_sequences.specs.laws.words.WordsToState.{sequence_word_says, unit_word_says}
-use Rattle.spi_sequences.specs.laws.services.SetUpRight.{may_store}
+use Rattle.spi_machine.specs.declared.call.Call.TheVariants.{Channel, Sequence}
 use Rattle.spi_sequences.specs.declared.service.query.JobPlace.TheVariants as place
 use Rattle.spi_sequences.specs.declared.service.query.QueryBody.TheVariants as query
 
@@ -40,20 +39,10 @@ use Rattle.spi_sequences.specs.declared.service.query.QueryBody.TheVariants as q
 
 -- no call asks for a reset
 pub asks_none : (c : Call) → is_reset_service (service_of c) ≡ false
-asks_none Init = refl
-asks_none DeInit = refl
-asks_none (SetAsyncMode m) = refl
-asks_none MainFunctionHandling = refl
-asks_none (Channel c (WriteIb p)) = refl
-asks_none (Channel c ReadIb) = refl
 asks_none (Channel c (SetupEb p q n)) = refl
-asks_none (Sequence q AsyncTransmit) = refl
-asks_none (Sequence q Cancel) = refl
 asks_none (Sequence q SyncTransmit) = refl
-asks_none (Get Status) = refl
-asks_none (Get (JobResult j)) = refl
-asks_none (Get (SequenceResult q)) = refl
 asks_none (Get (HwUnitStatus u)) = refl
+asks_none _ = refl
 
 -- a query acts at a load with its answer
 pub answers_now : {Body : Type 0} (d : SpiTable) (b : LongBodies (spi_basis d) Body) (below : Reservations) (chip : Chip) (w : World) (s : SpiState) (x : Query) (n value y : ℕ) (m : ℕ → Bool) (clean : Bool) (k : Body) (name : AnswerName)
@@ -154,7 +143,13 @@ module _ (d : SpiTable) (fits : FitsSpi d) (below : Reservations) (chip : Chip) 
   runs_none : ((g : Going) → h.going k.unit ≡ Some g → next_job d g.pending ≡ j → ⊥) → RunsNone d under_way works j
   runs_none other p there e = not_true (works p.sequence) (λ f. whether (is_running s p.sequence)
       (λ i. let r = runs_on d fits below chip w s h p.sequence i in on_unit_of r.unit r.job r.few r.is r.of)
-      (λ i. begun_one (any_some (is_of p.sequence) carried (ap (λ b. b || list_any (is_of p.sequence) carried) (sym i) ∙ f))))
+      (λ i.
+      let (x, one, of) = any_some (is_of p.sequence) carried (ap (λ b. b || list_any (is_of p.sequence) carried) (sym i) ∙ f) in
+      cases (all_cases (record (view s) { pending = [] }) x one)
+      (λ none. let lt = none.1 in omega (arith, lt))
+      (λ (u, begun).
+      let c = carried_going d fits below chip w s h u x begun in
+      on_unit_of u c.0 (h.sound.carries.unit u x begun).0 c.1 (ap (λ z. z.sequence) c.2 ∙ is_number x.sequence p.sequence of))))
     where
       -- the sequence's job on a unit is it
       on_unit_of : (u : ℕ) (g : Going) → u < 2 → h.going u ≡ Some g → g.pending.sequence ≡ p.sequence → ⊥
@@ -165,44 +160,19 @@ module _ (d : SpiTable) (fits : FitsSpi d) (below : Reservations) (chip : Chip) 
           let unit : u ≡ k.unit = one_unit d u k.unit j (sym (ap (λ n. is_on_unit u (job_of d n)) job) ∙ next.2) on_unit in
           other g (ap h.going (sym unit) ∙ is) job
 
-      by_unit : (u : ℕ) (x : Pending) → (view s).begun u ≡ Some x → x.sequence ≡ p.sequence → ⊥
-      by_unit u x begun of =
-          let c = carried_going d fits below chip w s h u x begun in
-          on_unit_of u c.0 (h.sound.carries.unit u x begun).0 c.1 (ap (λ z. z.sequence) c.2 ∙ of)
-
-      entry : (u : ℕ) (o : Option Pending) → (view s).begun u ≡ o → (x : Pending) → Contains (entries_begun o) x → x.sequence ≡ p.sequence → ⊥
-      entry u None i x (n, lt, at) of = omega (arith, lt)
-      entry u (Some y) i x (zero, lt, at) of = by_unit u x (i ∙ ap (λ z. Some z) at) of
-      entry u (Some y) i x (suc n, lt, at) of = omega (arith, lt)
-
-      begun_one : (x : Pending) × Contains carried x × (is_of p.sequence x ≡ true) → ⊥
-      begun_one (x, is, of) = cases (Contains-append_cases (entries_begun ((view s).begun 0)) (entries_begun ((view s).begun 1)) x is)
-          (λ is. entry 0 ((view s).begun 0) refl x is (is_number x.sequence p.sequence of))
-          (λ is. entry 1 ((view s).begun 1) refl x is (is_number x.sequence p.sequence of))
-
   -- it waits at a place that is left
   queued : (p : Pending) (i : ℕ) → Contains under_way p → RunsNone d under_way works j → p.next ≤ i → i < length (jobs_of d p.sequence) → slice_index_or (jobs_of d p.sequence) i 0 ≡ j → job_result s.job_results j ≡ SpiJobQueued
-  queued p i there none le lt at = ap (job_result s.job_results) (sym at) ∙ result (all_cases (view s) p there)
+  queued p i there none le lt at = ap (job_result s.job_results) (sym at) ∙ cases (all_cases (view s) p there)
+      (λ is. h.sound.results.queued p i is le lt ∙ whether_as (i == p.next) (λ q. (if q && is_running s p.sequence then SpiJobPending else SpiJobQueued) ≡ SpiJobQueued)
+      (λ e. ap (λ b. if b then SpiJobPending else SpiJobQueued) (rests e).0)
+      (λ e. refl))
+      (λ (u, b). h.sound.carries.queued u p i b le lt ∙ whether_as (i == p.next) (λ q. (if q then SpiJobPending else SpiJobQueued) ≡ SpiJobQueued)
+      (λ e. absurd (let f = sym (rests e).1 ∙ any_in (is_of p.sequence) carried p (all_carried (record (view s) { pending = [] }) u p (h.sound.carries.unit u p b).0 b) (same_number p.sequence) in cc))
+      (λ e. refl))
     where
       -- a sequence whose next job it is doesn't run it
-      rests : (i == p.next) ≡ true → works p.sequence ≡ false
-      rests e = none p there (ap (λ n. slice_index_or (jobs_of d p.sequence) n 0) (sym (is_number i p.next e)) ∙ at)
-
-      by : (q : Bool) → (i == p.next) ≡ q → (if i == p.next && is_running s p.sequence then SpiJobPending else SpiJobQueued) ≡ SpiJobQueued
-      by true e = ap (λ b. if b && is_running s p.sequence then SpiJobPending else SpiJobQueued) e ∙ ap (λ b. if b then SpiJobPending else SpiJobQueued) (or_parts (is_running s p.sequence) (list_any (is_of p.sequence) carried) (rests e)).0
-      by false e = ap (λ b. if b && is_running s p.sequence then SpiJobPending else SpiJobQueued) e
-
-      -- and one that a unit carries out runs its next job
-      begun_in : (u : ℕ) → u < 2 → (view s).begun u ≡ Some p → list_any (is_of p.sequence) carried ≡ true
-      begun_in u few e = any_in (is_of p.sequence) carried p (all_carried (record (view s) { pending = [] }) u p few e) (same_number p.sequence)
-
-      by_begun : (u : ℕ) → (view s).begun u ≡ Some p → (q : Bool) → (i == p.next) ≡ q → (if i == p.next then SpiJobPending else SpiJobQueued) ≡ SpiJobQueued
-      by_begun u b true e = absurd (let f = sym (or_parts (is_running s p.sequence) (list_any (is_of p.sequence) carried) (rests e)).1 ∙ begun_in u (h.sound.carries.unit u p b).0 b in cc)
-      by_begun u b false e = ap (λ b. if b then SpiJobPending else SpiJobQueued) e
-
-      result : Contains s.pending p ⊎ ((u : ℕ) × ((view s).begun u ≡ Some p)) → job_result s.job_results (slice_index_or (jobs_of d p.sequence) i 0) ≡ SpiJobQueued
-      result (inl is) = h.sound.results.queued p i is le lt ∙ by (i == p.next) refl
-      result (inr (u, b)) = h.sound.carries.queued u p i b le lt ∙ by_begun u b (i == p.next) refl
+      rests : (i == p.next) ≡ true → (is_running s p.sequence ≡ false) × (list_any (is_of p.sequence) carried ≡ false)
+      rests e = or_parts (is_running s p.sequence) (list_any (is_of p.sequence) carried) (none p there (ap (λ n. slice_index_or (jobs_of d p.sequence) n 0) (sym (is_number i p.next e)) ∙ at))
 
   -- two that have it are one
   shares_it : (a b : Pending) → Contains (jobs_of d a.sequence) j → Contains (jobs_of d b.sequence) j → shares_job d a.sequence b.sequence ≡ true
@@ -216,15 +186,12 @@ module _ (d : SpiTable) (fits : FitsSpi d) (below : Reservations) (chip : Chip) 
 
   -- a sequence that has it no longer, and so no other one has it
   left_none : (p : Pending) (i : ℕ) → Contains under_way p → i < p.next → i < length (jobs_of d p.sequence) → slice_index_or (jobs_of d p.sequence) i 0 ≡ j → list_any (is_left d j) under_way ≡ false
-  left_none p i there past lt at = none_any (is_left d j) under_way (λ x also. not_true (is_left d j x) (λ e. not_left x also e))
-    where
-      not_left : (x : Pending) → Contains under_way x → is_left d j x ≡ true → ⊥
-      not_left x also e =
-          let same : x ≡ p = one_by_job d fits below chip w s h x p also there (shares_it x p (left_has x e) (has_it p.sequence i lt at)) (shares_it p x (has_it p.sequence i lt at) (left_has x e)) in
-          let l = at_left (jobs_of d p.sequence) p.next j (subst (λ z. is_left d j z ≡ true) same e) in
-          let one : l.place ≡ i = one_place d fits p.sequence l.place i l.within lt (l.is ∙ sym at) in
-          let from = l.from in
-          omega (arith, from, one, past)
+  left_none p i there past lt at = none_any (is_left d j) under_way (λ x also. not_true (is_left d j x) (λ e.
+      let same : x ≡ p = one_by_job d fits below chip w s h x p also there (shares_it x p (left_has x e) (has_it p.sequence i lt at)) (shares_it p x (has_it p.sequence i lt at) (left_has x e)) in
+      let l = at_left (jobs_of d p.sequence) p.next j (subst (λ z. is_left d j z ≡ true) same e) in
+      let one : l.place ≡ i = one_place d fits p.sequence l.place i l.within lt (l.is ∙ sym at) in
+      let from = l.from in
+      omega (arith, from, one, past)))
 
   module _ (r : JobQuery) (is : IsJobQuery d r j) (clear : error_by d (Get (JobResult j)) (is_off s.mode) false ≡ None) (y : ℕ) (m : ℕ → Bool) where
     -- what a step at a place has to make
@@ -243,35 +210,21 @@ module _ (d : SpiTable) (fits : FitsSpi d) (below : Reservations) (chip : Chip) 
     -- the unit's word
     runs_by : (n value : ℕ) (g : Option Going) → h.going k.unit ≡ g → JobMakes n value (if is_running_job r.job (running_by d g) then (place.Running, Some SpiJobPending) else (place.Look 0, None))
     runs_by n value None e = goes_to n value (place.Look 0) (omega arith, runs_none (λ g f i. let c = sym e ∙ f in cc), λ p there lt. absurd (omega (arith, lt)))
-    runs_by n value (Some g) e = makes_by_job (next_job d g.pending == r.job) refl
-      where
-        few : k.unit < 2
-        few = (fits.jobs j k known).unit
-
-        next : RunsNext d (view s) k.unit (Some g)
-        next = going_next d fits below chip w s h k.unit g few e
-
-        makes_by_job : (q : Bool) → (next_job d g.pending == r.job) ≡ q → JobMakes n value (if next_job d g.pending == r.job then (place.Running, Some SpiJobPending) else (place.Look 0, None))
-        makes_by_job true f = subst (λ b. JobMakes n value (if b then (place.Running, Some SpiJobPending) else (place.Look 0, None))) (sym f) (tells n value place.Running SpiJobPending (sym runs))
-          where
-            job : next_job d g.pending ≡ j
-            job = is_number (next_job d g.pending) r.job f ∙ is.number
-
-            entry : IsEntry d (view s) g.pending
-            entry = h.sound.entries g.pending next.0
-
-            result : (q : Bool) → is_sync_unit d k.unit ≡ q → job_result s.job_results (next_job d g.pending) ≡ SpiJobPending
-            result true sync =
-                h.sound.carries.queued k.unit g.pending g.pending.next (subst (λ q. RunsBy q (view s) k.unit g.pending) sync next.1) (omega arith) entry.next
-                ∙ ap (λ b. if b then SpiJobPending else SpiJobQueued) (same_number g.pending.next)
-            result false async =
-                h.sound.results.queued g.pending g.pending.next (going_asked d fits below chip w s h k.unit g few async e).0 (omega arith) entry.next
-                ∙ ap (λ b. if b && is_running s g.pending.sequence then SpiJobPending else SpiJobQueued) (same_number g.pending.next)
-                ∙ ap (λ b. if b then SpiJobPending else SpiJobQueued) (going_runs d fits below chip w s h k.unit g few async e)
-
-            runs : job_result s.job_results j ≡ SpiJobPending
-            runs = ap (job_result s.job_results) (sym job) ∙ result (is_sync_unit d k.unit) refl
-        makes_by_job false f = subst (λ b. JobMakes n value (if b then (place.Running, Some SpiJobPending) else (place.Look 0, None))) (sym f) (goes_to n value (place.Look 0) (
+    runs_by n value (Some g) e =
+        let few = (fits.jobs j k known).unit in
+        let next = going_next d fits below chip w s h k.unit g few e in
+        let entry = h.sound.entries g.pending next.0 in
+        let runs : job_result s.job_results (next_job d g.pending) ≡ SpiJobPending = whether (is_sync_unit d k.unit)
+        (λ sync.
+        h.sound.carries.queued k.unit g.pending g.pending.next (subst (λ q. RunsBy q (view s) k.unit g.pending) sync next.1) (omega arith) entry.next
+        ∙ ap (λ b. if b then SpiJobPending else SpiJobQueued) (same_number g.pending.next))
+        (λ async.
+        h.sound.results.queued g.pending g.pending.next (going_asked d fits below chip w s h k.unit g few async e).0 (omega arith) entry.next
+        ∙ ap (λ b. if b && is_running s g.pending.sequence then SpiJobPending else SpiJobQueued) (same_number g.pending.next)
+        ∙ ap (λ b. if b then SpiJobPending else SpiJobQueued) (going_runs d fits below chip w s h k.unit g few async e)) in
+        whether_as (next_job d g.pending == r.job) (λ b. JobMakes n value (if b then (place.Running, Some SpiJobPending) else (place.Look 0, None)))
+        (λ f. tells n value place.Running SpiJobPending (sym (ap (job_result s.job_results) (sym (is_number (next_job d g.pending) r.job f ∙ is.number)) ∙ runs)))
+        (λ f. goes_to n value (place.Look 0) (
           omega arith,
           runs_none (λ g1 i same. let one : g ≡ g1 = let c = sym e ∙ i in cc in let job : next_job d g.pending ≡ r.job = ap (λ x. next_job d x.pending) one ∙ same ∙ sym is.number in let no = sym f ∙ ap (λ n. n == r.job) job ∙ same_number r.job in cc),
           λ p there lt. absurd (omega (arith, lt)),
@@ -279,9 +232,9 @@ module _ (d : SpiTable) (fits : FitsSpi d) (below : Reservations) (chip : Chip) 
 
     -- the place after a look at a sequence that doesn't have it left
     looks_on : (n value q : ℕ) → q < 8 → RunsNone d under_way works j → LeftNone d under_way j q → ((p : Pending) → Contains under_way p → p.sequence ≡ q → is_left d j p ≡ false) → JobMakes n value (after_look q, None)
-    looks_on n value q lt none left this = whether (nat_lt q 7)
-        (λ f. subst (λ b. JobMakes n value (if b then place.Look (q + 1) else place.Result, None)) (sym f) (goes_to n value (place.Look (q + 1)) (let less = is_below q 7 f in omega (arith, less), none, upto)))
-        (λ f. subst (λ b. JobMakes n value (if b then place.Look (q + 1) else place.Result, None)) (sym f) (goes_to n value place.Result (none_any (is_left d j) under_way (λ p there. upto p there (let few = (h.sound.entries p there).number in let past = is_past q 7 f in omega (arith, few, past, lt))))))
+    looks_on n value q lt none left this = whether_as (nat_lt q 7) (λ b. JobMakes n value (if b then place.Look (q + 1) else place.Result, None))
+        (λ f. goes_to n value (place.Look (q + 1)) (let less = is_below q 7 f in omega (arith, less), none, upto))
+        (λ f. goes_to n value place.Result (none_any (is_left d j) under_way (λ p there. upto p there (let few = (h.sound.entries p there).number in let past = is_past q 7 f in omega (arith, few, past, lt)))))
       where
         upto : LeftNone d under_way j (q + 1)
         upto p there less = whether (nat_lt p.sequence q)
@@ -290,23 +243,21 @@ module _ (d : SpiTable) (fits : FitsSpi d) (below : Reservations) (chip : Chip) 
 
     looks : (n value q : ℕ) → q < 8 → RunsNone d under_way works j → LeftNone d under_way j q → (b : Bool) → is_pending q under_way ≡ b → JobMakes n value (job_looked r q b, None)
     looks n value q lt none left false e = looks_on n value q lt none left (λ p there same. absurd (let g = subst (λ k. is_pending k under_way ≡ true) same (is_there d fits below chip w s h under_way p there) in let c = sym e ∙ g in cc))
-    looks n value q lt none left true e = by (place_in (jobs_list r.table q) r.job) refl (entry_of d fits below chip w s h under_way q e)
-      where
-        same_place : place_in (jobs_list r.table q) r.job ≡ place_in (jobs_list d q) j
-        same_place = ap (λ x. place_in (jobs_list x q) r.job) is.table ∙ ap (λ n. place_in (jobs_list d q) n) is.number
-
-        by : (o : Option ℕ) → place_in (jobs_list r.table q) r.job ≡ o → (p : Pending) × Contains under_way p × (p.sequence ≡ q) → JobMakes n value (by_place q (place_in (jobs_list r.table q) r.job), None)
-        by None f (p, there, of) = subst (λ o. JobMakes n value (by_place q o, None)) (sym f) (looks_on n value q lt none left (λ x also same. not_true (is_left d j x) (λ l. let a = at_left (jobs_of d x.sequence) x.next j l in place_missing d fits q j a.place (sym same_place ∙ f) (subst (λ i. a.place < length (jobs_of d i)) same a.within) (subst (λ i. slice_index_or (jobs_of d i) a.place 0 ≡ j) same a.is))))
-        by (Some i) f (p, there, of) = let found = place_found d fits q j i (sym same_place ∙ f) in subst (λ o. JobMakes n value (by_place q o, None)) (sym f) (goes_to n value (place.Next q i) (lt, none, (p, there, of, found.0, found.1)))
+    looks n value q lt none left true e =
+        let (p, there, of) = entry_of d fits below chip w s h under_way q e in
+        let same_place = ap (λ x. place_in (jobs_list x q) r.job) is.table ∙ ap (λ n. place_in (jobs_list d q) n) is.number in
+        option_as (place_in (jobs_list r.table q) r.job) (λ o. JobMakes n value (by_place q o, None))
+        (λ f. looks_on n value q lt none left (λ x also same. not_true (is_left d j x) (λ l. let a = at_left (jobs_of d x.sequence) x.next j l in place_missing d fits q j a.place (sym same_place ∙ f) (subst (λ i. a.place < length (jobs_of d i)) same a.within) (subst (λ i. slice_index_or (jobs_of d i) a.place 0 ≡ j) same a.is))))
+        (λ i f. let found = place_found d fits q j i (sym same_place ∙ f) in goes_to n value (place.Next q i) (lt, none, (p, there, of, found.0, found.1)))
 
     nexts : (n value q i v : ℕ) → RunsNone d under_way works j → (p : Pending) → Contains under_way p → p.sequence ≡ q → i < length (jobs_of d q) → slice_index_or (jobs_of d q) i 0 ≡ j → v ≡ p.next
         → JobMakes n value (if nat_le v i then (place.Next q i, Some SpiJobQueued) else (place.Result, None))
     nexts n value q i v none p there of lt at e =
         let within : i < length (jobs_of d p.sequence) = subst (λ k. i < length (jobs_of d k)) (sym of) lt in
         let is_at : slice_index_or (jobs_of d p.sequence) i 0 ≡ j = subst (λ k. slice_index_or (jobs_of d k) i 0 ≡ j) (sym of) at in
-        whether (nat_le v i)
-        (λ f. subst (λ b. JobMakes n value (if b then (place.Next q i, Some SpiJobQueued) else (place.Result, None))) (sym f) (tells n value (place.Next q i) SpiJobQueued (sym (queued p i there none (let l = le v i f in omega (arith, l, e)) within is_at))))
-        (λ f. subst (λ b. JobMakes n value (if b then (place.Next q i, Some SpiJobQueued) else (place.Result, None))) (sym f) (goes_to n value place.Result (left_none p i there (let l = gt v i f in omega (arith, l, e)) within is_at)))
+        whether_as (nat_le v i) (λ b. JobMakes n value (if b then (place.Next q i, Some SpiJobQueued) else (place.Result, None)))
+        (λ f. tells n value (place.Next q i) SpiJobQueued (sym (queued p i there none (let l = le v i f in omega (arith, l, e)) within is_at)))
+        (λ f. goes_to n value place.Result (left_none p i there (let l = gt v i f in omega (arith, l, e)) within is_at))
       where
         le : (a b : ℕ) → nat_le a b ≡ true → a ≤ b
         le a b f = grind (arith, nat_tests)
@@ -314,44 +265,29 @@ module _ (d : SpiTable) (fits : FitsSpi d) (below : Reservations) (chip : Chip) 
         gt : (a b : ℕ) → nat_le a b ≡ false → b < a
         gt a b f = grind (arith, nat_tests)
 
-    job_steps : (p : JobPlace) → JobAt d under_way works j p → (n value : ℕ) → job_move r p ≡ Load n → value ≡ word_of chip n → JobMakes n value (job_took r p value)
-    job_steps place.Running at n value move is_value = by (h.going k.unit) refl
-      where
-        word : n ≡ running_word k.unit
-        word = let same : Load (running_word r.unit) ≡ Load n = move in let one : running_word r.unit ≡ n = cc in sym one ∙ ap running_word unit_is
-
-        says : (g : Option Going) → h.going k.unit ≡ g → run_in value ≡ running_by d g
-        says g e = ap run_in (is_value ∙ ap (word_of chip) word) ∙ running_says d fits below chip w s h on k.unit ((fits.jobs j k known).unit) g e
-
-        by : (g : Option Going) → h.going k.unit ≡ g → JobMakes n value (if is_running_job r.job (run_in value) then (place.Running, Some SpiJobPending) else (place.Look 0, None))
-        by g e = subst (λ o. JobMakes n value (if is_running_job r.job o then (place.Running, Some SpiJobPending) else (place.Look 0, None))) (sym (says g e)) (runs_by n value g e)
-    job_steps (place.Look q) (lt, none, left) n value move is_value =
-        let one : sequence_word q ≡ n = cc in
-        subst (λ b. JobMakes n value (job_looked r q b, None)) (sym (ap (λ v. v == PENDING) (is_value ∙ ap (word_of chip) (sym one)) ∙ pending_word d fits below chip w s h on q lt)) (looks n value q lt none left (is_pending q under_way) refl)
-    job_steps (place.Next q i) (lt, none, (p, there, of, few, at)) n value move is_value =
-        let one : NEXTS ≡ n = cc in
-        nexts n value q i (next_in value q) none p there of few at (ap (λ k. next_in value k) (sym of) ∙ ap (λ v. next_in v p.sequence) (is_value ∙ ap (word_of chip) (sym one)) ∙ next_says d fits below chip w s h on p there)
-    job_steps place.Result none n value move is_value =
-        let one : job_word r.job ≡ n = cc in
-        tells n value place.Result (job_result_in value) (ap job_result_in (is_value ∙ ap (word_of chip) (sym one ∙ ap job_word is.number) ∙ (h.words.on on).sequences.jobs j small none) ∙ job_said (job_result s.job_results j) (h.sound.results.last j none))
-
     -- a step by the place
     job_right : (p : JobPlace) → JobAt d under_way works j p → MakesTo (spi_basis d) (query_bodies d) below chip (chip_after chip (job_move r p) y) w s (Called (Get (JobResult j))) (job_move r p) false (value_of chip (job_move r p)) y fresh_history m
         (query.Job (record r { place = (job_took r p (value_of chip (job_move r p))).0 }), answers_by (job_took r p (value_of chip (job_move r p))).1)
-    job_right place.Running at = job_steps place.Running at (running_word r.unit) (word_of chip (running_word r.unit)) refl refl
-    job_right (place.Look q) at = job_steps (place.Look q) at (sequence_word q) (word_of chip (sequence_word q)) refl refl
-    job_right (place.Next q i) at = job_steps (place.Next q i) at NEXTS (word_of chip NEXTS) refl refl
-    job_right place.Result at = job_steps place.Result at (job_word r.job) (word_of chip (job_word r.job)) refl refl
+    job_right place.Running at =
+        subst (λ o. JobMakes (running_word r.unit) (word_of chip (running_word r.unit)) (if is_running_job r.job o then (place.Running, Some SpiJobPending) else (place.Look 0, None)))
+        (sym (ap (λ u. run_in (word_of chip (running_word u))) unit_is ∙ running_says d fits below chip w s h on k.unit (fits.jobs j k known).unit (h.going k.unit) refl))
+        (runs_by (running_word r.unit) (word_of chip (running_word r.unit)) (h.going k.unit) refl)
+    job_right (place.Look q) (lt, none, left) =
+        subst (λ b. JobMakes (sequence_word q) (word_of chip (sequence_word q)) (job_looked r q b, None)) (sym (pending_word d fits below chip w s h on q lt))
+        (looks (sequence_word q) (word_of chip (sequence_word q)) q lt none left (is_pending q under_way) refl)
+    job_right (place.Next q i) (lt, none, (p, there, of, few, at)) =
+        nexts NEXTS (word_of chip NEXTS) q i (next_in (word_of chip NEXTS) q) none p there of few at (ap (λ k. next_in (word_of chip NEXTS) k) (sym of) ∙ next_says d fits below chip w s h on p there)
+    job_right place.Result none =
+        tells (job_word r.job) (word_of chip (job_word r.job)) place.Result (job_result_in (word_of chip (job_word r.job)))
+        (ap (λ n. job_result_in (word_of chip (job_word n))) is.number ∙ ap job_result_in ((h.words.on on).sequences.jobs j small none) ∙ job_said (job_result s.job_results j) (h.sound.results.last j none))
 
 -- ---- the bodies
 
 -- each step leaves fewer
 job_less : (r : JobQuery) (p : JobPlace) (x : ℕ) → ShortensTo (job_fuel p) (job_fuel (job_took r p x).0) (answers_by (job_took r p x).1).done
-job_less r place.Running x = by (is_running_job r.job (run_in x))
-  where
-    by : (q : Bool) → let t : JobPlace × Option AnswerName = if q then (place.Running, Some SpiJobPending) else (place.Look 0, None) in ShortensTo 12 (job_fuel t.0) (answers_by t.1).done
-    by true = omega arith
-    by false = omega arith
+job_less r place.Running x =
+    elim (is_running_job r.job (run_in x)) as (λ q. let t : JobPlace × Option AnswerName = if q then (place.Running, Some SpiJobPending) else (place.Look 0, None) in ShortensTo 12 (job_fuel t.0) (answers_by t.1).done)
+    [ true ↦ omega arith | false ↦ omega arith ]
 job_less r (place.Look q) x = looked_less (x == PENDING)
   where
     after : (b : Bool) → nat_lt q 7 ≡ b → job_fuel (if b then place.Look (q + 1) else place.Result) < 3 + (8 - q)
@@ -363,39 +299,63 @@ job_less r (place.Look q) x = looked_less (x == PENDING)
         elim (place_in (jobs_list r.table q) r.job) as (λ o. job_fuel (by_place q o) < 3 + (8 - q))
         [ None ↦ after (nat_lt q 7) refl | Some i ↦ omega arith ]
     looked_less false = after (nat_lt q 7) refl
-job_less r (place.Next q i) x = by (nat_le (next_in x q) i)
-  where
-    by : (b : Bool) → let t : JobPlace × Option AnswerName = if b then (place.Next q i, Some SpiJobQueued) else (place.Result, None) in ShortensTo 2 (job_fuel t.0) (answers_by t.1).done
-    by true = omega arith
-    by false = omega arith
+job_less r (place.Next q i) x =
+    elim (nat_le (next_in x q) i) as (λ b. let t : JobPlace × Option AnswerName = if b then (place.Next q i, Some SpiJobQueued) else (place.Result, None) in ShortensTo 2 (job_fuel t.0) (answers_by t.1).done)
+    [ true ↦ omega arith | false ↦ omega arith ]
 job_less r place.Result x = omega arith
 
 query_less : (k : QueryBody) (x : ℕ) → Shortens query_fuel k (query_takes k x)
 query_less (query.Job r) x = job_less r r.place x
 query_less _ x = omega arith
 
--- so it is in a window
-in_window : (bound room later n : ℕ) (o : Option AnswerName) → ShortensTo room later (answers_by o).done → TurnsMask bound true true room later (Load n) (answers_by o).event (answers_by o).done
-in_window bound room later n None h = (refl, h)
-in_window bound room later n (Some x) h = h
+-- a body whose room is its fuel stays in its window while it names registers and words
+abbrev pub IsCalm : Move → Type 0
+IsCalm made = (is_shared made ≡ false) × (resets_chip made ≡ false) × (begins_word made ≡ false)
 
-job_window : (bound room later : ℕ) (r : JobQuery) (p : JobPlace) (o : Option AnswerName) → ShortensTo room later (answers_by o).done → TurnsMask bound true true room later (job_move r p) (answers_by o).event (answers_by o).done
-job_window bound room later r place.Running o h = in_window bound room later (running_word r.unit) o h
-job_window bound room later r (place.Look q) o h = in_window bound room later (sequence_word q) o h
-job_window bound room later r (place.Next q i) o h = in_window bound room later NEXTS o h
-job_window bound room later r place.Result o h = in_window bound room later (job_word r.job) o h
+pub in_window : (bound room later : ℕ) (made : Move) (e : Option Event) (left : Option Done) → is_shared made ≡ false → ShortensTo room later left → TurnsMask bound true true room later made e left
+in_window bound room later made e left plain less = by made plain left less
+  where
+    kept : (left : Option Done) → ShortensTo room later left → KeepsMask true true room later e left
+    kept None less = (refl, less)
+    kept (Some n) less = less
+
+    by : (made : Move) → is_shared made ≡ false → (left : Option Done) → ShortensTo room later left → TurnsMask bound true true room later made e left
+    by (Read r) plain left less = kept left less
+    by (Write r v) plain left less = kept left less
+    by (Load k) plain left less = kept left less
+    by (Store k v) plain left less = kept left less
+    by _ plain left less = absurd (cc)
+
+-- and so do bodies that owe moves, wherever they owe none
+module _ {About Body : Type 0} (d : SpiTable) (v : Windows (spi_bare d) PendingWrites About Body (spi_owing d)) where
+  owed_closed : ((k : Body) → is_closed (v.bodies.assertion k) ≡ true) → (k : Body) → is_closed ((windows v).assertion k) ≡ true
+  owed_closed closed k =
+      elim (v.owes k) as (λ o. is_closed (spot_or v o (v.bodies.assertion k)) ≡ true)
+      [ None ↦ closed k | Some x ↦ refl ]
+
+  pub owed_turns : ((k : Body) → is_closed (v.bodies.assertion k) ≡ true) → (k : Body) (p : Body × BodyTaken) → is_shared (v.bodies.work_of k) ≡ false → ShortensTo ((windows v).room k) ((windows v).room p.0) p.1.done → TurnsTo (windows v) 32 k p
+  owed_turns closed k p plain less =
+      subst (λ q. TurnsMask 32 q (is_closed ((windows v).assertion p.0)) ((windows v).room k) ((windows v).room p.0) (v.bodies.work_of k) p.1.event p.1.done) (sym (owed_closed closed k))
+      (subst (λ q. TurnsMask 32 true q ((windows v).room k) ((windows v).room p.0) (v.bodies.work_of k) p.1.event p.1.done) (sym (owed_closed closed p.0))
+      (in_window 32 ((windows v).room k) ((windows v).room p.0) (v.bodies.work_of k) p.1.event p.1.done plain less))
+
+  pub owed_cleans : ((k : Body) → v.bodies.clean k ≡ false) → (made : Move) (k : Body) (p : Body × BodyTaken) → Cleans (windows v).clean made k p
+  owed_cleans none made k p = subst (λ c. Cleans c made k p) (sym (pointwise (windows v).clean (λ k. false) unclean)) (never_clean made k p)
+    where
+      unclean : (k : Body) → (windows v).clean k ≡ false
+      unclean k =
+          elim (v.owes k) as (λ o. or_owed (λ x. false) o (v.bodies.clean k) ≡ false)
+          [ None ↦ none k | Some x ↦ refl ]
+
+query_plain : (k : QueryBody) → IsCalm (query_work k)
+query_plain (query.Job r) =
+    elim r.place as (λ p. IsCalm (job_move r p))
+    [ place.Running ↦ (refl, refl, refl) | _ ↦ (refl, refl, refl) ]
+query_plain _ = (refl, refl, refl)
 
 module _ (d : SpiTable) (fits : FitsSpi d) where
   query_turns : (k : QueryBody) (x : ℕ) → TurnsTo (query_bodies d) 32 k (query_takes k x)
-  query_turns (query.Job r) x = job_window 32 (job_fuel r.place) (job_fuel (job_took r r.place x).0) r r.place (job_took r r.place x).1 (job_less r r.place x)
-  query_turns _ x = omega arith
-
-  query_calm : (k : QueryBody) → (resets_chip (query_work k) ≡ false) × (begins_word (query_work k) ≡ false)
-  query_calm (query.Job r) =
-      elim r.place as (λ p. (resets_chip (job_move r p) ≡ false) × (begins_word (job_move r p) ≡ false))
-      [ place.Running ↦ (refl, refl) | _ ↦ (refl, refl) ]
-  query_calm (query.Sequence q) = (refl, refl)
-  query_calm (query.Unit u) = (refl, refl)
+  query_turns k x = let p = query_takes k x in in_window 32 (query_fuel k) (query_fuel p.0) (query_work k) p.1.event p.1.done (query_plain k).0 (query_less k x)
 
   pub may_first : (k : ℕ) → STATE ≤ k → k < STATE + 64 → may d (Load k) ≡ true
   may_first k low high = may_store d fits k 0 (own_first d k low high)
@@ -403,17 +363,15 @@ module _ (d : SpiTable) (fits : FitsSpi d) where
   query_own : (below : Reservations) (chip : Chip) (w : World) (s : SpiState) (k : QueryBody) (o : Origin Call) (t : FrameHistory) → AssertedAt (spi_basis d) (query_bodies d) below chip w s k o t → is_shared (query_work k) || may d (query_work k) ≡ true
   query_own below chip w s (query.Job r) o t (h, (j, asks, is, at)) = job_own r.place at
     where
-      unit : r.unit < 2
-      unit = subst (λ n. n < 2) (sym is.unit) (fits.jobs j is.job is.known).unit
-
-      small : r.job < 16
-      small = let lt = in_list d.jobs j is.job is.known in let n = is.number in omega (arith, lt, n, fits.rows.1)
-
       job_own : (p : JobPlace) → JobStands d s.pending (view s).begun (is_running s) j p → is_shared (job_move r p) || may d (job_move r p) ≡ true
-      job_own place.Running i = may_first (running_word r.unit) (omega arith) (omega (arith, unit))
+      job_own place.Running i =
+          let unit : r.unit < 2 = subst (λ n. n < 2) (sym is.unit) (fits.jobs j is.job is.known).unit in
+          may_first (running_word r.unit) (omega arith) (omega (arith, unit))
       job_own (place.Look q) i = may_first (sequence_word q) (omega arith) (let lt = i.0 in omega (arith, lt))
       job_own (place.Next q n) i = may_first NEXTS (omega arith) (omega arith)
-      job_own place.Result i = may_first (job_word r.job) (omega arith) (omega (arith, small))
+      job_own place.Result i =
+          let small : r.job < 16 = let lt = in_list d.jobs j is.job is.known in let n = is.number in omega (arith, lt, n, fits.rows.1) in
+          may_first (job_word r.job) (omega arith) (omega (arith, small))
   query_own below chip w s (query.Sequence q) o t (h, (n, asks, lt, at)) = may_first (sequence_word q) (omega arith) (omega (arith, lt, at))
   query_own below chip w s (query.Unit u) o t (h, (n, asks, lt, at)) = may_first (running_word u) (omega arith) (omega (arith, lt, at))
 
@@ -438,7 +396,7 @@ module _ (d : SpiTable) (fits : FitsSpi d) where
     turns = λ below chip w s k o t h. query_turns k (value_of chip (query_work k));
     steps = λ below chip w s k o y t m come few h. query_steps below chip w s k o y t m h;
     later = λ below chip w s order k o t come shut h. query_stays w s order k o t h.1;
-    calm = λ below chip w s k o t h e. query_calm k;
+    calm = λ below chip w s k o t h e. ((query_plain k).1, (query_plain k).2);
     shortens = query_less;
     cleans = λ k x. never_clean (query_work k) k (query_takes k x);
   }

@@ -1,33 +1,33 @@
 -- Spi_ReadIB: that it is right.
--- From services.ReadSteps, words.SideWords, words.ListTests, bookkeeping.RefinementRight and 9 more.
--- Used by spi_driver: bookkeeping.Lawful, spi_driver: bookkeeping.UnpolledFrames, services.WriteRight and 2 more.
+-- From services.ChannelSteps, words.SideWords, bookkeeping.RefinementRight, hardware.StableUnderHardware and 7 more.
+-- Used by spi_driver: bookkeeping.Lawful, spi_driver: bookkeeping.UnpolledFrames and 4 more.
 use Rattle.std.proofs.Common.{◌≡◌, ◌+◌, ◌-◌, ◌*◌, ◌%◌, ◌<◌, ◌≤◌, ◌==◌, ◌&&◌, ◌||◌, [], ◌∷◌, ◌++◌, ◌∙◌, if◌then◌else◌}
 use Rattle.spi_sequences.specs.Terms
-use Terms.{acts_by, Adding, agrees_after, Answer, answers, ap, AreEnding, arith, AssertedAt, bank_of, bank_word}
-use Terms.{BanksAgree, begins_word, Bool, Call, Called, Channel, channel_at, channel_of, Chip, chip_after, Contains}
-use Terms.{control_word, DiffersIn, ended_by, EOk, error_by, false, first_items, FitsSpi, FrameHistory, fresh_history}
-use Terms.{gap_at, gave, happened, has_ended, holds_at, is_closed, is_off, is_own_word, is_shared, Is_this_frame}
-use Terms.{IsThisFrame, KeepsMask, kept-word, length, length_by, length_push, List, Load, LongBodies, lt_from}
+use Terms.{acts_by, Adding, agrees_after, AllRight, AllSend, and_parts, Answer, answers, ap, AreCarried, AreEnding}
+use Terms.{arith, AssertedAt, bank_of, bank_word, Banks, begins_word, Bool, Call, Called, Channel, channel_at}
+use Terms.{channel_of, Chip, chip_after, Contains, control_word, ended_by, EOk, error_by, false, first_items, FitsSpi}
+use Terms.{FrameHistory, fresh_history, gap_at, gave, happened, has_ended, holds_at, is_closed, is_off, is_own_word}
+use Terms.{is_shared, Is_this_frame, IsThisFrame, kept-word, length, length_by, length_push, List, LongBodies, lt_from}
 use Terms.{MakesTo, Mask, may, MayStop, Memory, missed_after, moved, named_with, nat_lt, never_clean, newest-in, None}
 use Terms.{one_more, Option, or_rest, Order, Origin, Outside, owes_nothing, own-control, own-word, pins, place_at}
-use Terms.{Placed, placed_of, PointAssertion, prepares, read_answer, ReadBody, ReadIb, readied_in, Reading, ReadPlace}
+use Terms.{Placed, placed_of, PointAssertion, put_held, PutRight, read_answer, ReadBody, ReadIb, Reading, ReadPlace}
 use Terms.{ready, Received, refl, releases, Reservation, Reservations, resets_chip, RightOr, ShortensTo, slice_index}
 use Terms.{Some, spi_bare, spi_basis, spi_machine, spi_owing, SpiRepresents, SpiState, SpiTable, stands-move, Store}
-use Terms.{subst, suc, sym, Take, take, take_all, take_gave, take_held, take_more, trio_of, TripleBuffer, true}
-use Terms.{TurnsMask, Under, Unmask, value_of, view, whether_as, with_holds, Within, word_later, word_of, WORDS}
-use Terms.{World, world_after, zero, ℕ}
+use Terms.{stored, subst, suc, sym, Take, take, take_all, take_gave, take_held, take_more, trio_of, TripleBuffer, true}
+use Terms.{TurnsMask, Under, Unmask, value_of, view, whether_as, with_holds, Within, word_later, word_of, WORDS, World}
+use Terms.{world_after, zero, ℕ}
 use Rattle.word_shapes.specs.Banks.{pinning, releasing}
-use Rattle.spi_sequences.specs.laws.{words.SideWords.{IsBeside, IsLike, banks_changed, beside_back, beside_one}}
-use Rattle.spi_sequences.specs.laws.{words.SideWords.{differs_by_store, mine, none_readied, received_changed}}
-use Rattle.spi_sequences.specs.laws.{words.SideWords.{stands_by_store, trio_fits}, hardware.SourceFilled.{own_low}}
-use Rattle.spi_sequences.specs.laws.{hardware.AfterReset.{none_in}, bookkeeping.RefinementRight.{apart_agrees, frame_may}}
-use Rattle.spi_sequences.specs.laws.{hardware.StableUnderHardware.{mode_later}}
-use Rattle.spi_sequences.specs.laws.{bookkeeping.PendingWritesBounds.{take_less}, words.WordsOfModule.{has_channel}}
-use Rattle.spi_sequences.specs.laws.{words.WordsOfModule.{own_banks}, services.ReadSteps.{ends_at, read_at, read_ends}}
-use Rattle.spi_sequences.specs.laws.{services.ReadSteps.{read_further, read_move, read_pins, read_releases, read_takes}}
-use Rattle.spi_sequences.specs.laws.{services.ReadSteps.{read_took, read_word, read_work}}
-use Rattle.spi_sequences.specs.laws.{words.WordsToState.{is_below, is_past, same_number}}
-use Rattle.spi_sequences.specs.laws.{services.SetUpRight.{may_store}}
+use Rattle.spi_sequences.specs.laws.bookkeeping.PendingWritesBounds.{take_less}
+use Rattle.spi_sequences.specs.laws.bookkeeping.RefinementRight.{apart_agrees, frame_may}
+use Rattle.spi_sequences.specs.laws.{hardware.SourceFilled.{own_low}, hardware.StableUnderHardware.{mode_later}}
+use Rattle.spi_sequences.specs.laws.{hardware.StableUnderHardware.{none_in}, services.ChannelSteps.{ends_at, read_at}}
+use Rattle.spi_sequences.specs.laws.services.ChannelSteps.{read_ends, read_further, read_move, read_pins}
+use Rattle.spi_sequences.specs.laws.services.ChannelSteps.{read_releases, read_takes, read_took, read_word, read_work}
+use Rattle.spi_sequences.specs.laws.{services.SetUpRight.{may_store}, words.SideWords.{banks_changed, beside_back}}
+use Rattle.spi_sequences.specs.laws.words.SideWords.{beside_one, differs_by_store, IsBeside, IsLike, mine}
+use Rattle.spi_sequences.specs.laws.words.SideWords.{none_readied, received_changed, stands_by_store, trio_fits}
+use Rattle.spi_sequences.specs.laws.{words.WordsOfModule.{has_channel, own_banks}, words.WordsToState.{is_below}}
+use Rattle.spi_sequences.specs.laws.words.WordsToState.{is_past, same_number}
 use Rattle.word_shapes.specs.TripleBuffer as trio
 use Rattle.word_shapes.specs.declared.take.Take.TheVariants as takes
 use Rattle.spi_machine.specs.declared.call.Call.TheVariants as calls
@@ -39,11 +39,14 @@ abbrev pub asks : ℕ → Call
 asks c = calls.Channel c ReadIb
 
 -- the frame reads this internal channel, of which no other one does
-pub record IsReader (d : SpiTable) (r : ReadBody) (below : Reservations) (c : ℕ) (k : Channel) : Type 0 where
+pub record IsReadAt (d : SpiTable) (x : Placed) (below : Reservations) (c : ℕ) (k : Channel) : Type 0 where
   pub known : channel_of d c ≡ Some k
   pub internal : k.internal ≡ true
-  pub placed : r.placed ≡ placed_of d c
+  pub placed : x ≡ placed_of d c
   pub alone : take_held c below ≡ None
+
+abbrev pub IsReader : SpiTable → ReadBody → Reservations → ℕ → Channel → Type 0
+IsReader d r below c k = IsReadAt d r.placed below c k
 
 -- its call finds no error, and the module is initialised
 abbrev pub IsBefore : SpiTable → ReadBody → (off : Bool) → Reservations → Origin Call → FrameHistory → Type 0
@@ -118,9 +121,6 @@ module _ (d : SpiTable) (fits : FitsSpi d) (below : Reservations) (chip : Chip) 
   abbrev banks : TripleBuffer
   banks = trio_of (placed_of d c) Received
 
-  fit : trio.Fits banks
-  fit = trio_fits d fits c k i.known i.internal Received
-
   is_one : (r.placed.number == c) ≡ true
   is_one = ap (λ n. n == c) number ∙ same_number c
 
@@ -140,9 +140,6 @@ module _ (d : SpiTable) (fits : FitsSpi d) (below : Reservations) (chip : Chip) 
   like : IsLike d fits c k i.known i.internal Received s.channels s
   like = record { source = λ n. refl; destination = λ n. refl; set_up = λ n. refl; written = λ n ne. refl; received = λ n ne. refl }
 
-  whole_words : SpiRepresents d below chip w s → length chip.words ≡ WORDS
-  whole_words h = h.outside.all.words
-
 -- the act: the newest bank is pinned, and has what is answered
 module _ (d : SpiTable) (fits : FitsSpi d) (below : Reservations) (chip : Chip) (w : World) (s : SpiState) (r : ReadBody) (c : ℕ) (k : Channel) (i : IsReader d r below c k) (on : is_off s.mode ≡ false) where
   abbrev readable : List ℕ
@@ -157,72 +154,34 @@ module _ (d : SpiTable) (fits : FitsSpi d) (below : Reservations) (chip : Chip) 
   abbrev word : ℕ
   word = word_of chip at.control % 4 + 4 * (word_of chip at.control % 4 + 1)
 
+  -- the control word is stored, and what is held of the pin changes
+  control_stored : (held held1 : Reservations) (v : ℕ) (h : SpiRepresents d held chip w s) → IsBeside d fits c k i.known i.internal Received held held1 → put_held d (view s).sources c false held1 ≡ put_held d (view s).sources c false held
+      → AllRight d s.mode s.channels held1 → AllSend d chip w h.going s held1 → AreCarried (view s) held1 → (x : Banks) → trio.Stands at (stored (word_of chip) at.control v) x → x.newest ≡ (h.words.banks c k i.known i.internal).received.newest
+      → x.take ≡ take_held c held1 → PutRight h.going (word_of chip) (placed_of d c) (put_held d (view s).sources c true held1) x.put → SpiRepresents d held1 (chip_after chip (Store at.control v) 0) w s
+  control_stored held held1 v h beside puts right sending carried x stands newest reads keeps =
+      let b = h.words.banks c k i.known i.internal in
+      let none = none_readied d s.mode s.channels held on h.right in
+      let differs = differs_by_store (mine d fits c k i.known i.internal Received) chip at.control v h.outside.all.words (own-control at) in
+      banks_changed d fits c k i.known i.internal Received held held1 chip (chip_after chip (Store at.control v) 0) w s h on s.channels (like d fits below chip w s r c k i) (stands-move chip w (Store at.control v) 0 h.outside) differs beside (λ internal. (h.sizes on c k i.known).written internal) right sending carried
+      (λ internal. received_changed d fits c k i.known i.internal held held1 chip (chip_after chip (Store at.control v) 0) h.going (view s) (view s) differs beside refl puts x
+      (stands_by_store at chip at.control v x (trio_fits d fits c k i.known i.internal Received) h.outside.all.words (own-control at) stands)
+      (λ p. newest ∙ b.readable none.1) (λ is. absurd (none_in _ (subst (λ xs. Contains xs (c, true)) (beside.readied ∙ none.0) is))) reads keeps b)
+
   pinned_now : SpiRepresents d below chip w s → r.bank ≡ word_of chip at.control % 4 → SpiRepresents d (has (Some (named_with EOk readable))) (chip_after chip (Store at.control word) 0) w s
-  pinned_now h e = banks_changed d fits c k i.known i.internal Received below held1 chip chip1 w s h on s.channels (like d fits below chip w s r c k i) (stands-move chip w (Store at.control word) 0 h.outside) differs beside (λ internal. (h.sizes on c k i.known).written internal) ((ap (λ n. Called (asks n)) (sym (number d fits below chip w s r c k i)), refl, on), h.right) (tt, h.sending) h.carriers (λ internal. agreed)
-    where
-      held1 : Reservations
-      held1 = has (Some (named_with EOk readable))
-
-      chip1 : Chip
-      chip1 = chip_after chip (Store at.control word) 0
-
-      whole : length chip.words ≡ WORDS
-      whole = h.outside.all.words
-
-      differs : DiffersIn (mine d fits c k i.known i.internal Received) chip chip1
-      differs = differs_by_store (mine d fits c k i.known i.internal Received) chip at.control word whole (own-control at)
-
-      beside : IsBeside d fits c k i.known i.internal Received below held1
-      beside = aside d fits below chip w s r c k i (Some (named_with EOk readable))
-
-      b : BanksAgree d below h.going (word_of chip) (view s) c k
-      b = h.words.banks c k i.known i.internal
-
-      none : (readied_in below ≡ []) × (prepares below ≡ false)
-      none = none_readied d s.mode s.channels below on h.right
-
-      free : b.received.take ≡ None
-      free = b.reads ∙ i.alone
-
-      newest : b.received.newest ≡ readable
-      newest = b.readable none.1 ∙ ap (λ o. first_items 0 (length_by o) (channel_at s c).received) (sym i.known)
-
-      agreed : BanksAgree d held1 h.going (word_of chip1) (view s) c k
-      agreed = received_changed d fits c k i.known i.internal below held1 chip chip1 h.going (view s) (view s) differs beside refl refl (pinning b.received)
-          (stands_by_store at chip at.control word (pinning b.received) (fit d fits below chip w s r c k i) whole (own-control at) (pins at (word_of chip) b.received (fit d fits below chip w s r c k i) free b.receives))
-          (λ p. b.readable none.1) (λ is. absurd (none_in _ (subst (λ xs. Contains xs (c, true)) (beside.readied ∙ none.0) is)))
-          (ap (λ n. Some (record { bank = n; kept = b.received.newest })) (sym (newest-in at (word_of chip) b.received b.receives) ∙ sym e) ∙ ap (λ xs. Some (record { bank = r.bank; kept = xs })) newest ∙ sym (takes_it d fits below chip w s r c k i readable))
-          b.keeps b
+  pinned_now h e =
+      let b = h.words.banks c k i.known i.internal in
+      let newest : b.received.newest ≡ readable =
+      b.readable (none_readied d s.mode s.channels below on h.right).1 ∙ ap (λ o. first_items 0 (length_by o) (channel_at s c).received) (sym i.known) in
+      control_stored below (has (Some (named_with EOk readable))) word h (aside d fits below chip w s r c k i (Some (named_with EOk readable))) refl ((ap (λ n. Called (asks n)) (sym (number d fits below chip w s r c k i)), refl, on), h.right) (tt, h.sending) h.carriers
+      (pinning b.received) (pins at (word_of chip) b.received (trio_fits d fits c k i.known i.internal Received) (b.reads ∙ i.alone) b.receives) refl
+      (ap (λ n. Some (record { bank = n; kept = b.received.newest })) (sym (newest-in at (word_of chip) b.received b.receives) ∙ sym e) ∙ ap (λ xs. Some (record { bank = r.bank; kept = xs })) newest ∙ sym (takes_it d fits below chip w s r c k i readable)) b.keeps
 
   -- the pin ends
   released_now : (acted : Option Answer) → SpiRepresents d (has acted) chip w s → SpiRepresents d below (chip_after chip (Store at.control (word_of chip at.control % 4)) 0) w s
-  released_now acted h = banks_changed d fits c k i.known i.internal Received (has acted) below chip chip1 w s h on s.channels (like d fits below chip w s r c k i) (stands-move chip w (Store at.control freed) 0 h.outside) differs beside (λ internal. (h.sizes on c k i.known).written internal) h.right.1 h.sending.1 h.carriers (λ internal. agreed)
-    where
-      freed : ℕ
-      freed = word_of chip at.control % 4
-
-      chip1 : Chip
-      chip1 = chip_after chip (Store at.control freed) 0
-
-      whole : length chip.words ≡ WORDS
-      whole = h.outside.all.words
-
-      differs : DiffersIn (mine d fits c k i.known i.internal Received) chip chip1
-      differs = differs_by_store (mine d fits c k i.known i.internal Received) chip at.control freed whole (own-control at)
-
-      beside : IsBeside d fits c k i.known i.internal Received (has acted) below
-      beside = beside_back d fits c k i.known i.internal Received below (has acted) (aside d fits below chip w s r c k i acted)
-
-      b : BanksAgree d (has acted) h.going (word_of chip) (view s) c k
-      b = h.words.banks c k i.known i.internal
-
-      none : (readied_in below ≡ []) × (prepares below ≡ false)
-      none = none_readied d s.mode s.channels below on h.right.1
-
-      agreed : BanksAgree d below h.going (word_of chip1) (view s) c k
-      agreed = received_changed d fits c k i.known i.internal (has acted) below chip chip1 h.going (view s) (view s) differs beside refl refl (releasing b.received)
-          (stands_by_store at chip at.control freed (releasing b.received) (fit d fits below chip w s r c k i) whole (own-control at) (releases at (word_of chip) b.received (fit d fits below chip w s r c k i) b.receives))
-          (λ p. b.readable none.1) (λ is. absurd (none_in _ (subst (λ xs. Contains xs (c, true)) none.0 is))) (sym i.alone) b.keeps b
+  released_now acted h =
+      let b = h.words.banks c k i.known i.internal in
+      control_stored (has acted) below (word_of chip at.control % 4) h (beside_back d fits c k i.known i.internal Received below (has acted) (aside d fits below chip w s r c k i acted)) refl h.right.1 h.sending.1 h.carriers
+      (releasing b.received) (releases at (word_of chip) b.received (trio_fits d fits c k i.known i.internal Received) b.receives) refl (sym i.alone) b.keeps
 
   -- a word of the pinned bank
   reads_word : (xs : List ℕ) (n : ℕ) → SpiRepresents d (has (Some (named_with EOk xs))) chip w s → n < k.length → word_of chip (bank_word r.placed Received r.bank n) ≡ slice_index xs n
@@ -234,9 +193,6 @@ module _ (d : SpiTable) (fits : FitsSpi d) (below : Reservations) (chip : Chip) 
 -- ---- the steps
 
 module _ (d : SpiTable) (fits : FitsSpi d) (below : Reservations) (chip : Chip) (w : World) (s : SpiState) (r : ReadBody) (o : Origin Call) (y : ℕ) (t : FrameHistory) (m : ℕ → Bool) where
-  abbrev Standing : ReadBody → Chip → FrameHistory → Type 0
-  Standing k c p = AssertedAt (spi_basis d) (read_bodies d) below c w s k o p
-
   -- a step at a place, by what the frame ends with
   abbrev StepBy : ReadPlace → Option Answer → Type 0
   StepBy p None = MakesTo (spi_basis d) (read_bodies d) below chip (chip_after chip (read_move r p) y) w s o (read_move r p) false (value_of chip (read_move r p)) y t m (read_took r p (value_of chip (read_move r p)))
@@ -248,28 +204,21 @@ module _ (d : SpiTable) (fits : FitsSpi d) (below : Reservations) (chip : Chip) 
   abbrev PlaceAt : ReadPlace → Type 0
   PlaceAt p = agrees_after (spi_bare d) (spi_owing d) (with_holds o t.acted (holds_at (read_spot_at d r p)) below) (gap_at (read_spot_at d r p)) chip w s × place_at (read_spot_at d r p) below ((spi_basis d).foot chip) w s o t
 
-  same_reader : (b : ℕ) (ws : List ℕ) (p : ReadPlace) (c : ℕ) (k : Channel) → IsReader d r below c k → IsReader d (record r { bank = b; words = ws; place = p }) below c k
-  same_reader b ws p c k i = record { known = i.known; internal = i.internal; placed = i.placed; alone = i.alone }
-
 -- after a word, or before the first one
 onward : (d : SpiTable) (below : Reservations) (chip : Chip) (w : World) (s : SpiState) (r : ReadBody) (ws : List ℕ) (c : ℕ) (k : Channel) (xs : List ℕ) → IsReader d r below c k → r.placed.channel.length ≡ k.length → length xs ≡ k.length → k.length ≤ 64 → r.bank < 3
     → ws ≡ take (length ws) xs → length ws ≤ length xs → SpiRepresents d (record { by = Called (asks c); what = Reading r.placed.number r.bank; acted = Some (named_with EOk xs) } ∷ below) chip w s
     → AssertedAt (spi_basis d) (read_bodies d) below chip w s (record r { words = ws; place = read_further r.placed ws }) (Called (asks c)) (answered xs)
-onward d below chip w s r ws c k xs i len count few lt part le h = asserted_further (nat_lt (length ws) 64) refl (nat_lt (length ws) r.placed.channel.length) refl
+onward d below chip w s r ws c k xs i len count few lt part le h = whether_as (nat_lt (length ws) 64) (λ a. At (if a && nat_lt (length ws) r.placed.channel.length then read.Load else read.Shut))
+    (λ ea. whether_as (nat_lt (length ws) r.placed.channel.length) (λ b. At (if b then read.Load else read.Shut))
+    (λ eb. (h, (c, k, xs, Is_this_frame, i, count, few, lt, (part, let less = is_below (length ws) r.placed.channel.length eb in omega (arith, less, len, count)))))
+    (λ eb. whole (let past = is_past (length ws) r.placed.channel.length eb in omega (arith, past, le, len, count))))
+    (λ ea. whole (let past = is_past (length ws) 64 ea in omega (arith, past, le, few, count)))
   where
-    reader : (p : ReadPlace) → IsReader d (record r { words = ws; place = p }) below c k
-    reader p = record { known = i.known; internal = i.internal; placed = i.placed; alone = i.alone }
+    At : ReadPlace → Type 0
+    At p = AssertedAt (spi_basis d) (read_bodies d) below chip w s (record r { words = ws; place = p }) (Called (asks c)) (answered xs)
 
-    asserted_further : (a : Bool) → nat_lt (length ws) 64 ≡ a → (b : Bool) → nat_lt (length ws) r.placed.channel.length ≡ b → AssertedAt (spi_basis d) (read_bodies d) below chip w s (record r { words = ws; place = if nat_lt (length ws) 64 && nat_lt (length ws) r.placed.channel.length then read.Load else read.Shut }) (Called (asks c)) (answered xs)
-    asserted_further a ea b eb = subst (λ q. AssertedAt (spi_basis d) (read_bodies d) below chip w s (record r { words = ws; place = if q then read.Load else read.Shut }) (Called (asks c)) (answered xs)) (sym (ap (λ q. q && nat_lt (length ws) r.placed.channel.length) ea ∙ ap (λ q. a && q) eb)) (split a ea b eb)
-      where
-        done : length ws ≡ length xs → ws ≡ xs
-        done e = part ∙ take_all (length ws) xs (omega (arith, e))
-
-        split : (a : Bool) → nat_lt (length ws) 64 ≡ a → (b : Bool) → nat_lt (length ws) r.placed.channel.length ≡ b → AssertedAt (spi_basis d) (read_bodies d) below chip w s (record r { words = ws; place = if a && b then read.Load else read.Shut }) (Called (asks c)) (answered xs)
-        split true ea true eb = (h, (c, k, xs, Is_this_frame, reader read.Load, count, few, lt, (part, let less = is_below (length ws) r.placed.channel.length eb in omega (arith, less, len, count))))
-        split true ea false eb = (h, (c, k, xs, Is_this_frame, reader read.Shut, count, few, lt, done (let past = is_past (length ws) r.placed.channel.length eb in omega (arith, past, le, len, count))))
-        split false ea b eb = (h, (c, k, xs, Is_this_frame, reader read.Shut, count, few, lt, done (let past = is_past (length ws) 64 ea in omega (arith, past, le, few, count))))
+    whole : length ws ≡ length xs → At read.Shut
+    whole e = (h, (c, k, xs, Is_this_frame, i, count, few, lt, part ∙ take_all (length ws) xs (omega (arith, e))))
 
 -- the place after a word ends no frame
 further_goes : (x : Placed) (xs ws : List ℕ) → ended_by (ends_at (read_further x xs) ws) None ≡ None
@@ -284,41 +233,21 @@ length-first (suc n) (x ∷ xs) = ap suc (length-first n xs)
 
 -- each step is right
 module _ (d : SpiTable) (fits : FitsSpi d) (below : Reservations) (chip : Chip) (w : World) (s : SpiState) (r : ReadBody) (y : ℕ) (m : ℕ → Bool) where
-  before_again : (p : ReadPlace) (off : Bool) (o : Origin Call) (t : FrameHistory) → IsBefore d r off below o t → IsBefore d (read_at r p) off below o t
-  before_again p off o t (c, k, being, i, clear, on, none) = (c, k, being, record { known = i.known; internal = i.internal; placed = i.placed; alone = i.alone }, clear, on, none)
-
-  after_again : (p : ReadPlace) (words : List ℕ → List ℕ → Type 0) (o : Origin Call) (t : FrameHistory) → IsAfter d r words below o t → IsAfter d (read_at r p) words below o t
-  after_again p words o t (c, k, xs, being, i, count, few, lt, all) = (c, k, xs, being, record { known = i.known; internal = i.internal; placed = i.placed; alone = i.alone }, count, few, lt, all)
-
   -- the act
   pins_now : (c1 v b : ℕ) (o : Origin Call) (t : FrameHistory) → SpiRepresents d below chip w s → IsBefore d r (is_off s.mode) below o t → IsPinning r.placed (word_of chip) (takes.Hold c1 v b) → StepAt d fits below chip w s r o y t m (read.Pin (takes.Hold c1 v b))
   pins_now c1 v b o t h (c, k, Is_this_frame, i, clear, on, none) (at, is, bank) =
+      let after : ReadBody = record r { bank = b % 4; place = read.Opens } in
+      let tr : TripleBuffer = banks d fits below chip w s after c k i in
+      let same : c1 ≡ tr.control = at ∙ control d fits below chip w s r c k i in
+      let xs : List ℕ = readable d fits below chip w s after c k i on in
+      let bank_is : b % 4 ≡ word_of chip tr.control % 4 = ap (λ n. n % 4) (bank ∙ ap (λ j. word_of chip j % 4) same) ∙ omega arith in
+      let newest : length xs ≡ k.length = ap (λ o. length (first_items 0 (length_by o) (channel_at s c).received)) i.known ∙ length-first k.length (channel_at s c).received in
+      let x = h.words.banks c k i.known i.internal in
+      let n = newest-in tr (word_of chip) x.received x.receives in
+      let lt = x.receives.below in
+      let small : b % 4 < 3 = omega (arith, bank_is, n, lt) in
       subst (λ j. StepAt d fits below chip w s r (Called (asks c)) y fresh_history m (read.Pin (takes.Hold j v b))) (sym same)
-      (subst (λ n. StepAt d fits below chip w s r (Called (asks c)) y fresh_history m (read.Pin (takes.Hold tr.control n b))) (sym (is ∙ ap (λ j. word_of chip j % 4 + 4 * (word_of chip j % 4 + 1)) same)) acted)
-    where
-      after : ReadBody
-      after = record r { bank = b % 4; place = read.Opens }
-
-      reader : IsReader d after below c k
-      reader = record { known = i.known; internal = i.internal; placed = i.placed; alone = i.alone }
-
-      tr : TripleBuffer
-      tr = banks d fits below chip w s after c k reader
-
-      same : c1 ≡ tr.control
-      same = at ∙ control d fits below chip w s r c k i
-
-      xs : List ℕ
-      xs = readable d fits below chip w s after c k reader on
-
-      bank_is : b % 4 ≡ word_of chip tr.control % 4
-      bank_is = ap (λ n. n % 4) (bank ∙ ap (λ j. word_of chip j % 4) same) ∙ omega arith
-
-      newest : length xs ≡ k.length
-      newest = ap (λ o. length (first_items 0 (length_by o) (channel_at s c).received)) i.known ∙ length-first k.length (channel_at s c).received
-
-      acted : StepAt d fits below chip w s r (Called (asks c)) y fresh_history m (read.Pin (takes.Hold tr.control (word_of chip tr.control % 4 + 4 * (word_of chip tr.control % 4 + 1)) b))
-      acted = record {
+      (subst (λ n. StepAt d fits below chip w s r (Called (asks c)) y fresh_history m (read.Pin (takes.Hold tr.control n b))) (sym (is ∙ ap (λ j. word_of chip j % 4 + 4 * (word_of chip j % 4 + 1)) same)) (record {
         may = refl;
         stands = tt;
         state = s;
@@ -328,79 +257,52 @@ module _ (d : SpiTable) (fits : FitsSpi d) (below : Reservations) (chip : Chip) 
         sends = tt;
         acts = tt;
         reset = refl;
-        next = (pinned_now d fits below chip w s after c k reader on h bank_is, (c, k, xs, Is_this_frame, reader, newest, (fits.channels c k i.known).few, bank_small, none));
-      }
-        where
-          bank_small : b % 4 < 3
-          bank_small = let x = (h.words.banks c k i.known i.internal).receives in let lt = x.below in let n = newest-in tr (word_of chip) (h.words.banks c k i.known i.internal).received x in omega (arith, bank_is, n, lt)
+        next = (pinned_now d fits below chip w s after c k i on h bank_is, (c, k, xs, Is_this_frame, i, newest, (fits.channels c k i.known).few, small, none));
+      }))
 
   read_step : (p : ReadPlace) (o : Origin Call) (t : FrameHistory) → PlaceAt d fits below chip w s r o y t m p → StepAt d fits below chip w s r o y t m p
-  read_step (read.Pin (takes.Pin c1)) o t (h, (before, at)) = (h, (before_again _ (is_off s.mode) o t before, (at, refl, refl)))
+  read_step (read.Pin (takes.Pin c1)) o t (h, (before, at)) = (h, (before, (at, refl, refl)))
   read_step (read.Pin (takes.Hold c1 v b)) o t (h, (before, at)) = pins_now c1 v b o t h before at
-  read_step (read.Pin (takes.Word j)) o t (h, (before, at)) = absurd at
-  read_step (read.Pin (takes.Release j)) o t (h, (before, at)) = absurd at
-  read_step (read.Pin (takes.Free j v)) o t (h, (before, at)) = absurd at
+  read_step (read.Pin _) o t (h, (before, at)) = absurd at
   read_step read.Opens o t (h, (c, k, xs, Is_this_frame, i, count, few, lt, none)) =
       subst (λ a. StepBy d fits below chip w s r (Called (asks c)) y (answered xs) m read.Opens a) (sym (further_goes r.placed r.words r.words))
       (onward d below (chip_after chip Unmask y) w s r r.words c k xs i (len d fits below chip w s r c k i) count few lt (none ∙ sym (ap (λ ws. take (length ws) xs) none)) (let n = ap length none in omega (arith, n)) (apart_agrees d fits _ chip w s Unmask y refl h))
   read_step read.Load o t (h, (c, k, xs, Is_this_frame, i, count, few, lt, (part, less))) =
+      let v : ℕ = word_of chip (bank_word r.placed Received r.bank (length r.words)) in
+      let word_is : read_word r.words v ≡ r.words ++ v ∷ [] = ap (λ b. if b then r.words ++ v ∷ [] else r.words) (lt_from (length r.words) 64 (omega (arith, less, count, few))) in
+      let longer : length (r.words ++ v ∷ []) ≡ length r.words + 1 = length_push r.words v in
+      let is : v ≡ slice_index xs (length r.words) = reads_word d fits below chip w s r c k i h.right.0.2 xs (length r.words) h (omega (arith, less, count)) in
+      let more : r.words ++ v ∷ [] ≡ take (length (r.words ++ v ∷ [])) xs =
+      ap (λ ws. ws ++ v ∷ []) part ∙ ap (λ n. take (length r.words) xs ++ n ∷ []) is ∙ sym (one_more xs (length r.words) 0 less) ∙ ap (λ n. take n xs) (sym longer) in
       subst (λ a. StepBy d fits below chip w s r (Called (asks c)) y (answered xs) m read.Load a) (sym (further_goes r.placed (read_word r.words v) (read_word r.words v)))
       (subst (λ ws. AssertedAt (spi_basis d) (read_bodies d) below chip w s (record r { words = ws; place = read_further r.placed ws }) (Called (asks c)) (answered xs)) (sym word_is)
       (onward d below chip w s r (r.words ++ v ∷ []) c k xs i (len d fits below chip w s r c k i) count few lt more (omega (arith, longer, less)) h))
-    where
-      v : ℕ
-      v = word_of chip (bank_word r.placed Received r.bank (length r.words))
-
-      word_is : read_word r.words v ≡ r.words ++ v ∷ []
-      word_is = ap (λ b. if b then r.words ++ v ∷ [] else r.words) (lt_from (length r.words) 64 (omega (arith, less, count, few)))
-
-      longer : length (r.words ++ v ∷ []) ≡ length r.words + 1
-      longer = length_push r.words v
-
-      is : v ≡ slice_index xs (length r.words)
-      is = reads_word d fits below chip w s r c k i h.right.0.2 xs (length r.words) h (omega (arith, less, count))
-
-      more : r.words ++ v ∷ [] ≡ take (length (r.words ++ v ∷ [])) xs
-      more = ap (λ ws. ws ++ v ∷ []) part ∙ ap (λ n. take (length r.words) xs ++ n ∷ []) is ∙ sym (one_more xs (length r.words) 0 less) ∙ ap (λ n. take n xs) (sym longer)
-  read_step read.Shut o t (h, after) = (apart_agrees d fits _ chip w s Mask y refl h, (after_again _ IsWhole o t after, refl))
-  read_step (read.Release (takes.Release c1)) o t (h, (after, at)) = (h, (after_again _ IsWhole o t after, (at, refl)))
-  read_step (read.Release (takes.Free c1 v)) o t (h, ((c, k, xs, Is_this_frame, i, count, few, lt, all), (at, is))) = (
-    subst (λ j. SpiRepresents d below (chip_after chip (Store j v) y) w s) (sym same) (subst (λ n. SpiRepresents d below (chip_after chip (Store (banks d fits below chip w s r c k i).control n) y) w s) (sym (is ∙ ap (λ j. word_of chip j % 4) same)) (released_now d fits below chip w s r c k i h.right.0.2 (Some (named_with EOk xs)) h)),
-    after_again read.Leave IsWhole (Called (asks c)) (answered xs) (c, k, xs, Is_this_frame, i, count, few, lt, all),
-  )
-    where
-      same : c1 ≡ (banks d fits below chip w s r c k i).control
-      same = at ∙ control d fits below chip w s r c k i
-  read_step (read.Release (takes.Pin c1)) o t (h, (after, at)) = absurd at
-  read_step (read.Release (takes.Hold c1 v b)) o t (h, (after, at)) = absurd at
-  read_step (read.Release (takes.Word j)) o t (h, (after, at)) = absurd at
+  read_step read.Shut o t (h, after) = (apart_agrees d fits _ chip w s Mask y refl h, (after, refl))
+  read_step (read.Release (takes.Release c1)) o t (h, (after, at)) = (h, (after, (at, refl)))
+  read_step (read.Release (takes.Free c1 v)) o t (h, ((c, k, xs, Is_this_frame, i, count, few, lt, all), (at, is))) =
+      let same = at ∙ control d fits below chip w s r c k i in (
+        subst (λ j. SpiRepresents d below (chip_after chip (Store j v) y) w s) (sym same) (subst (λ n. SpiRepresents d below (chip_after chip (Store (banks d fits below chip w s r c k i).control n) y) w s) (sym (is ∙ ap (λ j. word_of chip j % 4) same)) (released_now d fits below chip w s r c k i h.right.0.2 (Some (named_with EOk xs)) h)),
+        (c, k, xs, Is_this_frame, i, count, few, lt, all),
+      )
+  read_step (read.Release _) o t h = absurd h.1.1
   read_step read.Leave o t (h, (c, k, xs, Is_this_frame, i, count, few, lt, all)) = (refl, apart_agrees d fits below chip w s Unmask y refl h, record { may = (ap (λ ws. Some (named_with EOk ws)) (sym all), refl); served = false; owed = refl; shown = λ e. absurd (cc); report = refl })
   read_step read.Over o t (h, none) = absurd none
 
 -- ---- the bodies
 
 further_less : (r : ReadBody) (ws : List ℕ) (n : ℕ) → 7 < n → (nat_lt (length ws) r.placed.channel.length ≡ true → 8 + (r.placed.channel.length - length ws) < n) → read_fuel_at (record r { words = ws; place = read_further r.placed ws }) (read_further r.placed ws) < n
-further_less r ws n many more = by (nat_lt (length ws) 64) (nat_lt (length ws) r.placed.channel.length) refl
-  where
-    by : (a b : Bool) → nat_lt (length ws) r.placed.channel.length ≡ b → read_fuel_at (record r { words = ws; place = if a && b then read.Load else read.Shut }) (if a && b then read.Load else read.Shut) < n
-    by true true e = more e
-    by _ _ e = omega (arith, many)
+further_less r ws n many more = whether_as (nat_lt (length ws) 64 && nat_lt (length ws) r.placed.channel.length) (λ q. read_fuel_at (record r { words = ws; place = if q then read.Load else read.Shut }) (if q then read.Load else read.Shut) < n)
+    (λ e. more (and_parts (nat_lt (length ws) 64) (nat_lt (length ws) r.placed.channel.length) e).1)
+    (λ e. omega (arith, many))
 
 read_less : (r : ReadBody) (p : ReadPlace) (x : ℕ) → ShortensTo (read_fuel_at r p) (read_fuel_at (read_took r p x).0 (read_took r p x).0.place) (read_took r p x).1.done
-read_less r (read.Pin p) x = by (has_ended (take_gave p x)) refl
-  where
-    by : (q : Bool) → has_ended (take_gave p x) ≡ q → let z = read_pins r p x (bank_of (gave (take_gave p x))) q in ShortensTo (10 + r.placed.channel.length + take_more p) (read_fuel_at z.0 z.0.place) z.1.done
-    by true e = omega arith
-    by false e = let lt = take_less p x e in omega (arith, lt)
+read_less r (read.Pin p) x = whether_as (has_ended (take_gave p x)) (λ q. let z = read_pins r p x (bank_of (gave (take_gave p x))) q in ShortensTo (10 + r.placed.channel.length + take_more p) (read_fuel_at z.0 z.0.place) z.1.done)
+    (λ e. omega arith)
+    (λ e. let lt = take_less p x e in omega (arith, lt))
 read_less r read.Opens x = further_less r r.words (9 + r.placed.channel.length) (omega arith) (λ e. omega arith)
-read_less r read.Load x = loaded_less (nat_lt (length r.words) 64) refl
-  where
-    loaded_less : (q : Bool) → nat_lt (length r.words) 64 ≡ q → let ws = if q then r.words ++ x ∷ [] else r.words in read_fuel_at (record r { words = ws; place = read_further r.placed ws }) (read_further r.placed ws) < 8 + (r.placed.channel.length - length r.words)
-    loaded_less true e = further_less r (r.words ++ x ∷ []) (8 + (r.placed.channel.length - length r.words)) (omega arith) (λ f. let n = length_push r.words x in let lt = is_below (length (r.words ++ x ∷ [])) r.placed.channel.length f in omega (arith, n, lt))
-    loaded_less false e = none
-      where
-        none : read_fuel_at (record r { words = r.words; place = read_further r.placed r.words }) (read_further r.placed r.words) < 8 + (r.placed.channel.length - length r.words)
-        none = subst (λ b. read_fuel_at (record r { words = r.words; place = if b && nat_lt (length r.words) r.placed.channel.length then read.Load else read.Shut }) (if b && nat_lt (length r.words) r.placed.channel.length then read.Load else read.Shut) < 8 + (r.placed.channel.length - length r.words)) (sym e) (omega arith)
+read_less r read.Load x = whether_as (nat_lt (length r.words) 64) (λ q. let ws = if q then r.words ++ x ∷ [] else r.words in read_fuel_at (record r { words = ws; place = read_further r.placed ws }) (read_further r.placed ws) < 8 + (r.placed.channel.length - length r.words))
+    (λ e. further_less r (r.words ++ x ∷ []) (8 + (r.placed.channel.length - length r.words)) (omega arith) (λ f. let n = length_push r.words x in let lt = is_below (length (r.words ++ x ∷ [])) r.placed.channel.length f in omega (arith, n, lt)))
+    (λ e. subst (λ b. read_fuel_at (record r { words = r.words; place = if b && nat_lt (length r.words) r.placed.channel.length then read.Load else read.Shut }) (if b && nat_lt (length r.words) r.placed.channel.length then read.Load else read.Shut) < 8 + (r.placed.channel.length - length r.words)) (sym e) (omega arith))
 read_less r (read.Release p) x = whether_as (has_ended (take_gave p x)) (λ q. let z = read_releases r p x q in ShortensTo (4 + take_more p) (read_fuel_at z.0 z.0.place) z.1.done)
     (λ e. omega arith)
     (λ e. let lt = take_less p x e in omega (arith, lt))
@@ -416,54 +318,34 @@ module _ (d : SpiTable) where
   abbrev TurnsAt : ReadBody → ReadPlace → ℕ → Type 0
   TurnsAt r p x = let z = read_took r p x in TurnsMask 32 (is_closed (read_spot_at d r p)) (is_closed (read_spot_at d z.0 z.0.place)) (read_room_at p) (read_room_at z.0.place) (read_move r p) z.1.event z.1.done
 
-  pins_turn : (r : ReadBody) (p : Take) (x : ℕ) (q : Bool) → has_ended (take_gave p x) ≡ q → let z = read_pins r p x (bank_of (gave (take_gave p x))) q in KeepsMask true (is_closed (read_spot_at d z.0 z.0.place)) (1 + take_more p) (read_room_at z.0.place) z.1.event z.1.done
-  pins_turn r p x true e = (refl, omega arith)
-  pins_turn r p x false e = let lt = take_less p x e in (refl, omega (arith, lt))
-
-  releases_turn : (r : ReadBody) (p : Take) (x : ℕ) (q : Bool) → has_ended (take_gave p x) ≡ q → let z = read_releases r p x q in KeepsMask true (is_closed (read_spot_at d z.0 z.0.place)) (1 + take_more p) (read_room_at z.0.place) z.1.event z.1.done
-  releases_turn r p x true e = (refl, omega arith)
-  releases_turn r p x false e = let lt = take_less p x e in (refl, omega (arith, lt))
-
   read_turns : (below : Reservations) (w : World) (s : SpiState) (f : (spi_basis d).Footprint) (o : Origin Call) (t : FrameHistory) (r : ReadBody) (p : ReadPlace) (x : ℕ) → place_at (read_spot_at d r p) below f w s o t → TurnsAt r p x
-  read_turns below w s f o t r (read.Pin (takes.Pin c)) x h = pins_turn r (takes.Pin c) x false refl
-  read_turns below w s f o t r (read.Pin (takes.Hold c v b)) x h = pins_turn r (takes.Hold c v b) x true refl
+  read_turns below w s f o t r (read.Pin (takes.Pin c)) x h = (refl, omega arith)
+  read_turns below w s f o t r (read.Pin (takes.Hold c v b)) x h = (refl, omega arith)
   read_turns below w s f o t r read.Opens x h = (refl, further_open (read_at r (read_further r.placed r.words)) r.placed r.words, refl, refl)
   read_turns below w s f o t r read.Load x h = further_open (record r { words = read_word r.words x; place = read_further r.placed (read_word r.words x) }) r.placed (read_word r.words x)
   read_turns below w s f o t r read.Shut x h = (refl, refl, omega arith, refl, refl)
-  read_turns below w s f o t r (read.Release (takes.Release c)) x h = releases_turn r (takes.Release c) x false refl
-  read_turns below w s f o t r (read.Release (takes.Free c v)) x h = releases_turn r (takes.Free c v) x true refl
+  read_turns below w s f o t r (read.Release (takes.Release c)) x h = (refl, omega arith)
+  read_turns below w s f o t r (read.Release (takes.Free c v)) x h = (refl, omega arith)
   read_turns below w s f o t r read.Leave x h = (refl, refl, refl, refl)
   read_turns below w s f o t r read.Over x h = absurd h
   read_turns below w s f o t r _ x h = absurd h.1
 
   module _ (fits : FitsSpi d) where
-    may_own : (k : ℕ) → is_own_word d k ≡ true → may d (Load k) ≡ true
-    may_own k own = may_store d fits k 0 own
-
     own_control_of : (below : Reservations) (r : ReadBody) (c : ℕ) (k : Channel) → IsReader d r below c k → is_own_word d (control_word r.placed Received) ≡ true
     own_control_of below r c k i = ap (λ x. is_own_word d (control_word x Received)) i.placed ∙ own_banks d fits c k i.known i.internal Received _ (own-control (trio_of (placed_of d c) Received))
 
     read_own : (below : Reservations) (w : World) (s : SpiState) (f : (spi_basis d).Footprint) (o : Origin Call) (t : FrameHistory) (r : ReadBody) (p : ReadPlace) → place_at (read_spot_at d r p) below f w s o t → is_shared (read_move r p) || may d (read_move r p) ≡ true
-    read_own below w s f o t r (read.Pin (takes.Pin j)) ((c, k, being, i, clear, on, none), at) = may_own j (ap (is_own_word d) at ∙ own_control_of below r c k i)
+    read_own below w s f o t r (read.Pin (takes.Pin j)) ((c, k, being, i, clear, on, none), at) = may_store d fits j 0 (ap (is_own_word d) at ∙ own_control_of below r c k i)
     read_own below w s f o t r (read.Pin (takes.Hold j v b)) ((c, k, being, i, clear, on, none), at) = may_store d fits j v (ap (is_own_word d) at.0 ∙ own_control_of below r c k i)
-    read_own below w s f o t r (read.Pin (takes.Word j)) h = absurd h.1
-    read_own below w s f o t r (read.Pin (takes.Release j)) h = absurd h.1
-    read_own below w s f o t r (read.Pin (takes.Free j v)) h = absurd h.1
     read_own below w s f o t r read.Opens h = refl
     read_own below w s f o t r read.Load (c, k, xs, being, i, count, few, lt, (part, less)) =
-        may_own _ (ap (λ x. is_own_word d (bank_word x Received r.bank (length r.words))) i.placed ∙ own_banks d fits c k i.known i.internal Received _ (own-word (trio_of (placed_of d c) Received) r.bank (length r.words) lt (let n = ap (λ x. x.length) (has_channel d fits c k i.known) in omega (arith, less, count, n))))
+        may_store d fits _ 0 (ap (λ x. is_own_word d (bank_word x Received r.bank (length r.words))) i.placed ∙ own_banks d fits c k i.known i.internal Received _ (own-word (trio_of (placed_of d c) Received) r.bank (length r.words) lt (let n = ap (λ x. x.length) (has_channel d fits c k i.known) in omega (arith, less, count, n))))
     read_own below w s f o t r read.Shut h = refl
-    read_own below w s f o t r (read.Release (takes.Release j)) ((c, k, xs, being, i, count, few, lt, all), at) = may_own j (ap (is_own_word d) at ∙ own_control_of below r c k i)
+    read_own below w s f o t r (read.Release (takes.Release j)) ((c, k, xs, being, i, count, few, lt, all), at) = may_store d fits j 0 (ap (is_own_word d) at ∙ own_control_of below r c k i)
     read_own below w s f o t r (read.Release (takes.Free j v)) ((c, k, xs, being, i, count, few, lt, all), at) = may_store d fits j v (ap (is_own_word d) at.0 ∙ own_control_of below r c k i)
-    read_own below w s f o t r (read.Release (takes.Pin j)) h = absurd h.1
-    read_own below w s f o t r (read.Release (takes.Hold c v b)) h = absurd h.1
-    read_own below w s f o t r (read.Release (takes.Word j)) h = absurd h.1
     read_own below w s f o t r read.Leave h = refl
     read_own below w s f o t r read.Over h = absurd h
-
-    -- the hardware leaves the control word
-    stays : (chip : Chip) (order : Order) (j : ℕ) → length chip.words ≡ WORDS → is_own_word d j ≡ true → word_of (happened chip order) j ≡ word_of chip j
-    stays chip order j whole own = word_later chip order j whole (own_low d fits j own)
+    read_own below w s f o t r _ h = absurd h.1
 
     before_later : (w : World) (s : SpiState) (order : Order) (r : ReadBody) (below : Reservations) (o : Origin Call) (t : FrameHistory) → IsBefore d r (is_off s.mode) below o t → IsBefore d r (is_off (moved d w s order).mode) below o t
     before_later w s order r below o t h = subst (λ mode. IsBefore d r (is_off mode) below o t) (sym (mode_later d w s order)) h
@@ -471,23 +353,16 @@ module _ (d : SpiTable) where
     read_later : (below : Reservations) (chip : Chip) (w : World) (s : SpiState) (order : Order) (o : Origin Call) (t : FrameHistory) (r : ReadBody) (p : ReadPlace) → length chip.words ≡ WORDS → place_at (read_spot_at d r p) below ((spi_basis d).foot chip) w s o t → place_at (read_spot_at d r p) below ((spi_basis d).foot (happened chip order)) (world_after w chip.clock.rate order) (moved d w s order) o t
     read_later below chip w s order o t r (read.Pin (takes.Pin j)) whole (before, at) = (before_later w s order r below o t before, at)
     read_later below chip w s order o t r (read.Pin (takes.Hold j v b)) whole ((c, k, being, i, clear, on, none), (at, is, bank)) =
-        let same = stays chip order j whole (ap (is_own_word d) at ∙ own_control_of below r c k i) in
+        let same = word_later chip order j whole (own_low d fits j (ap (is_own_word d) at ∙ own_control_of below r c k i)) in
         (before_later w s order r below o t (c, k, being, i, clear, on, none), (at, is ∙ ap (λ n. n % 4 + 4 * (n % 4 + 1)) (sym same), bank ∙ ap (λ n. n % 4) (sym same)))
-    read_later below chip w s order o t r (read.Pin (takes.Word j)) whole h = absurd h.1
-    read_later below chip w s order o t r (read.Pin (takes.Release j)) whole h = absurd h.1
-    read_later below chip w s order o t r (read.Pin (takes.Free j v)) whole h = absurd h.1
-    read_later below chip w s order o t r read.Opens whole h = h
-    read_later below chip w s order o t r read.Load whole h = h
-    read_later below chip w s order o t r read.Shut whole h = h
+    read_later below chip w s order o t r (read.Pin _) whole h = absurd h.1
     read_later below chip w s order o t r (read.Release (takes.Release j)) whole h = h
     read_later below chip w s order o t r (read.Release (takes.Free j v)) whole ((c, k, xs, being, i, count, few, lt, all), (at, is)) =
-        let same = stays chip order j whole (ap (is_own_word d) at ∙ own_control_of below r c k i) in
+        let same = word_later chip order j whole (own_low d fits j (ap (is_own_word d) at ∙ own_control_of below r c k i)) in
         ((c, k, xs, being, i, count, few, lt, all), (at, is ∙ ap (λ n. n % 4) (sym same)))
-    read_later below chip w s order o t r (read.Release (takes.Pin j)) whole h = absurd h.1
-    read_later below chip w s order o t r (read.Release (takes.Hold c v b)) whole h = absurd h.1
-    read_later below chip w s order o t r (read.Release (takes.Word j)) whole h = absurd h.1
-    read_later below chip w s order o t r read.Leave whole h = h
+    read_later below chip w s order o t r (read.Release _) whole h = absurd h.1
     read_later below chip w s order o t r read.Over whole h = absurd h
+    read_later below chip w s order o t r _ whole h = h
 
     read_calm : (r : ReadBody) (p : ReadPlace) → (resets_chip (read_move r p) ≡ false) × (begins_word (read_move r p) ≡ false)
     read_calm r (read.Pin (takes.Pin j)) = (refl, refl)
@@ -497,12 +372,7 @@ module _ (d : SpiTable) where
     -- no place of a read looks for a line
     looks_not : (r : ReadBody) (p : ReadPlace) (ready : ℕ → Bool) (t : FrameHistory) (Then : FrameHistory → Type 0) → Then t → Adding (read_spot_at d r p) ready t Then
     looks_not r (read.Pin p) ready t Then h = h
-    looks_not r read.Opens ready t Then h = h
-    looks_not r read.Load ready t Then h = h
-    looks_not r read.Shut ready t Then h = h
-    looks_not r (read.Release p) ready t Then h = h
-    looks_not r read.Leave ready t Then h = h
-    looks_not r read.Over ready t Then h = h
+    looks_not r _ ready t Then h = h
 
     looking : (below : Reservations) (chip : Chip) (w : World) (s : SpiState) (r : ReadBody) (o : Origin Call) (y : ℕ) (t : FrameHistory) (m : ℕ → Bool) (a : Option Answer) → StepBy d fits below chip w s r o y t (missed_after (spi_machine d) w s m) r.place a → RightOr (spi_basis d) (read_bodies d) below chip w s r o y t m a
     looking below chip w s r o y t m None h = looks_not r r.place (ready w s) t _ h
@@ -513,7 +383,7 @@ module _ (d : SpiTable) where
       own = λ below chip w s r o t h. frame_may d o (read_work r) (read_own below w s ((spi_basis d).foot chip) o t r r.place h.1);
       turns = λ below chip w s r o t h. read_turns below w s ((spi_basis d).foot chip) o t r r.place (value_of chip (read_work r)) h.1;
       steps = λ below chip w s r o y t m come few h. looking below chip w s r o y t m (ended_by (read_ends (read_took r r.place (value_of chip (read_move r r.place))).0) (read_took r r.place (value_of chip (read_move r r.place))).1.done) (read_step d fits below chip w s r y (missed_after (spi_machine d) w s m) r.place o t h);
-      later = λ below chip w s order r o t come shut h. read_later below chip w s order o t r r.place (words_there r below chip w s o t h) h.1;
+      later = λ below chip w s order r o t come shut h. read_later below chip w s order o t r r.place (words_by r r.place below chip w s _ h.0) h.1;
       calm = λ below chip w s r o t h e. read_calm r r.place;
       shortens = λ r x. read_less r r.place x;
       cleans = λ r x. never_clean (read_work r) r (read_takes r x);
@@ -522,6 +392,3 @@ module _ (d : SpiTable) where
         words_by : (r : ReadBody) (p : ReadPlace) (below : Reservations) (chip : Chip) (w : World) (s : SpiState) (held : Reservations) → agrees_after (spi_bare d) (spi_owing d) held (gap_at (read_spot_at d r p)) chip w s → length chip.words ≡ WORDS
         words_by r (read.Pin p) below chip w s held h = h.outside.all.words
         words_by r _ below chip w s held h = h.outside.all.words
-
-        words_there : (r : ReadBody) (below : Reservations) (chip : Chip) (w : World) (s : SpiState) (o : Origin Call) (t : FrameHistory) → AssertedAt (spi_basis d) (read_bodies d) below chip w s r o t → length chip.words ≡ WORDS
-        words_there r below chip w s o t h = words_by r r.place below chip w s _ h.0

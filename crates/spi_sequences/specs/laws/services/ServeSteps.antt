@@ -1,46 +1,26 @@
 -- The serving window of a unit: its steps.
--- Used by spi_driver: bookkeeping.PendingWritesRight, bookkeeping.PendingWritesBounds and 42 more.
-use Rattle.std.specs.Prelude.{ℕ, zero, suc, ◌+◌, ◌-◌, ◌/◌, ◌%◌, ◌==◌, nat_lt, nat_le, min, Bool, true, false, ◌&&◌, not, if◌then◌else◌, Option, Some, None}
-use Rattle.mcal_base.specs.declared.moves.Event.{Event}
+-- Used by spi_driver: bookkeeping.PendingWritesRight, bookkeeping.PendingWritesBounds and 33 more.
+use Rattle.std.specs.Prelude.{◌+◌, ◌-◌, ◌/◌, ◌%◌, ◌==◌, ◌&&◌, if◌then◌else◌}
+use Rattle.spi_sequences.specs.StepTerms
+use StepTerms.{Again, again_gave, again_left, again_move, Arrived, asking, Bool, CANCELLED, cancelled_bit}
+use StepTerms.{channel_at_place, channel_number, Commit, commit_ends, commit_left, commit_move, committing, drop_gave}
+use StepTerms.{drop_left, drop_move, Dropped, Ended, Event, FAILED, false, Find, find_gave, find_left, find_move}
+use StepTerms.{finding, has_ended, has_mark, job_of, job_word, JobOver, jobs_list, Keep, keep_ends, keep_left}
+use StepTerms.{keep_move, keeping, Leaving, list_of, Load, MARKS, Mask, min, Move, nat_le, nat_lt, next_in, NEXTS, None}
+use StepTerms.{not, Notice, notifies_job, notifies_sequence, Option, order_places, packed_position, Placed, placed_of}
+use StepTerms.{Position, position_in, position_word, Read, Received, releasing, run_in, Running, running_word}
+use StepTerms.{search_of, Sent, sequence_of, sequence_word, SequenceNext, SerialAck, SerialData, SerialReceived}
+use StepTerms.{SerialState, SerialWidth, Served, ServePlace, ServeStep, Some, SpiJobEndNotification}
+use StepTerms.{SpiSeqEndNotification, SpiTable, Store, suc, Take, take_gave, take_left, take_move, Taker, taker_of}
+use StepTerms.{true, with_next_in, Write, zero, ℕ}
+use Rattle.spi_sequences.specs.declared.service.serve.ServeStep.TheVariants.{Goes, Over}
 use Rattle.mcal_base.specs.declared.moves.Event.TheVariants as events
-use Rattle.mcal_base.specs.declared.moves.Move.{Move}
-use Rattle.mcal_base.specs.declared.moves.Move.TheVariants.{Read, Write, Load, Store, Mask}
-use Rattle.mcal_base.specs.declared.notice.Notice.{Notice}
-use Rattle.mcal_base.specs.declared.notice.NoticeKind.TheVariants.{SpiJobEndNotification, SpiSeqEndNotification}
-use Rattle.mcal_base.specs.declared.register.Reg.TheVariants.{SerialWidth, SerialData, SerialReceived, SerialState, SerialAck}
-use Rattle.word_shapes.specs.PriorityQueue.{again_move, again_left, again_gave, drop_move, drop_left, drop_gave}
-use Rattle.word_shapes.specs.TripleBuffer.{take_move, take_left, take_gave}
-use Rattle.word_shapes.specs.declared.again.Again.{Again}
 use Rattle.word_shapes.specs.declared.again.Again.TheVariants as agains
-use Rattle.word_shapes.specs.declared.dropped.Dropped.{Dropped}
 use Rattle.word_shapes.specs.declared.dropped.Dropped.TheVariants as drops
-use Rattle.word_shapes.specs.declared.take.Take.{Take}
-use Rattle.spi_jobs.specs.Parts.{has_ended, committing, releasing, finding, find_move, find_left, find_gave, asking, taker_of, keeping, keep_move, keep_left, keep_ends, commit_move, commit_left, commit_ends}
-use Rattle.spi_jobs.specs.declared.banks.Commit.{Commit}
 use Rattle.spi_jobs.specs.declared.banks.Commit.TheVariants as commits
-use Rattle.spi_jobs.specs.declared.channel.Placed.{Placed}
-use Rattle.spi_jobs.specs.declared.channel.Side.TheVariants.{Sent, Received}
-use Rattle.spi_jobs.specs.declared.finding.Find.{Find}
-use Rattle.spi_jobs.specs.declared.keeping.Keep.{Keep}
-use Rattle.spi_jobs.specs.declared.keeping.Taker.{Taker}
 use Rattle.spi_jobs.specs.declared.keeping.Taker.TheVariants as takers
-use Rattle.spi_machine.specs.Table.{job_of, sequence_of, notifies_job, notifies_sequence}
-use Rattle.spi_machine.specs.Wiring.{placed_of, channel_number, list_of, jobs_list, channel_at_place}
-use Rattle.spi_sequences.specs.Words.{running_word, position_word, order_places, search_of, job_word, sequence_word, packed_position, run_in, position_in, next_in, with_next_in, cancelled_bit, has_mark}
-use Rattle.spi_machine.specs.declared.table.SpiTable.{SpiTable}
-use Rattle.spi_sequences.specs.declared.service.serve.Arrived.{Arrived}
-use Rattle.spi_sequences.specs.declared.service.serve.SequenceNext.{SequenceNext}
 use Rattle.spi_sequences.specs.declared.service.serve.SequenceNext.TheVariants as courses
-use Rattle.spi_sequences.specs.declared.service.serve.Ended.{Ended}
-use Rattle.spi_sequences.specs.declared.service.serve.Leaving.{Leaving}
-use Rattle.spi_sequences.specs.declared.service.serve.ServePlace.{ServePlace}
 use Rattle.spi_sequences.specs.declared.service.serve.ServePlace.TheVariants as serve
-use Rattle.spi_sequences.specs.declared.service.serve.ServeStep.{ServeStep}
-use Rattle.spi_sequences.specs.declared.service.serve.ServeStep.TheVariants.{Goes, Over, JobOver}
-use Rattle.spi_sequences.specs.declared.service.serve.Served.{Served}
-use Rattle.spi_sequences.specs.declared.words.Position.{Position}
-use Rattle.spi_sequences.specs.declared.words.Running.{Running}
-use Rattle.spi_sequences.specs.declared.words.TheConstants.{MARKS, NEXTS, FAILED, CANCELLED}
 
 -- the channel of the word, and of another one of its job
 abbrev pub channel_served : SpiTable → Served → Placed

@@ -1,28 +1,26 @@
 -- Spi_SetupEB: that it is right.
--- From words.WordsOfModule, words.SameWords, service_outline: Words, hardware.StableUnderHardware and 8 more.
+-- From words.WordsOfModule, words.SameWords, hardware.StableUnderHardware, service_outline: Words and 5 more.
 -- Used by spi_driver: bookkeeping.Lawful, services.WriteRight, spi_serving: services.FurtherRight and 27 more.
-use Rattle.std.proofs.Common.{◌≡◌, ◌≢◌, ◌+◌, ◌<◌, ◌≤◌, ◌&&◌, ◌||◌, [], ◌∷◌, ◌∙◌, ◌⊎◌, ◌++◌}
+use Rattle.std.proofs.Common.{◌≡◌, ◌≢◌, ◌+◌, ◌<◌, ◌≤◌, ◌&&◌, ◌||◌, [], ◌∷◌, ◌∙◌, ◌++◌}
 use Rattle.spi_sequences.specs.Terms
 use Terms.{acts_by, AllRight, answers, ap, AreCarried, AreLong, arith, AssertedAt, begins_word, Bool, Call, Called}
-use Terms.{cases, Channel, channel-seen, channel_at, channel_of, ChannelFits, ChannelState, Chip, chip_after}
-use Terms.{Contains, EOk, error_by, false, FitsSpi, flat_map-cons, FrameHistory, fresh_history, Going, happened}
-use Terms.{held_word, HeldRight, HoldsArrays, inl, inr, is_off, is_own_word, is_shared, Is_this_frame, is_users}
-use Terms.{is_word_of, IsSoundState, IsThisFrame, item-other, item-same, length, length_by, List, Load, LongBodies}
-use Terms.{lt_from, may, Mode, moved, named, nat_lt, never_clean, None, Order, Origin, packed, Part, place_at}
-use Terms.{place_of, Placed, placed_of, PointAssertion, Pointer, Preparing, refl, Reservation, Reservations}
-use Terms.{ReservedBy, resets_chip, Right, RunsNext, same_or_other, set_up_code, set_up_word, SetUpBody, SetupEb}
-use Terms.{SetUpFits, slice_get, Some, Source, source_word, spi_basis, SpiRepresents, SpiState, SpiTable, stands-move}
-use Terms.{STATE, Store, stored_by, stored_in, stored_other, stored_same, subst, sym, true, TurnsTo, Under, untouched}
-use Terms.{view, with_channel, Within, word_at, word_of, WORDS, WordsAgree, World, world_after, ℕ}
-use Rattle.spi_sequences.specs.laws.bookkeeping.RefinementRight.{frame_may}
+use Terms.{cases, Channel, channel-seen, channel_at, channel_of, ChannelFits, ChannelState, Chip, chip_after, Contains}
+use Terms.{EOk, error_by, false, FitsSpi, flat_map-cons, FrameHistory, fresh_history, Going, happened, held_word}
+use Terms.{HeldRight, is_off, is_own_word, is_shared, Is_this_frame, is_users, is_word_of, IsSoundState, IsThisFrame}
+use Terms.{item-other, item-same, length, length_by, List, Load, LongBodies, lt_from, may, Mode, moved, named, nat_lt}
+use Terms.{never_clean, None, Order, Origin, packed, Part, place_at, place_of, Placed, placed_of, PointAssertion}
+use Terms.{Pointer, Preparing, refl, Reservation, Reservations, ReservedBy, resets_chip, Right, RunsNext, same_or_other}
+use Terms.{set_up_code, set_up_word, SetUpBody, SetupEb, SetUpFits, slice_get, Some, some_is, Source, source_word}
+use Terms.{spi_basis, SpiRepresents, SpiState, SpiTable, stands-move, STATE, Store, stored_by, stored_in, stored_other}
+use Terms.{stored_same, subst, sym, true, TurnsTo, Under, untouched, view, with_channel, Within, word_at, word_of}
+use Terms.{WORDS, WordsAgree, World, world_after, ℕ}
+use Rattle.spi_sequences.specs.laws.{bookkeeping.RefinementRight.{frame_may}, hardware.SourceFilled.{own_low}}
+use Rattle.spi_sequences.specs.laws.hardware.StableUnderHardware.{mode_later, none_in, pointwise}
+use Rattle.spi_sequences.specs.laws.{services.ChannelSteps.{set_up_takes, set_up_work}, words.SameWords.{banks_alike}}
+use Rattle.spi_sequences.specs.laws.words.SameWords.{right_as, run_alike, sends_as, sequences_alike}
+use Rattle.spi_sequences.specs.laws.words.WordsOfModule.{of_banks, of_held, of_one, of_set_up, own_set_up}
+use Rattle.spi_sequences.specs.laws.words.WordsOfModule.{past_the_first, word_of_own}
 use Rattle.spi_jobs.specs.declared.set_up.SetUp.{SetUp}
-use Rattle.spi_sequences.specs.laws.{words.SameWords.{sequences_alike, run_alike, banks_alike}}
-use Rattle.spi_sequences.specs.laws.{hardware.SourceFilled.{own_low}, hardware.AfterReset.{none_in}}
-use Rattle.spi_sequences.specs.laws.words.SendsKept.{sends_as}
-use Rattle.spi_sequences.specs.laws.{words.KeptWords.{right_as}, hardware.StableUnderHardware.{mode_later, pointwise}}
-use Rattle.spi_sequences.specs.laws.{services.SetUpSteps.{set_up_work, set_up_takes}, words.WordsOfModule.{word_of_own}}
-use Rattle.spi_sequences.specs.laws.{words.WordsOfModule.{past_the_first, of_one, of_held, of_set_up, of_banks}}
-use Rattle.spi_sequences.specs.laws.{words.WordsOfModule.{own_set_up}}
 use Rattle.spi_machine.specs.Channels as channels
 use Rattle.spi_machine.specs.declared.call.Call.TheVariants as calls
 use Rattle.spi_sequences.specs.declared.service.set_up.SetUpBody.TheVariants as set_up
@@ -50,9 +48,6 @@ module _ (d : SpiTable) (fits : FitsSpi d) (below : Reservations) (chip : Chip) 
   abbrev later : SpiState
   later = with_set_up s c by
 
-  there : word < WORDS
-  there = let low = own_low d fits word (own_set_up d fits c k e) in omega (arith, low)
-
   other : (j : ℕ) → j ≢ word → word_of stored j ≡ word_of chip j
   other j ne = stored_other chip word (set_up_code (Some by)) 0 j ne
 
@@ -76,26 +71,20 @@ module _ (d : SpiTable) (fits : FitsSpi d) (below : Reservations) (chip : Chip) 
   source_same : (n i : ℕ) → word_of stored (place_of (Source n) i) ≡ word_of chip (place_of (Source n) i)
   source_same n i = other _ (λ g. let low = own_low d fits word (own_set_up d fits c k e) in omega (arith, low, g))
 
-  array_same : (n : ℕ) → HoldsArrays (word_of stored) d later n
-  array_same n = record {
-    source = λ i lt. source_same n i ∙ (h.arrays n).source i lt ∙ ap (λ xs. word_at xs i) (sym (channel-seen (λ x. x.source) s c n (record (channel_at s c) { set_up = Some by }) refl));
-    destination = λ i lt. other _ (λ g. let low = own_low d fits word (own_set_up d fits c k e) in omega (arith, low, g)) ∙ (h.arrays n).destination i lt ∙ ap (λ xs. word_at xs i) (sym (channel-seen (λ x. x.destination) s c n (record (channel_at s c) { set_up = Some by }) refl));
-  }
-
   set_ups_same : is_off s.mode ≡ false → (n : ℕ) (k1 : Channel) → channel_of d n ≡ Some k1 → k1.internal ≡ false → word_of stored (set_up_word (placed_of d n)) ≡ set_up_code (channel_at later n).set_up
   set_ups_same on n k1 f i = cases (same_or_other n c)
-      (λ at. subst (λ i. word_of stored (set_up_word (placed_of d i)) ≡ set_up_code (channel_at later i).set_up) (sym at) (stored_same chip word (set_up_code (Some by)) 0 there h.outside.all.words ∙ ap (λ x. set_up_code x.set_up) (sym (item-same untouched s.channels c (record (channel_at s c) { set_up = Some by })))))
+      (λ at. subst (λ i. word_of stored (set_up_word (placed_of d i)) ≡ set_up_code (channel_at later i).set_up) (sym at) (stored_same chip word (set_up_code (Some by)) 0 (let low = own_low d fits word (own_set_up d fits c k e) in omega (arith, low)) h.outside.all.words ∙ ap (λ x. set_up_code x.set_up) (sym (item-same untouched s.channels c (record (channel_at s c) { set_up = Some by })))))
       (λ ne. other _ (of_one d fits n c k1 k _ word ne f e (of_set_up d fits n k1 f) (of_set_up d fits c k e)) ∙ h.set_ups on n k1 f i ∙ ap (λ x. set_up_code x.set_up) (sym (item-other untouched s.channels c n (record (channel_at s c) { set_up = Some by }) ne)))
 
   sizes_same : is_off s.mode ≡ false → (n : ℕ) (k1 : Channel) → channel_of d n ≡ Some k1 → ChannelFits k1 (channel_at later n)
-  sizes_same on n k1 f = record { written = λ i. ap length (channel-seen (λ x. x.written) s c n (record (channel_at s c) { set_up = Some by }) refl) ∙ (h.sizes on n k1 f).written i; set_up = λ i. split i (same_or_other n c) }
-    where
-      split : k1.internal ≡ false → (n ≡ c) ⊎ (n ≢ c) → SetUpFits k1 (channel_at later n).set_up
-      split i (inl at) =
-          let one : Some k1 ≡ Some k = sym f ∙ ap (channel_of d) at ∙ e in
-          let same : k1 ≡ k = cc in
-          subst (λ x. SetUpFits k1 x.set_up) (sym (ap (channel_at later) at ∙ item-same untouched s.channels c (record (channel_at s c) { set_up = Some by }))) (some, subst (λ z. by.words ≤ z.length) (sym same) few)
-      split i (inr ne) = subst (λ x. SetUpFits k1 x.set_up) (sym (item-other untouched s.channels c n (record (channel_at s c) { set_up = Some by }) ne)) ((h.sizes on n k1 f).set_up i)
+  sizes_same on n k1 f = record {
+    written = λ i. ap length (channel-seen (λ x. x.written) s c n (record (channel_at s c) { set_up = Some by }) refl) ∙ (h.sizes on n k1 f).written i;
+    set_up = λ i. cases (same_or_other n c)
+        (λ at.
+        let same = some_is k1 k (sym f ∙ ap (channel_of d) at ∙ e) in
+        subst (λ x. SetUpFits k1 x.set_up) (sym (ap (channel_at later) at ∙ item-same untouched s.channels c (record (channel_at s c) { set_up = Some by }))) (some, subst (λ z. by.words ≤ z.length) (sym same) few))
+        (λ ne. subst (λ x. SetUpFits k1 x.set_up) (sym (item-other untouched s.channels c n (record (channel_at s c) { set_up = Some by }) ne)) ((h.sizes on n k1 f).set_up i));
+  }
 
   is_internal : (n : ℕ) (k1 : Channel) → channel_of d n ≡ Some k1 → k1.internal ≡ true → n ≢ c
   is_internal n k1 f i at = let same : Some k1 ≡ Some k = sym f ∙ ap (channel_of d) at ∙ e in let one : k1 ≡ k = cc in let g : true ≡ false = sym i ∙ ap (λ x. x.internal) one ∙ external in absurd (cc)
@@ -130,7 +119,10 @@ module _ (d : SpiTable) (fits : FitsSpi d) (below : Reservations) (chip : Chip) 
     words = subst (λ v. WordsAgree d below h.going (word_of stored) v) (sym same_view) words_stay;
     set_ups = set_ups_same;
     sizes = sizes_same;
-    arrays = array_same;
+    arrays = λ n. record {
+      source = λ i lt. source_same n i ∙ (h.arrays n).source i lt ∙ ap (λ xs. word_at xs i) (sym (channel-seen (λ x. x.source) s c n (record (channel_at s c) { set_up = Some by }) refl));
+      destination = λ i lt. other _ (λ g. let low = own_low d fits word (own_set_up d fits c k e) in omega (arith, low, g)) ∙ (h.arrays n).destination i lt ∙ ap (λ xs. word_at xs i) (sym (channel-seen (λ x. x.destination) s c n (record (channel_at s c) { set_up = Some by }) refl));
+    };
     lines = h.lines;
     owed = h.owed;
   }

@@ -1,36 +1,19 @@
 -- The start window of a unit: its steps.
--- Used by spi_starting: services.StartRight, spi_starting: services.StartAround and 23 more.
-use Rattle.std.specs.Prelude.{ℕ, ◌+◌, ◌==◌, nat_lt, nat_le, Bool, true, false, ◌&&◌, not, if◌then◌else◌, List, [], ◌∷◌, Option, Some, None, bit_or}
-use Rattle.mcal_base.specs.declared.moves.Event.TheVariants.{Start}
-use Rattle.mcal_base.specs.declared.moves.Move.{Move}
-use Rattle.mcal_base.specs.declared.moves.Move.TheVariants.{Write, Load, Store, Mask}
-use Rattle.mcal_base.specs.declared.moves.Unit as units
-use Rattle.mcal_base.specs.declared.moves.Unit.TheVariants.{Spi0, Spi1}
-use Rattle.mcal_base.specs.declared.register.Reg.TheVariants.{SerialSelect, SerialWidth, SerialData}
-use Rattle.mcal_base.specs.declared.routine.Taken.{Taken}
-use Rattle.word_shapes.specs.PriorityQueue.{next_move, next_left, next_gave, front_move, front_left, front_gave}
-use Rattle.word_shapes.specs.TripleBuffer.{take_move, take_left, take_gave}
-use Rattle.word_shapes.specs.declared.choosing.Front.{Front}
-use Rattle.word_shapes.specs.declared.choosing.Next.{Next}
-use Rattle.word_shapes.specs.declared.choosing.Next.TheVariants as nexts
-use Rattle.word_shapes.specs.declared.take.Take.{Take}
-use Rattle.run_model.specs.Machine.{select_of}
-use Rattle.spi_jobs.specs.Parts.{has_ended, gave, releasing, preparing, prepare_move, prepare_left, prepare_ends, finding_first, find_move, find_left, find_gave}
-use Rattle.spi_jobs.specs.declared.channel.Placed.{Placed}
-use Rattle.spi_jobs.specs.declared.channel.Side.TheVariants.{Sent}
-use Rattle.spi_jobs.specs.declared.finding.Find.{Find}
-use Rattle.spi_jobs.specs.declared.preparing.Prepare.{Prepare}
-use Rattle.spi_machine.specs.Table.{job_of, sequence_of, priority_by, is_interruptible, select_by}
-use Rattle.spi_machine.specs.Wiring.{placed_of, channel_number, list_of, channel_at_place, job_at_place}
-use Rattle.spi_sequences.specs.Words.{running_word, position_word, search_of, packed_run, next_in, started_bit, has_mark}
-use Rattle.spi_machine.specs.declared.table.SpiTable.{SpiTable}
-use Rattle.spi_sequences.specs.declared.service.start.Chosen.{Chosen}
-use Rattle.spi_sequences.specs.declared.service.start.StartPlace.{StartPlace}
-use Rattle.spi_sequences.specs.declared.service.start.StartPlace.TheVariants as start
-use Rattle.spi_sequences.specs.declared.service.start.Started.{Started}
+-- Used by spi_starting: services.StartRight, spi_starting: services.StartAround and 21 more.
+use Rattle.std.specs.Prelude.{◌+◌, ◌==◌, ◌&&◌, if◌then◌else◌, [], ◌∷◌}
+use Rattle.spi_sequences.specs.StepTerms
+use StepTerms.{bit_or, Bool, channel_at_place, channel_number, Chosen, false, Find, find_gave, find_left, find_move}
+use StepTerms.{finding_first, Front, front_gave, front_left, front_move, gave, has_ended, has_mark, is_interruptible}
+use StepTerms.{job_at_place, job_of, List, list_of, Load, MARKS, Mask, Move, nat_le, nat_lt, Next, next_gave, next_in}
+use StepTerms.{next_left, next_move, NEXTS, None, not, Option, packed_run, Placed, placed_of, position_word, Prepare}
+use StepTerms.{prepare_ends, prepare_left, prepare_move, preparing, priority_by, releasing, Running, running_word}
+use StepTerms.{search_of, select_by, select_of, Sent, sequence_of, SerialData, SerialSelect, SerialWidth, Some, Spi0}
+use StepTerms.{Spi1, SpiTable, Start, Started, started_bit, StartPlace, Store, Take, take_gave, take_left, take_move}
+use StepTerms.{Taken, true, Write, ℕ}
 use Rattle.spi_sequences.specs.declared.service.start.Started.TheVariants.{Goes, Over}
-use Rattle.spi_sequences.specs.declared.words.Running.{Running}
-use Rattle.spi_sequences.specs.declared.words.TheConstants.{MARKS, NEXTS}
+use Rattle.mcal_base.specs.declared.moves.Unit as units
+use Rattle.word_shapes.specs.declared.choosing.Next.TheVariants as nexts
+use Rattle.spi_sequences.specs.declared.service.start.StartPlace.TheVariants as start
 
 -- the marks with that of the sequence, which has started
 abbrev pub marks_started : Chosen → ℕ

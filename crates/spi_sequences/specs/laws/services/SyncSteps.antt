@@ -1,47 +1,23 @@
 -- Spi_SyncTransmit: its steps.
 -- From services.ServeSteps, services.StartSteps.
--- Used by spi_sending: services.SendRight, spi_sending: services.SendFuel, spi_sending: services.SendOwed and 16 more.
-use Rattle.std.specs.Prelude.{ℕ, ◌+◌, ◌-◌, ◌/◌, ◌%◌, ◌==◌, nat_lt, nat_le, Bool, true, false, ◌&&◌, if◌then◌else◌, [], ◌∷◌, Option, Some, None, slice_index_or, slice_set}
-use Rattle.mcal_base.specs.declared.answer_name.AnswerName.TheVariants.{EOk, ENotOk}
-use Rattle.mcal_base.specs.declared.error_name.ErrorName.TheVariants.{SpiSeqInProcess}
-use Rattle.mcal_base.specs.declared.moves.Event.{Event}
-use Rattle.mcal_base.specs.declared.moves.Event.TheVariants.{Act, Start}
-use Rattle.mcal_base.specs.declared.moves.Move.{Move}
-use Rattle.mcal_base.specs.declared.moves.Move.TheVariants.{Read, Write, Load, Store, Mask, Unmask}
-use Rattle.mcal_base.specs.declared.register.Reg.TheVariants.{SerialSelect, SerialWidth, SerialData, SerialReceived, SerialWait}
-use Rattle.mcal_base.specs.declared.service.Service.TheVariants.{SpiSyncTransmit}
-use Rattle.run_model.specs.Machine.{select_of, named}
-use Rattle.service_outline.specs.Done.{goes, ends, owed_error}
-use Rattle.service_outline.specs.declared.done.BodyTaken.{BodyTaken}
-use Rattle.service_outline.specs.declared.done.Epilogue.TheVariants.{Nothing}
-use Rattle.word_shapes.specs.TripleBuffer.{put_move, put_left, put_gave}
-use Rattle.word_shapes.specs.declared.put.Put.{Put}
-use Rattle.spi_jobs.specs.Parts.{has_ended, committing, finding_first, find_move, find_left, find_gave, asking, taker_of, keep_move, keep_left, keep_ends, preparing, prepare_move, prepare_left, prepare_ends}
-use Rattle.spi_jobs.specs.declared.channel.Placed.{Placed}
-use Rattle.spi_jobs.specs.declared.channel.Side.TheVariants.{Received}
-use Rattle.spi_jobs.specs.declared.finding.Find.{Find}
-use Rattle.spi_jobs.specs.declared.keeping.Keep.{Keep}
-use Rattle.spi_jobs.specs.declared.keeping.Taker.{Taker}
-use Rattle.spi_jobs.specs.declared.keeping.Taker.TheVariants as takers
-use Rattle.spi_jobs.specs.declared.preparing.Prepare.{Prepare}
-use Rattle.spi_machine.specs.Machine.{reporting}
-use Rattle.spi_machine.specs.Table.{job_of, select_by}
-use Rattle.spi_machine.specs.Wiring.{placed_of, channel_number, list_of, jobs_list, channel_at_place, job_at_place}
-use Rattle.spi_machine.specs.declared.table.SpiTable.{SpiTable}
-use Rattle.spi_sequences.specs.Words.{running_word, position_word, job_word, sequence_word, packed_run, with_next_in}
-use Rattle.spi_sequences.specs.declared.service.serve.Arrived.{Arrived}
-use Rattle.spi_sequences.specs.declared.service.serve.SequenceNext.TheVariants as courses
-use Rattle.spi_sequences.specs.declared.service.serve.ServePlace.{ServePlace}
-use Rattle.spi_sequences.specs.declared.service.serve.ServePlace.TheVariants as serve
-use Rattle.spi_sequences.specs.declared.service.serve.Served.{Served}
-use Rattle.spi_sequences.specs.declared.service.sync.SyncBody.{SyncBody}
-use Rattle.spi_sequences.specs.declared.service.sync.SyncPlace.{SyncPlace}
-use Rattle.spi_sequences.specs.declared.service.sync.SyncPlace.TheVariants as place
-use Rattle.spi_sequences.specs.declared.words.Position.{Position}
-use Rattle.spi_sequences.specs.declared.words.Running.{Running}
-use Rattle.spi_sequences.specs.declared.words.TheConstants.{NEXTS, FAILED, PENDING}
-use Rattle.spi_sequences.specs.laws.services.ServeSteps.{serve_move, serve_takes, begins_of, keep_of, first_internal}
+-- Used by spi_sending: services.SendRight, spi_sending: services.SendFuel, spi_sending: services.SendOwed and 15 more.
+use Rattle.std.specs.Prelude.{◌+◌, ◌-◌, ◌/◌, ◌%◌, ◌==◌, ◌&&◌, if◌then◌else◌, [], ◌∷◌}
+use Rattle.spi_sequences.specs.StepTerms
+use StepTerms.{Act, Arrived, asking, BodyTaken, Bool, channel_at_place, channel_number, committing, ends, ENotOk, EOk}
+use StepTerms.{Event, FAILED, false, Find, find_gave, find_left, find_move, finding_first, goes, has_ended}
+use StepTerms.{job_at_place, job_of, job_word, jobs_list, Keep, keep_ends, keep_left, keep_move, list_of, Load, Mask}
+use StepTerms.{Move, named, nat_le, nat_lt, NEXTS, None, Nothing, Option, owed_error, packed_run, PENDING, Placed}
+use StepTerms.{placed_of, Position, position_word, Prepare, prepare_ends, prepare_left, prepare_move, preparing, Put}
+use StepTerms.{put_gave, put_left, put_move, Read, Received, reporting, Running, running_word, select_by, select_of}
+use StepTerms.{sequence_word, SerialData, SerialReceived, SerialSelect, SerialWait, SerialWidth, Served, ServePlace}
+use StepTerms.{slice_index_or, slice_set, Some, SpiSeqInProcess, SpiSyncTransmit, SpiTable, Start, Store, SyncBody}
+use StepTerms.{SyncPlace, Taker, taker_of, true, Unmask, with_next_in, Write, ℕ}
+use Rattle.spi_sequences.specs.laws.services.ServeSteps.{begins_of, first_internal, keep_of, serve_move, serve_takes}
 use Rattle.spi_sequences.specs.laws.services.StartSteps.{unit_named}
+use Rattle.spi_jobs.specs.declared.keeping.Taker.TheVariants as takers
+use Rattle.spi_sequences.specs.declared.service.serve.SequenceNext.TheVariants as courses
+use Rattle.spi_sequences.specs.declared.service.serve.ServePlace.TheVariants as serve
+use Rattle.spi_sequences.specs.declared.service.sync.SyncPlace.TheVariants as place
 
 -- the place of a job's first word
 abbrev pub first_place : Position

@@ -1,44 +1,56 @@
--- Frames that start or serve units: their steps.
--- From services.RequestSteps, services.ServeSteps, services.StartSteps.
--- Used by spi_driver: services.UnitBounds, spi_driver: bookkeeping.MaskDiscipline and 17 more.
-use Rattle.std.specs.Prelude.{ℕ, zero, suc, Bool, true, false, Option, Some, None}
-use Rattle.mcal_base.specs.declared.answer_name.AnswerName.TheVariants.{EOk, ENotOk}
-use Rattle.mcal_base.specs.declared.error_name.ErrorName.TheVariants.{SpiSeqPending}
-use Rattle.mcal_base.specs.declared.moves.Event.{Event}
-use Rattle.mcal_base.specs.declared.moves.Event.TheVariants.{Act}
-use Rattle.mcal_base.specs.declared.moves.Move.{Move}
-use Rattle.mcal_base.specs.declared.moves.Move.TheVariants.{Load, Unmask, Note}
-use Rattle.mcal_base.specs.declared.notice.Notice.{Notice}
-use Rattle.mcal_base.specs.declared.service.Service.TheVariants.{SpiAsyncTransmit}
-use Rattle.run_model.specs.Machine.{no_answer, named}
-use Rattle.service_outline.specs.Done.{goes, acts, ends, owed_error}
-use Rattle.service_outline.specs.declared.done.BodyTaken.{BodyTaken}
-use Rattle.service_outline.specs.declared.done.Epilogue.TheVariants.{Nothing}
-use Rattle.spi_machine.specs.Machine.{reporting}
-use Rattle.spi_machine.specs.Table.{is_sync_unit}
-use Rattle.spi_machine.specs.declared.table.SpiTable.{SpiTable}
-use Rattle.spi_sequences.specs.declared.service.request.RequestPlace.{RequestPlace}
-use Rattle.spi_sequences.specs.declared.service.request.Requested.{Requested}
+-- Frames that request, start or serve: their steps.
+-- From services.ServeSteps, services.StartSteps.
+-- Used by spi_driver: services.UnitBounds, spi_driver: bookkeeping.MaskDiscipline and 16 more.
+use Rattle.std.specs.Prelude.{◌+◌, ◌==◌, ◌&&◌, ◌||◌, if◌then◌else◌}
+use Rattle.spi_sequences.specs.StepTerms
+use StepTerms.{Act, acts, Add, add_gave, add_left, add_move, After, BodyTaken, Bool, ends, ENotOk, EOk, Event, false}
+use StepTerms.{FrameRole, goes, Handler, has_ended, is_sync_unit, Load, Main, MARKS, Move, named, nat_lt, NEXTS}
+use StepTerms.{no_answer, None, Note, Nothing, Notice, Option, order_places, owed_error, PENDING, reporting, Requested}
+use StepTerms.{RequestPlace, Rest, sequence_word, ServePlace, ServeStep, shares, Some, SpiAsyncTransmit, SpiSeqPending}
+use StepTerms.{SpiTable, Started, StartPlace, STATE, Store, suc, Transmit, true, unit_of_sequence, UnitBody, UnitPlace}
+use StepTerms.{unmarked_in, Unmask, with_next_in, zero, ℕ}
+use Rattle.spi_sequences.specs.laws.services.{ServeSteps.{serve_move, serve_takes}, StartSteps.{start_move}}
+use Rattle.spi_sequences.specs.laws.services.StartSteps.{start_takes}
+use Rattle.word_shapes.specs.declared.add.Add.TheVariants as adds
+use Rattle.spi_sequences.specs.declared.service.request.RequestPlace.TheVariants as request
 use Rattle.spi_sequences.specs.declared.service.request.Requested.TheVariants as requested
-use Rattle.spi_sequences.specs.declared.service.serve.ServePlace.{ServePlace}
 use Rattle.spi_sequences.specs.declared.service.serve.ServePlace.TheVariants as serve
-use Rattle.spi_sequences.specs.declared.service.serve.ServeStep.{ServeStep}
 use Rattle.spi_sequences.specs.declared.service.serve.ServeStep.TheVariants as steps
-use Rattle.spi_sequences.specs.declared.service.start.StartPlace.{StartPlace}
 use Rattle.spi_sequences.specs.declared.service.start.StartPlace.TheVariants as start
-use Rattle.spi_sequences.specs.declared.service.start.Started.{Started}
 use Rattle.spi_sequences.specs.declared.service.start.Started.TheVariants as started
-use Rattle.spi_sequences.specs.declared.service.unit.After.{After}
 use Rattle.spi_sequences.specs.declared.service.unit.After.TheVariants as after
-use Rattle.spi_sequences.specs.declared.service.unit.FrameRole.{FrameRole}
-use Rattle.spi_sequences.specs.declared.service.unit.FrameRole.TheVariants.{Transmit, Handler, Main, Rest}
-use Rattle.spi_sequences.specs.declared.service.unit.UnitBody.{UnitBody}
-use Rattle.spi_sequences.specs.declared.service.unit.UnitPlace.{UnitPlace}
 use Rattle.spi_sequences.specs.declared.service.unit.UnitPlace.TheVariants as place
-use Rattle.spi_sequences.specs.declared.words.TheConstants.{STATE}
-use Rattle.spi_sequences.specs.laws.services.RequestSteps.{request_move, request_takes}
-use Rattle.spi_sequences.specs.laws.services.ServeSteps.{serve_move, serve_takes}
-use Rattle.spi_sequences.specs.laws.services.StartSteps.{start_move, start_takes}
+
+-- ---- the request of a sequence
+
+abbrev pub request_move : (sequence : ℕ) → RequestPlace → Move
+request_move q (request.Look k) = Load (sequence_word k)
+request_move q request.Accept = Store (sequence_word q) PENDING
+request_move q request.Nexts = Load NEXTS
+request_move q (request.First v) = Store NEXTS v
+request_move q request.Marks = Load MARKS
+request_move q (request.Unmark v) = Store MARKS v
+request_move q (request.Add p) = add_move p
+
+-- a sequence was looked at, and is in the way or not
+abbrev pub request_looked : ℕ → (in_the_way : Bool) → RequestPlace × Requested
+request_looked k true = (request.Look k, requested.Held)
+request_looked k false = (if nat_lt k 7 then request.Look (k + 1) else request.Accept, requested.Goes None)
+
+abbrev pub request_adds : Add → ℕ → (ended : Bool) → RequestPlace × Requested
+request_adds p v true = (request.Add (add_left p v), requested.Accepted)
+request_adds p v false = (request.Add (add_left p v), requested.Goes None)
+
+abbrev pub request_takes : SpiTable → (sequence : ℕ) → RequestPlace → ℕ → RequestPlace × Requested
+request_takes d q (request.Look k) v = request_looked k (v == PENDING && (k == q || shares d q k))
+request_takes d q request.Accept v = (request.Nexts, requested.Goes (Some Act))
+request_takes d q request.Nexts v = (request.First (with_next_in v q 0), requested.Goes None)
+request_takes d q (request.First x) v = (request.Marks, requested.Goes None)
+request_takes d q request.Marks v = (request.Unmark (unmarked_in v q), requested.Goes None)
+request_takes d q (request.Unmark x) v = (request.Add (adds.Count (order_places (unit_of_sequence d q)) q), requested.Goes None)
+request_takes d q (request.Add p) v = request_adds p v (has_ended (add_gave p v))
+
+-- ---- frames that start or serve units
 
 -- the sequence that is requested, 0 where none is
 abbrev pub requested_by : FrameRole → ℕ

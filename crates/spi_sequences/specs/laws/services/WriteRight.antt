@@ -1,32 +1,33 @@
 -- Spi_WriteIB: that it is right.
--- From words.SideWords, services.WriteSteps, words.WordsOfModule, words.ListTests and 10 more.
--- Used by spi_driver: bookkeeping.Lawful, spi_driver: bookkeeping.UnpolledFrames and 6 more.
+-- From words.SideWords, services.ChannelSteps, words.WordsOfModule, hardware.StableUnderHardware and 8 more.
+-- Used by spi_driver: bookkeeping.Lawful, services.InitRight, spi_driver: bookkeeping.UnpolledFrames and 5 more.
 use Rattle.std.proofs.Common.{◌≡◌, ◌+◌, ◌-◌, ◌*◌, ◌/◌, ◌%◌, ◌<◌, ◌≤◌, ◌==◌, ◌||◌, [], ◌∷◌, ◌++◌, ◌∙◌, if◌then◌else◌}
 use Rattle.spi_sequences.specs.Terms
-use Terms.{acts_by, AllRight, answers, ap, AreLong, arith, AssertedAt, bank_word, Banks, BanksAgree, begins_word}
-use Terms.{Bool, Call, Called, Channel, channel-seen, channel_at, channel_of, ChannelState, Chip, chip_after, chooses}
-use Terms.{choosing, commits, committing, Contains, control_word, DiffersIn, EOk, error_by, false, filling, fills}
-use Terms.{first_items, FitsSpi, FrameHistory, free_bank, fresh_history, get_or-replicate, happened, has_ended}
-use Terms.{is_closed, is_off, is_own_word, is_shared, is_some, Is_this_frame, IsReady, IsThisFrame, item-other}
-use Terms.{item-same, length, length-replicate, length-take-le, length_by, List, Load, LongBodies, lt_from, Mask, may}
-use Terms.{Memory, moved, named, nat_lt, nat_tests, never_clean, None, Null, Option, or_rest, Order, Origin, Outside}
-use Terms.{own-control, own-word, place_at, place_of, placed_of, PointAssertion, Pointer, prepares, Put, put_gave}
-use Terms.{put_held, put_left, put_more, Putting, readied_in, refl, Reservation, Reservations, resets_chip, Right}
-use Terms.{Sent, Shortens, slice_index_or, Some, Source, source_word, spi_basis, SpiRepresents, SpiState, SpiTable}
-use Terms.{stands-move, Store, subst, suc, sym, take, take_all, to_write, trio_of, TripleBuffer, true, TurnsTo, Under}
-use Terms.{Unmask, untouched, Users, value_of, view, whether_as, with_channel, Within, word_later, word_of, WORDS}
-use Terms.{words_from, World, world_after, WriteBody, WriteIb, Writing, Written, written_from, zero, ℕ}
+use Terms.{acts_by, AllRight, AllSend, answers, ap, AreCarried, AreLong, arith, AssertedAt, bank_word, Banks}
+use Terms.{begins_word, Bool, Call, Called, Channel, channel-seen, channel_at, channel_of, ChannelState, Chip}
+use Terms.{chip_after, chooses, choosing, commits, committing, Contains, control_word, DiffersIn, EOk, error_by, false}
+use Terms.{filling, fills, first_items, FitsSpi, FrameHistory, free_bank, fresh_history, get_or-replicate, happened}
+use Terms.{has_ended, is_closed, is_off, is_own_word, is_shared, is_some, Is_this_frame, IsReady, IsThisFrame}
+use Terms.{item-other, item-same, length, length-replicate, length-take-le, length_by, List, Load, LongBodies, lt_from}
+use Terms.{Mask, may, Memory, moved, named, nat_lt, nat_tests, never_clean, None, Null, Option, or_rest, Order, Origin}
+use Terms.{Outside, own-control, own-word, place_at, place_of, placed_of, PointAssertion, Pointer, Put, put_gave}
+use Terms.{put_held, put_left, put_more, Putting, refl, Reservation, Reservations, resets_chip, Right, Sent, Shortens}
+use Terms.{slice_index_or, Some, Source, source_word, spi_basis, SpiRepresents, SpiState, SpiTable, stands-move}
+use Terms.{StandsIn, Store, subst, suc, sym, take, take_all, take_held, TakeRight, to_write, trio_of, TripleBuffer}
+use Terms.{true, TurnsTo, Under, Unmask, untouched, Users, value_of, view, whether_as, with_channel, Within, word_later}
+use Terms.{word_of, words_from, World, world_after, WriteBody, WriteIb, Writing, Written, written_from, zero, ℕ}
 use Rattle.std.proofs.lemmas.List.{take_more}
-use Rattle.spi_sequences.specs.laws.{words.SideWords.{IsBeside, IsLike, banks_changed, beside_back, beside_one}}
-use Rattle.spi_sequences.specs.laws.{words.SideWords.{beside_then, differs_by_store, differs_none, mine, none_readied}}
-use Rattle.spi_sequences.specs.laws.{words.SideWords.{sent_changed, stands_by_store, trio_fits}}
-use Rattle.spi_sequences.specs.laws.{hardware.SourceFilled.{own_low}, hardware.AfterReset.{none_in}}
-use Rattle.spi_sequences.specs.laws.{bookkeeping.RefinementRight.{apart_agrees, frame_may}, words.KeptWords.{right_as}}
-use Rattle.spi_sequences.specs.laws.{hardware.StableUnderHardware.{mode_later, pointwise}}
-use Rattle.spi_sequences.specs.laws.{words.WordsOfModule.{has_channel, of_sixteen, own_banks, source_own}}
-use Rattle.spi_sequences.specs.laws.{services.ReadRight.{length-first}, words.WordsToState.{is_below, is_past}}
-use Rattle.spi_sequences.specs.laws.{words.WordsToState.{same_number}, services.SetUpRight.{may_store, may_users}}
-use Rattle.spi_sequences.specs.laws.{services.WriteSteps.{word_by, write_commits, write_from, write_takes, write_work}}
+use Rattle.spi_sequences.specs.laws.bookkeeping.RefinementRight.{apart_agrees, frame_may}
+use Rattle.spi_sequences.specs.laws.{hardware.SourceFilled.{own_low}, hardware.StableUnderHardware.{mode_later}}
+use Rattle.spi_sequences.specs.laws.{hardware.StableUnderHardware.{none_in, pointwise}, services.ChannelSteps.{word_by}}
+use Rattle.spi_sequences.specs.laws.services.ChannelSteps.{write_commits, write_from, write_takes, write_work}
+use Rattle.spi_sequences.specs.laws.{services.ReadRight.{length-first}, services.SetUpRight.{may_store, may_users}}
+use Rattle.spi_sequences.specs.laws.{words.SameWords.{right_as}, words.SideWords.{banks_changed, beside_back}}
+use Rattle.spi_sequences.specs.laws.words.SideWords.{beside_one, beside_then, differs_by_store, differs_none}
+use Rattle.spi_sequences.specs.laws.words.SideWords.{IsBeside, IsLike, mine, none_readied, sent_changed}
+use Rattle.spi_sequences.specs.laws.{words.SideWords.{stands_by_store, trio_fits}, words.WordsOfModule.{has_channel}}
+use Rattle.spi_sequences.specs.laws.words.WordsOfModule.{of_sixteen, own_banks, source_own}
+use Rattle.spi_sequences.specs.laws.words.WordsToState.{is_below, is_past, same_number}
 use Rattle.word_shapes.specs.TripleBuffer as trio
 use Rattle.word_shapes.specs.declared.put.Put.TheVariants as puts
 use Rattle.spi_machine.specs.declared.call.Call.TheVariants as calls
@@ -114,9 +115,6 @@ module _ (d : SpiTable) (fits : FitsSpi d) (below : Reservations) (r : Written) 
   abbrev banks : TripleBuffer
   banks = trio_of (placed_of d c) Sent
 
-  fit : trio.Fits banks
-  fit = trio_fits d fits c k i.known i.internal Sent
-
   is_one : (r.placed.number == c) ≡ true
   is_one = ap (λ n. n == c) number ∙ same_number c
 
@@ -168,103 +166,53 @@ module _ (d : SpiTable) (fits : FitsSpi d) (below : Reservations) (chip : Chip) 
   abbrev written : List ℕ
   written = all d fits below r c k i s
 
+  -- what it holds of its bank changes, with a word of the bank or none; what is sent stays
+  bank_held : (held : Reservations) (b n : ℕ) (y : Option ℕ) (chip1 : Chip) (h : SpiRepresents d held chip w s) → is_off s.mode ≡ false → IsBeside d fits c k i.known i.internal Sent held (has b n y)
+      → put_held d (view s).sources c true (has b n y) ≡ put_held d (view s).sources c true held → take_held c (has b n y) ≡ take_held c held → AllRight d s.mode s.channels below → AllSend d chip w h.going s below → AreCarried (view s) (has b n y) → IsReady written n y → StandsIn chip1 w → DiffersIn own chip chip1
+      → (x : Banks) → trio.Stands at (word_of chip1) x → x.newest ≡ (h.words.banks c k i.known i.internal).sent.newest → TakeRight h.going c x.take → x.put ≡ put_held d (view s).sources c false (has b n y) → SpiRepresents d (has b n y) chip1 w s
+  bank_held held b n y chip1 h on beside puts takes right sending carried ready outside differs x stands newest pinned put =
+      let z = h.words.banks c k i.known i.internal in
+      let none = none_readied d s.mode s.channels held on h.right in
+      banks_changed d fits c k i.known i.internal Sent held (has b n y) chip chip1 w s h on s.channels (same_channels d fits below r c k i s) outside differs beside (λ internal. (h.sizes on c k i.known).written internal)
+      (right_for d fits below r c k i s b n y on ready right) (tt, sending) carried
+      (λ internal. sent_changed d fits c k i.known i.internal held (has b n y) chip chip1 h.going (view s) (view s) differs beside refl puts takes x stands (λ p. newest ∙ z.written none.1)
+      (λ is. absurd (none_in _ (subst (λ xs. Contains xs (c, false)) (beside.readied ∙ none.0) is))) pinned put z)
+
+  aside_then : (b n : ℕ) (x : Option ℕ) (m : ℕ) (y : Option ℕ) → IsBeside d fits c k i.known i.internal Sent (has b n x) (has b m y)
+  aside_then b n x m y = beside_then d fits c k i.known i.internal Sent (has b n x) (has b m y) below (aside d fits below r c k i b n x) (aside d fits below r c k i b m y)
+
   -- a bank is chosen
   chosen_now : is_off s.mode ≡ false → SpiRepresents d below chip w s → (b : ℕ) → b ≡ trio.free (word_of chip at.control) → SpiRepresents d (has b 0 None) chip w s
-  chosen_now on h b e = banks_changed d fits c k i.known i.internal Sent below (has b 0 None) chip chip w s h on s.channels (same_channels d fits below r c k i s) h.outside (differs_none own chip h.outside.all.words) beside (λ internal. (h.sizes on c k i.known).written internal) (right_for d fits below r c k i s b 0 None on tt h.right) (tt, h.sending) h.carriers (λ internal. agreed)
-    where
-      beside : IsBeside d fits c k i.known i.internal Sent below (has b 0 None)
-      beside = aside d fits below r c k i b 0 None
-
-      x : BanksAgree d below h.going (word_of chip) (view s) c k
-      x = h.words.banks c k i.known i.internal
-
-      none : (readied_in below ≡ []) × (prepares below ≡ false)
-      none = none_readied d s.mode s.channels below on h.right
-
-      agreed : BanksAgree d (has b 0 None) h.going (word_of chip) (view s) c k
-      agreed = sent_changed d fits c k i.known i.internal below (has b 0 None) chip chip h.going (view s) (view s) (differs_none own chip h.outside.all.words) beside refl refl refl (choosing b x.sent)
-          (subst (λ n. trio.Stands at (word_of chip) (choosing n x.sent)) (sym e) (chooses at (word_of chip) x.sent x.sends))
-          (λ p. x.written none.1) (λ is. absurd (none_in _ (subst (λ xs. Contains xs (c, false)) (beside.readied ∙ none.0) is))) x.pinned (sym (puts_it d fits below r c k i (view s).sources b 0 None)) x
+  chosen_now on h b e =
+      let x = h.words.banks c k i.known i.internal in
+      bank_held below b 0 None chip h on (aside d fits below r c k i b 0 None) refl refl h.right h.sending h.carriers tt h.outside (differs_none own chip h.outside.all.words)
+      (choosing b x.sent) (subst (λ n. trio.Stands at (word_of chip) (choosing n x.sent)) (sym e) (chooses at (word_of chip) x.sent x.sends)) refl x.pinned (sym (puts_it d fits below r c k i (view s).sources b 0 None))
 
   -- the next word is ready, or isn't any more
   ready_now : (b n : ℕ) (x y : Option ℕ) → SpiRepresents d (has b n x) chip w s → IsReady written n y → SpiRepresents d (has b n y) chip w s
-  ready_now b n x y h ready = banks_changed d fits c k i.known i.internal Sent (has b n x) (has b n y) chip chip w s h on s.channels (same_channels d fits below r c k i s) h.outside (differs_none own chip h.outside.all.words) beside (λ internal. (h.sizes on c k i.known).written internal) (right_for d fits below r c k i s b n y on ready h.right.1) (tt, h.sending.1) h.carriers (λ internal. agreed)
-    where
-      on : is_off s.mode ≡ false
-      on = h.right.0.2
-
-      beside : IsBeside d fits c k i.known i.internal Sent (has b n x) (has b n y)
-      beside = beside_then d fits c k i.known i.internal Sent (has b n x) (has b n y) below (aside d fits below r c k i b n x) (aside d fits below r c k i b n y)
-
-      z : BanksAgree d (has b n x) h.going (word_of chip) (view s) c k
-      z = h.words.banks c k i.known i.internal
-
-      none : (readied_in (has b n x) ≡ []) × (prepares (has b n x) ≡ false)
-      none = none_readied d s.mode s.channels (has b n x) on h.right
-
-      agreed : BanksAgree d (has b n y) h.going (word_of chip) (view s) c k
-      agreed = sent_changed d fits c k i.known i.internal (has b n x) (has b n y) chip chip h.going (view s) (view s) (differs_none own chip h.outside.all.words) beside refl refl refl z.sent z.sends
-          (λ p. z.written none.1) (λ is. absurd (none_in _ (subst (λ xs. Contains xs (c, false)) (beside.readied ∙ none.0) is))) z.pinned
-          (z.writes ∙ puts_it d fits below r c k i (view s).sources b n x ∙ sym (puts_it d fits below r c k i (view s).sources b n y)) z
+  ready_now b n x y h ready =
+      let z = h.words.banks c k i.known i.internal in
+      bank_held (has b n x) b n y chip h h.right.0.2 (aside_then b n x n y) refl refl h.right.1 h.sending.1 h.carriers ready h.outside (differs_none own chip h.outside.all.words)
+      z.sent z.sends refl z.pinned (z.writes ∙ puts_it d fits below r c k i (view s).sources b n x ∙ sym (puts_it d fits below r c k i (view s).sources b n y))
 
   -- it is filled in
   filled_now : (b n v : ℕ) → SpiRepresents d (has b n (Some v)) chip w s → n < k.length → SpiRepresents d (has b (n + 1) None) (chip_after chip (Store (trio.word_at at b n) v) 0) w s
-  filled_now b n v h lt = banks_changed d fits c k i.known i.internal Sent (has b n (Some v)) (has b (n + 1) None) chip chip1 w s h on s.channels (same_channels d fits below r c k i s) (stands-move chip w (Store (trio.word_at at b n) v) 0 h.outside) differs beside (λ internal. (h.sizes on c k i.known).written internal) (right_for d fits below r c k i s b (n + 1) None on tt h.right.1) (tt, h.sending.1) h.carriers (λ internal. agreed)
-    where
-      chip1 : Chip
-      chip1 = chip_after chip (Store (trio.word_at at b n) v) 0
-
-      on : is_off s.mode ≡ false
-      on = h.right.0.2
-
-      whole : length chip.words ≡ WORDS
-      whole = h.outside.all.words
-
-      beside : IsBeside d fits c k i.known i.internal Sent (has b n (Some v)) (has b (n + 1) None)
-      beside = beside_then d fits c k i.known i.internal Sent (has b n (Some v)) (has b (n + 1) None) below (aside d fits below r c k i b n (Some v)) (aside d fits below r c k i b (n + 1) None)
-
-      z : BanksAgree d (has b n (Some v)) h.going (word_of chip) (view s) c k
-      z = h.words.banks c k i.known i.internal
-
-      none : (readied_in (has b n (Some v)) ≡ []) × (prepares (has b n (Some v)) ≡ false)
-      none = none_readied d s.mode s.channels (has b n (Some v)) on h.right
-
-      p : Putting
-      p = record { bank = b; filled = take n written }
-
-      open_put : z.sent.put ≡ Some p
-      open_put = z.writes ∙ puts_it d fits below r c k i (view s).sources b n (Some v)
-
-      few : length (take n written) ≡ n
-      few = length-take-le n written (let a = all_length d fits below r c k i s in omega (arith, a, lt))
-
-      width : at.len ≡ k.length
-      width = ap (λ x. x.length) (has_channel d fits c k i.known)
-
-      stands : trio.Stands at (word_of chip) z.sent
-      stands = z.sends
-
-      put_at : trio.PutStands at (word_of chip) z.sent.bank z.sent.take p
-      put_at = subst (λ o. trio.PutIn at (word_of chip) z.sent.bank z.sent.take o) open_put stands.put
-
-      owned : own (trio.word_at at b n) ≡ true
-      owned = own-word at b n put_at.below (omega (arith, lt, width))
-
-      differs : DiffersIn own chip chip1
-      differs = differs_by_store own chip (trio.word_at at b n) v whole owned
-
-      more : take n written ++ v ∷ [] ≡ take (n + 1) written
-      more = ap (λ y. take n written ++ y ∷ []) (ready_of d fits below r c k i s b n (Some v) h.right) ∙ sym (take_more written n 0 (let a = all_length d fits below r c k i s in omega (arith, a, lt)))
-
-      filled_stands : trio.Stands at (word_of chip1) (filling v p z.sent)
-      filled_stands = subst (λ j. trio.Stands at (word_of (chip_after chip (Store (trio.word_at at b j) v) 0)) (filling v p z.sent)) few
-          (stands_by_store at chip (trio.word_at at b (length (take n written))) v (filling v p z.sent) (fit d fits below r c k i) whole (subst (λ j. own (trio.word_at at b j) ≡ true) (sym few) owned)
-          (fills at (word_of chip) z.sent p v (fit d fits below r c k i) (omega (arith, few, lt, width)) open_put stands))
-
-      agreed : BanksAgree d (has b (n + 1) None) h.going (word_of chip1) (view s) c k
-      agreed = sent_changed d fits c k i.known i.internal (has b n (Some v)) (has b (n + 1) None) chip chip1 h.going (view s) (view s) differs beside refl refl refl (filling v p z.sent) filled_stands
-          (λ q. z.written none.1) (λ is. absurd (none_in _ (subst (λ xs. Contains xs (c, false)) (beside.readied ∙ none.0) is))) z.pinned
-          (ap (λ ys. Some (record { bank = b; filled = ys })) more ∙ sym (puts_it d fits below r c k i (view s).sources b (n + 1) None)) z
+  filled_now b n v h lt =
+      let z = h.words.banks c k i.known i.internal in
+      let p : Putting = record { bank = b; filled = take n written } in
+      let a = all_length d fits below r c k i s in
+      let few : length (take n written) ≡ n = length-take-le n written (omega (arith, a, lt)) in
+      let width : at.len ≡ k.length = ap (λ x. x.length) (has_channel d fits c k i.known) in
+      let open_put : z.sent.put ≡ Some p = z.writes ∙ puts_it d fits below r c k i (view s).sources b n (Some v) in
+      let put_at = subst (λ o. trio.PutIn at (word_of chip) z.sent.bank z.sent.take o) open_put z.sends.put in
+      let owned : own (trio.word_at at b n) ≡ true = own-word at b n put_at.below (omega (arith, lt, width)) in
+      let more : take n written ++ v ∷ [] ≡ take (n + 1) written = ap (λ y. take n written ++ y ∷ []) (ready_of d fits below r c k i s b n (Some v) h.right) ∙ sym (take_more written n 0 (omega (arith, a, lt))) in
+      bank_held (has b n (Some v)) b (n + 1) None (chip_after chip (Store (trio.word_at at b n) v) 0) h h.right.0.2 (aside_then b n (Some v) (n + 1) None) refl refl h.right.1 h.sending.1 h.carriers tt
+      (stands-move chip w (Store (trio.word_at at b n) v) 0 h.outside) (differs_by_store own chip (trio.word_at at b n) v h.outside.all.words owned) (filling v p z.sent)
+      (subst (λ j. trio.Stands at (word_of (chip_after chip (Store (trio.word_at at b j) v) 0)) (filling v p z.sent)) few
+      (stands_by_store at chip (trio.word_at at b (length (take n written))) v (filling v p z.sent) (trio_fits d fits c k i.known i.internal Sent) h.outside.all.words (subst (λ j. own (trio.word_at at b j) ≡ true) (sym few) owned)
+      (fills at (word_of chip) z.sent p v (trio_fits d fits c k i.known i.internal Sent) (omega (arith, few, lt, width)) open_put z.sends)))
+      refl z.pinned (ap (λ ys. Some (record { bank = b; filled = ys })) more ∙ sym (puts_it d fits below r c k i (view s).sources b (n + 1) None))
 
   -- the state with the words written
   abbrev after : SpiState
@@ -287,63 +235,30 @@ module _ (d : SpiTable) (fits : FitsSpi d) (below : Reservations) (chip : Chip) 
 
   -- the act: the bank is the newest
   committed_now : (b : ℕ) → SpiRepresents d (has b k.length None) chip w s → SpiRepresents d below (chip_after chip (Store at.control (b % 4 + 4 * (word_of chip at.control / 4))) 0) w after
-  committed_now b h = banks_changed d fits c k i.known i.internal Sent (has b k.length None) below chip chip1 w s h on after.channels written_like (stands-move chip w (Store at.control told) 0 h.outside) differs beside (λ internal. ap length sends_now ∙ from_length r.source k (channel_at s c)) (right_as d s.mode s.channels after.channels written_like.source below h.right.1) h.sending.1 h.carriers (λ internal. agreed)
-    where
-      told : ℕ
-      told = b % 4 + 4 * (word_of chip at.control / 4)
-
-      chip1 : Chip
-      chip1 = chip_after chip (Store at.control told) 0
-
-      on : is_off s.mode ≡ false
-      on = h.right.0.2
-
-      whole : length chip.words ≡ WORDS
-      whole = h.outside.all.words
-
-      beside : IsBeside d fits c k i.known i.internal Sent (has b k.length None) below
-      beside = beside_back d fits c k i.known i.internal Sent below (has b k.length None) (aside d fits below r c k i b k.length None)
-
-      z : BanksAgree d (has b k.length None) h.going (word_of chip) (view s) c k
-      z = h.words.banks c k i.known i.internal
-
-      none : (readied_in below ≡ []) × (prepares below ≡ false)
-      none = none_readied d s.mode s.channels below on h.right.1
-
-      p : Putting
-      p = record { bank = b; filled = take k.length written }
-
-      open_put : z.sent.put ≡ Some p
-      open_put = z.writes ∙ puts_it d fits below r c k i (view s).sources b k.length None
-
-      width : at.len ≡ k.length
-      width = ap (λ x. x.length) (has_channel d fits c k i.known)
-
-      few : length (take k.length written) ≡ k.length
-      few = length-take-le k.length written (let a = all_length d fits below r c k i s in omega (arith, a))
-
-      differs : DiffersIn own chip chip1
-      differs = differs_by_store own chip at.control told whole (own-control at)
-
+  committed_now b h =
+      let told : ℕ = b % 4 + 4 * (word_of chip at.control / 4) in
+      let z = h.words.banks c k i.known i.internal in
+      let p : Putting = record { bank = b; filled = take k.length written } in
+      let a = all_length d fits below r c k i s in
+      let few : length (take k.length written) ≡ k.length = length-take-le k.length written (omega (arith, a)) in
+      let width : at.len ≡ k.length = ap (λ x. x.length) (has_channel d fits c k i.known) in
+      let open_put : z.sent.put ≡ Some p = z.writes ∙ puts_it d fits below r c k i (view s).sources b k.length None in
+      let none = none_readied d s.mode s.channels below h.right.0.2 h.right.1 in
+      let differs = differs_by_store own chip at.control told h.outside.all.words (own-control at) in
+      let beside = beside_back d fits c k i.known i.internal Sent below (has b k.length None) (aside d fits below r c k i b k.length None) in
       -- what it sends now
-      sends_now : (channel_at after c).written ≡ words_from r.source k.length k (channel_at s c)
-      sends_now = ap (λ x. x.written) (item-same untouched s.channels c (written_from r.source (channel_of d c) (channel_at s c))) ∙ ap (λ o. (written_from r.source o (channel_at s c)).written) i.known
-
-      newest : take k.length written ≡ first_items 0 k.length (channel_at after c).written
-      newest =
-          take_all k.length written (let a = all_length d fits below r c k i s in omega (arith, a)) ∙ all_is d fits below r c k i s
-          ∙ sym (first-all k.length (words_from r.source k.length k (channel_at s c)) (from_length r.source k (channel_at s c))) ∙ ap (λ xs. first_items 0 k.length xs) (sym sends_now)
-
-      agreed : BanksAgree d below h.going (word_of chip1) (view after) c k
-      agreed = sent_changed d fits c k i.known i.internal (has b k.length None) below chip chip1 h.going (view s) (view after) differs beside received_same puts_same refl (committing p z.sent)
-          (stands_by_store at chip at.control told (committing p z.sent) (fit d fits below r c k i) whole (own-control at) (commits at (word_of chip) z.sent p (fit d fits below r c k i) (few ∙ sym width) open_put z.sends))
-          (λ q. newest) (λ is. absurd (none_in _ (subst (λ xs. Contains xs (c, false)) none.0 is))) z.pinned (sym (i.alone (view after).sources)) z
-        where
-          received_same : (channel_at after c).received ≡ (channel_at s c).received
-          received_same = ap (λ x. x.received) (item-same untouched s.channels c (written_from r.source (channel_of d c) (channel_at s c))) ∙ (kept_by (channel_of d c) (channel_at s c)).3
-
-          puts_same : put_held d (view after).sources c true below ≡ put_held d (view s).sources c true below
-          puts_same = ap (λ f. put_held d f c true below) (pointwise (view after).sources (view s).sources written_like.source)
+      let sends_now : (channel_at after c).written ≡ words_from r.source k.length k (channel_at s c) =
+      ap (λ x. x.written) (item-same untouched s.channels c (written_from r.source (channel_of d c) (channel_at s c))) ∙ ap (λ o. (written_from r.source o (channel_at s c)).written) i.known in
+      let newest : take k.length written ≡ first_items 0 k.length (channel_at after c).written =
+      take_all k.length written (omega (arith, a)) ∙ all_is d fits below r c k i s
+      ∙ sym (first-all k.length (words_from r.source k.length k (channel_at s c)) (from_length r.source k (channel_at s c))) ∙ ap (λ xs. first_items 0 k.length xs) (sym sends_now) in
+      let received_same = ap (λ x. x.received) (item-same untouched s.channels c (written_from r.source (channel_of d c) (channel_at s c))) ∙ (kept_by (channel_of d c) (channel_at s c)).3 in
+      let puts_same = ap (λ f. put_held d f c true below) (pointwise (view after).sources (view s).sources written_like.source) in
+      banks_changed d fits c k i.known i.internal Sent (has b k.length None) below chip (chip_after chip (Store at.control told) 0) w s h h.right.0.2 after.channels written_like (stands-move chip w (Store at.control told) 0 h.outside) differs beside (λ internal. ap length sends_now ∙ from_length r.source k (channel_at s c))
+      (right_as d s.mode s.channels after.channels written_like.source below h.right.1) h.sending.1 h.carriers
+      (λ internal. sent_changed d fits c k i.known i.internal (has b k.length None) below chip (chip_after chip (Store at.control told) 0) h.going (view s) (view after) differs beside received_same puts_same refl (committing p z.sent)
+      (stands_by_store at chip at.control told (committing p z.sent) (trio_fits d fits c k i.known i.internal Sent) h.outside.all.words (own-control at) (commits at (word_of chip) z.sent p (trio_fits d fits c k i.known i.internal Sent) (few ∙ sym width) open_put z.sends))
+      (λ q. newest) (λ is. absurd (none_in _ (subst (λ xs. Contains xs (c, false)) none.0 is))) z.pinned (sym (i.alone (view after).sources)) z)
 
 -- ---- the steps
 
@@ -357,7 +272,9 @@ put_small t m x p e h = (subst (λ o. trio.PutIn t m x.bank x.take o) e h.put).b
 -- the frame stands at the word of a place, or after the last one
 onward : (d : SpiTable) (fits : FitsSpi d) (below : Reservations) (chip : Chip) (w : World) (s : SpiState) (r : Written) (b n c : ℕ) (k : Channel) (i : IsWriter d r below c k) → b < 3 → n ≤ k.length → SpiRepresents d (holding d fits below r c k i b n None) chip w s
     → AssertedAt (spi_basis d) (write_bodies d) below chip w s (write_from r b n) (Called (asks c r.source)) fresh_history
-onward d fits below chip w s r b n c k i lt few h = by (nat_lt n r.placed.channel.length) refl
+onward d fits below chip w s r b n c k i lt few h = whether_as (nat_lt n r.placed.channel.length) (λ q. AssertedAt (spi_basis d) (write_bodies d) below chip w s (if q then word_by r.source r b n else write.Shut r b) (Called (asks c r.source)) fresh_history)
+    (λ e. words r.source refl (is_below n r.placed.channel.length e))
+    (λ e. (subst (λ j. SpiRepresents d (holding d fits below r c k i b j None) chip w s) (let past = is_past n r.placed.channel.length e in omega (arith, past, few, width)) h, ((c, k, Is_this_frame, i), lt)))
   where
     width : r.placed.channel.length ≡ k.length
     width = len d fits below r c k i
@@ -371,35 +288,22 @@ onward d fits below chip w s r b n c k i lt few h = by (nat_lt n r.placed.channe
     words Users e less = (h, ((c, k, Is_this_frame, i), lt, less, e))
     words Null e less = (ready_now d fits below chip w s r c k i b n None (Some r.placed.channel.default_data) h (default less e), ((c, k, Is_this_frame, i), lt, less))
 
-    by : (q : Bool) → nat_lt n r.placed.channel.length ≡ q → AssertedAt (spi_basis d) (write_bodies d) below chip w s (if nat_lt n r.placed.channel.length then word_by r.source r b n else write.Shut r b) (Called (asks c r.source)) fresh_history
-    by true e = subst (λ q. AssertedAt (spi_basis d) (write_bodies d) below chip w s (if q then word_by r.source r b n else write.Shut r b) (Called (asks c r.source)) fresh_history) (sym e) (words r.source refl (is_below n r.placed.channel.length e))
-    by false e = subst (λ q. AssertedAt (spi_basis d) (write_bodies d) below chip w s (if q then word_by r.source r b n else write.Shut r b) (Called (asks c r.source)) fresh_history) (sym e)
-        (subst (λ j. SpiRepresents d (holding d fits below r c k i b j None) chip w s) (let past = is_past n r.placed.channel.length e in omega (arith, past, few, width)) h, ((c, k, Is_this_frame, i), lt))
-
 module _ (d : SpiTable) (fits : FitsSpi d) where
   write_steps : (below : Reservations) (chip : Chip) (w : World) (s : SpiState) (k : WriteBody) (o : Origin Call) (y : ℕ) (t : FrameHistory) (m : ℕ → Bool) → AssertedAt (spi_basis d) (write_bodies d) below chip w s k o t → Right (spi_basis d) (write_bodies d) below chip w s k o y t m
   write_steps below chip w s (write.Choose r) o y t m (h, ((c, k, Is_this_frame, i), on)) =
-      (chosen_now d fits below chip w s r c k i on h (free_bank v) is, ((c, k, Is_this_frame, i), small))
-    where
-      v : ℕ
-      v = word_of chip (control_word r.placed Sent)
-
-      is : free_bank v ≡ trio.free (word_of chip (banks d fits below r c k i).control)
-      is = free_few v ∙ ap (λ j. trio.free (word_of chip j)) (control d fits below r c k i)
-
-      small : free_bank v < 3
-      small = let x = chosen_now d fits below chip w s r c k i on h (free_bank v) is in let z = x.words.banks c k i.known i.internal in put_small (banks d fits below r c k i) (word_of chip) z.sent (record { bank = free_bank v; filled = [] }) (z.writes ∙ puts_it d fits below r c k i (view s).sources (free_bank v) 0 None) z.sends
+      let v : ℕ = word_of chip (control_word r.placed Sent) in
+      let is : free_bank v ≡ trio.free (word_of chip (banks d fits below r c k i).control) = free_few v ∙ ap (λ j. trio.free (word_of chip j)) (control d fits below r c k i) in
+      let x = chosen_now d fits below chip w s r c k i on h (free_bank v) is in
+      let z = x.words.banks c k i.known i.internal in
+      let small = put_small (banks d fits below r c k i) (word_of chip) z.sent (record { bank = free_bank v; filled = [] }) (z.writes ∙ puts_it d fits below r c k i (view s).sources (free_bank v) 0 None) z.sends in
+      (x, ((c, k, Is_this_frame, i), small))
   write_steps below chip w s (write.Opens r b) o y t m (h, ((c, k, Is_this_frame, i), lt)) = onward d fits below (chip_after chip Unmask y) w s r b 0 c k i lt (omega arith) (apart_agrees d fits _ chip w s Unmask y refl h)
   write_steps below chip w s (write.Load r b n) o y t m (h, ((c, k, Is_this_frame, i), lt, less, e)) =
+      let width = len d fits below r c k i in
+      let is : word_of chip (source_word r.placed n) ≡ slice_index_or (all d fits below r c k i s) n 0 =
+      ap (λ x. word_of chip (source_word x n)) i.placed ∙ (h.arrays c).source n (subst (λ z. n < length_by z) (sym i.known) (omega (arith, less, width)))
+      ∙ sym (first-at k.length (channel_at s c).source n (omega (arith, less, width))) ∙ sym (ap (λ q. slice_index_or (words_from q k.length k (channel_at s c)) n 0) e) ∙ sym (ap (λ xs. slice_index_or xs n 0) (all_is d fits below r c k i s)) in
       (ready_now d fits below chip w s r c k i b n None (Some (word_of chip (source_word r.placed n))) h is, ((c, k, Is_this_frame, i), lt, less))
-    where
-      width : r.placed.channel.length ≡ k.length
-      width = len d fits below r c k i
-
-      is : word_of chip (source_word r.placed n) ≡ slice_index_or (all d fits below r c k i s) n 0
-      is =
-          ap (λ x. word_of chip (source_word x n)) i.placed ∙ (h.arrays c).source n (subst (λ z. n < length_by z) (sym i.known) (omega (arith, less, width)))
-          ∙ sym (first-at k.length (channel_at s c).source n (omega (arith, less, width))) ∙ sym (ap (λ q. slice_index_or (words_from q k.length k (channel_at s c)) n 0) e) ∙ sym (ap (λ xs. slice_index_or xs n 0) (all_is d fits below r c k i s))
   write_steps below chip w s (write.Fill r b n v) o y t m (h, ((c, k, Is_this_frame, i), lt, less)) =
       let width : r.placed.channel.length ≡ k.length = len d fits below r c k i in
       let small : k.length ≤ 64 = (fits.channels c k i.known).few in
@@ -408,26 +312,22 @@ module _ (d : SpiTable) (fits : FitsSpi d) where
       (subst (λ x. SpiRepresents d (holding d fits below r c k i b (n + 1) None) (chip_after chip (Store (bank_word x Sent b n) v) y) w s) (sym i.placed) (filled_now d fits below chip w s r c k i b n v h (omega (arith, less, width)))))
   write_steps below chip w s (write.Shut r b) o y t m (h, ((c, k, Is_this_frame, i), lt)) = (apart_agrees d fits _ chip w s Mask y refl h, ((c, k, Is_this_frame, i), lt, (refl, refl)))
   write_steps below chip w s (write.Commit r b (puts.Commit j n)) o y t m (h, (writing, lt, (at, is))) = (h, (writing, lt, (at, ap (λ z. z % 4 + 4 * (word_of chip j / 4)) is)))
-  write_steps below chip w s (write.Commit r b (puts.Tell j v)) o y t m (h, ((c, k, Is_this_frame, i), lt, (at, is))) = record {
-    may = refl;
-    stands = tt;
-    state = with_channel s c (written_from r.source (channel_of d c) (channel_at s c));
-    told = answers (named EOk);
-    begins = None;
-    is = ap (λ off. Some (acts_by d s (asks c r.source) (error_by d (asks c r.source) off false))) h.right.0.2 ∙ ap (λ e. Some (acts_by d s (asks c r.source) e)) i.clear;
-    sends = tt;
-    acts = tt;
-    reset = refl;
-    next = (subst (λ z. SpiRepresents d below (chip_after chip (Store z v) y) w (with_channel s c (written_from r.source (channel_of d c) (channel_at s c)))) (sym same) (subst (λ n. SpiRepresents d below (chip_after chip (Store (banks d fits below r c k i).control n) y) w (with_channel s c (written_from r.source (channel_of d c) (channel_at s c)))) (sym (is ∙ ap (λ z. b % 4 + 4 * (word_of chip z / 4)) same)) (committed_now d fits below chip w s r c k i b whole)), record { may = (refl, refl); served = false; owed = refl; shown = λ e. absurd (cc); report = refl });
-  }
-    where
-      same : j ≡ (banks d fits below r c k i).control
-      same = at ∙ control d fits below r c k i
-
-      whole : SpiRepresents d (holding d fits below r c k i b k.length None) chip w s
-      whole = subst (λ n. SpiRepresents d (holding d fits below r c k i b n None) chip w s) (len d fits below r c k i) h
-  write_steps below chip w s (write.Commit r b (puts.Choose j)) o y t m (h, (writing, lt, at)) = absurd at
-  write_steps below chip w s (write.Commit r b (puts.Fill j v)) o y t m (h, (writing, lt, at)) = absurd at
+  write_steps below chip w s (write.Commit r b (puts.Tell j v)) o y t m (h, ((c, k, Is_this_frame, i), lt, (at, is))) =
+      let same = at ∙ control d fits below r c k i in
+      let whole = subst (λ n. SpiRepresents d (holding d fits below r c k i b n None) chip w s) (len d fits below r c k i) h in
+      record {
+        may = refl;
+        stands = tt;
+        state = with_channel s c (written_from r.source (channel_of d c) (channel_at s c));
+        told = answers (named EOk);
+        begins = None;
+        is = ap (λ off. Some (acts_by d s (asks c r.source) (error_by d (asks c r.source) off false))) h.right.0.2 ∙ ap (λ e. Some (acts_by d s (asks c r.source) e)) i.clear;
+        sends = tt;
+        acts = tt;
+        reset = refl;
+        next = (subst (λ z. SpiRepresents d below (chip_after chip (Store z v) y) w (with_channel s c (written_from r.source (channel_of d c) (channel_at s c)))) (sym same) (subst (λ n. SpiRepresents d below (chip_after chip (Store (banks d fits below r c k i).control n) y) w (with_channel s c (written_from r.source (channel_of d c) (channel_at s c)))) (sym (is ∙ ap (λ z. b % 4 + 4 * (word_of chip z / 4)) same)) (committed_now d fits below chip w s r c k i b whole)), record { may = (refl, refl); served = false; owed = refl; shown = λ e. absurd (cc); report = refl });
+      }
+  write_steps below chip w s (write.Commit r b _) o y t m h = absurd h.1.2
 
 -- ---- the bodies
 
@@ -479,29 +379,23 @@ module _ (d : SpiTable) where
 
     write_own : (below : Reservations) (chip : Chip) (w : World) (s : SpiState) (k : WriteBody) (o : Origin Call) (t : FrameHistory) → AssertedAt (spi_basis d) (write_bodies d) below chip w s k o t → is_shared (write_work k) || may d (write_work k) ≡ true
     write_own below chip w s (write.Choose r) o t (h, ((c, k, being, i), on)) = may_store d fits _ 0 (own_control_of below r c k i)
-    write_own below chip w s (write.Opens r b) o t h = refl
     write_own below chip w s (write.Load r b n) o t (h, ((c, k, being, i), lt, less, e)) =
         ap (λ x. may d (Load (source_word x n))) i.placed ∙ may_users d fits (place_of (Source c) n) (source_own d fits c n (subst (λ z. n < length_by z) (sym i.known) (let width = len d fits below r c k i in omega (arith, less, width))))
         (let few = (fits.channels c k i.known).few in let width = len d fits below r c k i in let small = of_sixteen d c k fits i.known in omega (arith, less, few, width, small))
     write_own below chip w s (write.Fill r b n v) o t (h, ((c, k, being, i), lt, less)) =
         may_store d fits _ v (ap (λ x. is_own_word d (bank_word x Sent b n)) i.placed ∙ own_banks d fits c k i.known i.internal Sent _ (own-word (trio_of (placed_of d c) Sent) b n lt (let width = len d fits below r c k i in let n1 = ap (λ x. x.length) (has_channel d fits c k i.known) in omega (arith, less, width, n1))))
-    write_own below chip w s (write.Shut r b) o t h = refl
     write_own below chip w s (write.Commit r b (puts.Commit j n)) o t (h, ((c, k, being, i), lt, (at, is))) = may_store d fits j 0 (ap (is_own_word d) at ∙ own_control_of below r c k i)
     write_own below chip w s (write.Commit r b (puts.Tell j v)) o t (h, ((c, k, being, i), lt, (at, is))) = may_store d fits j v (ap (is_own_word d) at ∙ own_control_of below r c k i)
-    write_own below chip w s (write.Commit r b (puts.Choose j)) o t (h, (writing, lt, at)) = absurd at
-    write_own below chip w s (write.Commit r b (puts.Fill j v)) o t (h, (writing, lt, at)) = absurd at
+    write_own below chip w s (write.Commit r b _) o t h = absurd h.1.2
+    write_own below chip w s _ o t h = refl
 
     write_later : (below : Reservations) (chip : Chip) (w : World) (s : SpiState) (order : Order) (k : WriteBody) (o : Origin Call) (t : FrameHistory) → AssertedAt (spi_basis d) (write_bodies d) below chip w s k o t → place_at (write_spot d k) below ((spi_basis d).foot (happened chip order)) (world_after w chip.clock.rate order) (moved d w s order) o t
     write_later below chip w s order (write.Choose r) o t (h, (writing, on)) = (writing, ap is_off (mode_later d w s order) ∙ on)
-    write_later below chip w s order (write.Opens r b) o t (h, place) = place
-    write_later below chip w s order (write.Load r b n) o t (h, place) = place
-    write_later below chip w s order (write.Fill r b n v) o t (h, place) = place
-    write_later below chip w s order (write.Shut r b) o t (h, place) = place
-    write_later below chip w s order (write.Commit r b (puts.Commit j n)) o t (h, place) = place
     write_later below chip w s order (write.Commit r b (puts.Tell j v)) o t (h, ((c, k, being, i), lt, (at, is))) =
         ((c, k, being, i), lt, (at, is ∙ ap (λ n. b % 4 + 4 * (n / 4)) (sym (word_later chip order j h.outside.all.words (own_low d fits j (ap (is_own_word d) at ∙ own_control_of below r c k i))))))
     write_later below chip w s order (write.Commit r b (puts.Choose j)) o t (h, (writing, lt, at)) = absurd at
     write_later below chip w s order (write.Commit r b (puts.Fill j v)) o t (h, (writing, lt, at)) = absurd at
+    write_later below chip w s order _ o t (h, place) = place
 
     pub write_right : AreLong (spi_basis d) (write_bodies d)
     write_right = record {

@@ -1,10 +1,11 @@
 -- What a driver that is made of a configuration has by its form: its rows.
+-- From words.Cases.
 -- Used by spi_driver: words.ConfigurationFits, spi_driver: bookkeeping.Lawful, spi_sending: services.SendBegins.
-use Rattle.std.proofs.Common.{◌≡◌, ◌==◌, [], ◌∷◌, if◌then◌else◌}
+use Rattle.std.proofs.Common.{◌≡◌, ◌==◌, [], ◌∷◌, if◌then◌else◌, ◌∙◌}
 use Rattle.spi_sequences.specs.Terms
-use Terms.{Bool, false, is_some, Job, job_in, job_of, jobs_by_number, length, List, None, Option, refl, same_Some}
-use Terms.{Sequence, sequence_in, sequence_of, sequences_by_number, slice_index_or, Some, SpiConfig, SpiJob}
-use Terms.{SpiSequence, subst, suc, table_of, taken_job, taken_sequence, true, zero, ℕ}
+use Terms.{ap, is_some, Job, job_in, job_of, jobs_by_number, length, List, None, Option, refl, same_Some, Sequence}
+use Terms.{sequence_in, sequence_of, sequences_by_number, slice_index_or, Some, SpiConfig, SpiJob, SpiSequence, subst}
+use Terms.{suc, sym, table_of, taken_job, taken_sequence, true, whether, zero, ℕ}
 
 -- each configured item of a row is so
 abbrev pub AllSo : {A : Type 0} → (A → Type 0) → List (Option A) → Type 0
@@ -29,19 +30,15 @@ SequenceRow k = length k.jobs.numbers ≡ 16
 
 job_row_in : (xs : List SpiJob) (j : ℕ) (k : Job) → job_in xs j ≡ Some k → JobRow k
 job_row_in [] j k e = absurd (cc)
-job_row_in (x ∷ xs) j k e = by (x.id == j) e (λ f. job_row_in xs j k f)
-  where
-    by : (q : Bool) → (if q then Some (taken_job x) else job_in xs j) ≡ Some k → (job_in xs j ≡ Some k → JobRow k) → JobRow k
-    by true f rest = subst JobRow (same_Some (taken_job x) k f) refl
-    by false f rest = rest f
+job_row_in (x ∷ xs) j k e = whether (x.id == j)
+    (λ f. subst JobRow (same_Some (taken_job x) k (sym (ap (λ q. if q then Some (taken_job x) else job_in xs j) f) ∙ e)) refl)
+    (λ f. job_row_in xs j k (sym (ap (λ q. if q then Some (taken_job x) else job_in xs j) f) ∙ e))
 
 sequence_row_in : (xs : List SpiSequence) (q : ℕ) (k : Sequence) → sequence_in xs q ≡ Some k → SequenceRow k
 sequence_row_in [] q k e = absurd (cc)
-sequence_row_in (x ∷ xs) q k e = by (x.id == q) e (λ f. sequence_row_in xs q k f)
-  where
-    by : (b : Bool) → (if b then Some (taken_sequence x) else sequence_in xs q) ≡ Some k → (sequence_in xs q ≡ Some k → SequenceRow k) → SequenceRow k
-    by true f rest = subst SequenceRow (same_Some (taken_sequence x) k f) refl
-    by false f rest = rest f
+sequence_row_in (x ∷ xs) q k e = whether (x.id == q)
+    (λ f. subst SequenceRow (same_Some (taken_sequence x) k (sym (ap (λ b. if b then Some (taken_sequence x) else sequence_in xs q) f) ∙ e)) refl)
+    (λ f. sequence_row_in xs q k (sym (ap (λ b. if b then Some (taken_sequence x) else sequence_in xs q) f) ∙ e))
 
 pub job_row : (g : SpiConfig) (j : ℕ) (k : Job) → job_of (table_of g) j ≡ Some k → length k.channels.numbers ≡ 4
 job_row g j k e = let r = job_row_in g.jobs in so_at JobRow (jobs_by_number g.jobs) (r 0, (r 1, (r 2, (r 3, (r 4, (r 5, (r 6, (r 7, (r 8, (r 9, (r 10, (r 11, (r 12, (r 13, (r 14, (r 15, tt)))))))))))))))) j k e

@@ -1,17 +1,17 @@
 -- What a job sends of its channels as it starts: its words are the machine's.
--- From services.ReadRight, services.WriteRight, words.Cases, words.ListTests, words.WordsOfModule.
--- Used by spi_starting: words.FirstWord, spi_sending: services.SendGoesOn, spi_starting: ToBegin and 13 more.
+-- From services.ReadRight, services.WriteRight, words.Cases, words.WordsOfModule.
+-- Used by spi_starting: services.StartRight, spi_sending: services.SendGoesOn, spi_starting: ToBegin and 11 more.
 use Rattle.std.proofs.Common.{◌≡◌, ◌+◌, ◌*◌, ◌/◌, ◌%◌, ◌<◌, ◌≤◌, ◌==◌, [], ◌∷◌, ◌++◌, ◌∙◌, if◌then◌else◌}
 use Rattle.spi_sequences.specs.Terms
 use Terms.{ap, arith, as_words, Bool, Channel, channel_at, channel_of, channel_words, ChannelState, Chip}
-use Terms.{ExternalAgrees, false, FitsSpi, flag, flat_map, flat_map-cons, get_or-replicate, goes_by, goes_to}
-use Terms.{held_word, InternalAgrees, is_off, is_users, length, length-replicate, length_by, List, map, Memory, None}
-use Terms.{not_set_up, Nowhere, Null, Option, or_none, packed, Part, placed_of, Pointer, Position, refl, Reservations}
-use Terms.{set_up_code, set_up_or, set_up_word, SetUp, SetUpFits, slice_index_or, Some, source_word, SpiRepresents}
-use Terms.{SpiState, SpiTable, subst, sym, ToChannel, true, unpacked, Users, whether, width_by, word_of, words_from}
-use Terms.{words_of, World, ℕ}
-use Rattle.spi_sequences.specs.laws.{words.WordsOfModule.{has_channel}, services.ReadRight.{length-first}}
-use Rattle.spi_sequences.specs.laws.{words.WordsToState.{other_number}, services.WriteRight.{first-at}}
+use Terms.{ExternalAgrees, false, FitsSpi, flag, flat_map, flat_map-cons, get_or-replicate, goes_by, goes_to, held_word}
+use Terms.{InternalAgrees, is_off, is_users, length, length-replicate, length_by, List, map, Memory, None, not_set_up}
+use Terms.{Nowhere, Null, Option, or_none, packed, Part, placed_of, Pointer, Position, refl, Reservations, set_up_code}
+use Terms.{set_up_or, set_up_word, SetUp, SetUpFits, slice_index_or, Some, source_word, SpiRepresents, SpiState}
+use Terms.{SpiTable, subst, sym, ToChannel, true, unpacked, Users, whether, width_by, word_of, words_from, words_of}
+use Terms.{World, ℕ}
+use Rattle.spi_sequences.specs.laws.{services.ReadRight.{length-first}, services.WriteRight.{first-at}}
+use Rattle.spi_sequences.specs.laws.{words.WordsOfModule.{has_channel}, words.WordsToState.{other_number}}
 use Rattle.spi_jobs.specs.declared.set_up.SetUp as jobs
 
 -- ---- the parts
@@ -46,15 +46,13 @@ module _ (d : SpiTable) (s : SpiState) where
   channels_are (c ∷ cs) = ap (λ n. n ∷ map (λ x. x.channel) (first_parts d s cs)) (channel_is c) ∙ ap (λ xs. c ∷ xs) (channels_are cs)
 
   part_words : (c : ℕ) → as_words (part_at d s c).channel (width_by (channel_of d (part_at d s c).channel)) (part_at d s c).goes (part_at d s c).values ≡ channel_words c (channel_of d c) (channel_at s c)
-  part_words c = ap (λ n. as_words n (width_by (channel_of d n)) (part_at d s c).goes (part_at d s c).values) (channel_is c) ∙ by (channel_of d c)
+  part_words c = ap (λ n. as_words n (width_by (channel_of d n)) (part_at d s c).goes (part_at d s c).values) (channel_is c) ∙ (
+      elim (channel_of d c) as (λ o. as_words c (width_by o) (part_by c o (channel_at s c)).goes (part_by c o (channel_at s c)).values ≡ channel_words c o (channel_at s c))
+      [ None ↦ refl | Some k ↦ of k k.internal ])
     where
       of : (k : Channel) (q : Bool) → as_words c k.width (part_for c k (channel_at s c) q).goes (part_for c k (channel_at s c) q).values ≡ (if q then as_words c k.width ToChannel (channel_at s c).written else as_words c k.width (goes_to (set_up_or k (channel_at s c).set_up).destination) (words_from (set_up_or k (channel_at s c).set_up).source (set_up_or k (channel_at s c).set_up).words k (channel_at s c)))
       of k true = refl
       of k false = refl
-
-      by : (o : Option Channel) → as_words c (width_by o) (part_by c o (channel_at s c)).goes (part_by c o (channel_at s c)).values ≡ channel_words c o (channel_at s c)
-      by None = refl
-      by (Some k) = of k k.internal
 
   -- its words are those of the job
   pub words_are : (cs : List ℕ) → words_of d (first_parts d s cs) ≡ flat_map (λ c. channel_words c (channel_of d c) (channel_at s c)) cs
@@ -69,8 +67,35 @@ module _ (d : SpiTable) (s : SpiState) where
 abbrev pub as_read : SetUp → jobs.SetUp
 as_read y = record { source = is_users y.source; destination = is_users y.destination; length = y.words }
 
-same_set_up : (a b : Bool) (n : ℕ) (x : jobs.SetUp) → x.source ≡ a → x.destination ≡ b → x.length ≡ n → x ≡ record { source = a; destination = b; length = n }
-same_set_up a b n x e f g = ap (λ q. record { source = q; destination = x.destination; length = x.length }) e ∙ ap (λ q. record { source = a; destination = q; length = x.length }) f ∙ ap (λ m. record { source = a; destination = b; length = m }) g
+-- a set-up of few enough words is read back from its word
+pub unpacked_back : (x : jobs.SetUp) → x.length < 256 → unpacked (packed x) ≡ x
+unpacked_back x few = same (unpacked (packed x)) (first x.source x.destination) (second x.source x.destination) (third (flag x.source) (flag x.destination) (flag_few x.source) (flag_few x.destination))
+  where
+    same : (y : jobs.SetUp) → y.source ≡ x.source → y.destination ≡ x.destination → y.length ≡ x.length → y ≡ x
+    same y e f g = ap (λ q. record { source = q; destination = y.destination; length = y.length }) e ∙ ap (λ q. record { source = x.source; destination = q; length = y.length }) f ∙ ap (λ n. record { source = x.source; destination = x.destination; length = n }) g
+
+    flag_few : (q : Bool) → flag q ≤ 1
+    flag_few true = omega arith
+    flag_few false = omega arith
+
+    flagged : (q : Bool) → (flag q == 1) ≡ q
+    flagged true = refl
+    flagged false = refl
+
+    first_digit : (a b : ℕ) → a ≤ 1 → (a + 2 * b + 4 * x.length) % 2 ≡ a
+    first_digit a b le = omega (arith, le)
+
+    second_digit : (a b : ℕ) → a ≤ 1 → b ≤ 1 → (a + 2 * b + 4 * x.length) / 2 % 2 ≡ b
+    second_digit a b le less = omega (arith, le, less)
+
+    third : (a b : ℕ) → a ≤ 1 → b ≤ 1 → (a + 2 * b + 4 * x.length) / 4 % 256 ≡ x.length
+    third a b le less = omega (arith, le, less, few)
+
+    first : (a b : Bool) → ((flag a + 2 * flag b + 4 * x.length) % 2 == 1) ≡ a
+    first a b = ap (λ z. z == 1) (first_digit (flag a) (flag b) (flag_few a)) ∙ flagged a
+
+    second : (a b : Bool) → ((flag a + 2 * flag b + 4 * x.length) / 2 % 2 == 1) ≡ b
+    second a b = ap (λ z. z == 1) (second_digit (flag a) (flag b) (flag_few a) (flag_few b)) ∙ flagged b
 
 some_word : (v n : ℕ) → 0 < n → 4 * n ≤ v → (v == 0) ≡ false
 some_word v n lt le = other_number v 0 (λ e. omega (arith, lt, le, e))
@@ -78,30 +103,7 @@ some_word v n lt le = other_number v 0 (λ e. omega (arith, lt, le, e))
 read_back : (k : Channel) (a b : Bool) (n : ℕ) → 0 < n → n < 256 → or_none (packed (record { source = a; destination = b; length = n })) k ≡ record { source = a; destination = b; length = n }
 read_back k a b n lt few =
     ap (λ q. if q then not_set_up k else unpacked (packed (record { source = a; destination = b; length = n }))) (some_word (packed (record { source = a; destination = b; length = n })) n lt (omega arith))
-    ∙ same_set_up a b n (unpacked (packed (record { source = a; destination = b; length = n }))) (first a b) (second a b) (third (flag a) (flag b) (flag_few a) (flag_few b))
-  where
-    flag_few : (q : Bool) → flag q ≤ 1
-    flag_few true = omega arith
-    flag_few false = omega arith
-
-    first_digit : (x y : ℕ) → x ≤ 1 → (x + 2 * y + 4 * n) % 2 ≡ x
-    first_digit x y le = omega (arith, le)
-
-    second_digit : (x y : ℕ) → x ≤ 1 → y ≤ 1 → (x + 2 * y + 4 * n) / 2 % 2 ≡ y
-    second_digit x y le less = omega (arith, le, less)
-
-    third : (x y : ℕ) → x ≤ 1 → y ≤ 1 → (x + 2 * y + 4 * n) / 4 % 256 ≡ n
-    third x y le less = omega (arith, le, less, few)
-
-    flagged : (q : Bool) → (flag q == 1) ≡ q
-    flagged true = refl
-    flagged false = refl
-
-    first : (a b : Bool) → ((flag a + 2 * flag b + 4 * n) % 2 == 1) ≡ a
-    first a b = ap (λ z. z == 1) (first_digit (flag a) (flag b) (flag_few a)) ∙ flagged a
-
-    second : (a b : Bool) → ((flag a + 2 * flag b + 4 * n) / 2 % 2 == 1) ≡ b
-    second a b = ap (λ z. z == 1) (second_digit (flag a) (flag b) (flag_few a) (flag_few b)) ∙ flagged b
+    ∙ unpacked_back (record { source = a; destination = b; length = n }) few
 
 -- the set-up that is read of a channel's word is the machine's
 pub read_set_up : (k : Channel) (o : Option SetUp) → k.length ≤ 64 → SetUpFits k o → or_none (set_up_code o) k ≡ as_read (set_up_or k o)
@@ -146,20 +148,17 @@ module _ (d : SpiTable) (fits : FitsSpi d) (below : Reservations) (chip : Chip) 
   -- where the set-up is held of it
   pub external_part : k.internal ≡ false → (m : Memory) (at : Position) (n : ℕ) → ((i : ℕ) → i < k.length → m (source_word (placed_of d c) i) ≡ word_of chip (source_word (placed_of d c) i))
       → m (held_word (placed_of d c)) ≡ packed (as_read (set_up_or k stands.set_up)) → ExternalAgrees m (placed_of d c) at n (part_at d s c)
-  external_part e m at n same held = subst (λ x. ExternalAgrees m (placed_of d c) at n x) (sym (part_is false e)) (record {
-    by = as_read y;
-    held = held;
-    count = from_count y.source y.words;
-    few = subst (λ x. y.words ≤ x.length) (sym width) f.1;
-    goes = goes_is y.destination;
-    ahead = λ i lt is. sent_is m same y.source y.words i f.1 lt;
-  })
-    where
-      y : SetUp
-      y = set_up_or k stands.set_up
-
-      f : (0 < y.words) × (y.words ≤ k.length)
-      f = set_up_fits k stands.set_up (fits.channels c k known).some ((h.sizes on c k known).set_up e)
+  external_part e m at n same held =
+      let y : SetUp = set_up_or k stands.set_up in
+      let f = set_up_fits k stands.set_up (fits.channels c k known).some ((h.sizes on c k known).set_up e) in
+      subst (λ x. ExternalAgrees m (placed_of d c) at n x) (sym (part_is false e)) (record {
+        by = as_read y;
+        held = held;
+        count = from_count y.source y.words;
+        few = subst (λ x. y.words ≤ x.length) (sym width) f.1;
+        goes = goes_is y.destination;
+        ahead = λ i lt is. sent_is m same y.source y.words i f.1 lt;
+      })
 
   -- the word that a frame holds of it
   pub held_is : k.internal ≡ false → packed (or_none (word_of chip (set_up_word (placed_of d c))) (placed_of d c).channel) ≡ packed (as_read (set_up_or k stands.set_up))
@@ -167,9 +166,8 @@ module _ (d : SpiTable) (fits : FitsSpi d) (below : Reservations) (chip : Chip) 
 
   -- it has words
   pub some_words : 0 < length (part_at d s c).values
-  some_words = whether k.internal
+  some_words =
+      let some = (fits.channels c k known).some in
+      whether k.internal
       (λ e. subst (λ x. 0 < length x.values) (sym (part_is true e)) (subst (λ n. 0 < n) (sym ((h.sizes on c k known).written e)) some))
       (λ e. subst (λ x. 0 < length x.values) (sym (part_is false e)) (subst (λ n. 0 < n) (sym (from_count (set_up_or k stands.set_up).source (set_up_or k stands.set_up).words)) (set_up_fits k stands.set_up some ((h.sizes on c k known).set_up e)).0))
-    where
-      some : 0 < k.length
-      some = (fits.channels c k known).some

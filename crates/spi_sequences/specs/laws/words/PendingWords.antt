@@ -1,20 +1,21 @@
 -- Words of sequences, jobs and orders change with what is pending; the rest of the agreement stays.
--- From words.WordsOfModule, words.SameWords, hardware.AfterReset, services.SetUpRight, words.KeptWords and 2 more.
--- Used by spi_starting: words.UnitWords, spi_driver: bookkeeping.MainFunctionHold and 16 more.
-use Rattle.std.proofs.Common.{◌≡◌, ◌+◌, ◌<◌, ◌≤◌, ◌∷◌, ◌∙◌}
+-- From words.SameWords, words.WordsOfModule, words.WordsToState, hardware.StableUnderHardware and 2 more.
+-- Used by spi_starting: services.StartRight, spi_starting: words.UnitWords and 19 more.
+use Rattle.std.proofs.Common.{◌≡◌, ◌+◌, ◌<◌, ◌≤◌, ◌==◌, ◌&&◌, ◌∷◌, ◌∙◌}
 use Rattle.spi_sequences.specs.Terms
-use Terms.{AllRight, AllSend, AnswerName, ap, AreCarried, AreOwed, arith, BanksAgree, Bool, Call, carried_at}
-use Terms.{CarriesAgrees, Channel, channel_of, Chip, Contains, Debt, Destination, DiffersIn, false, FitsSpi}
-use Terms.{flat_map-cons, Going, has_bit, held_word, idle, is_off, IsSoundState, length, List, Memory, None, Option}
-use Terms.{Pending, place_of, placed_of, position_word, prepares, put_held, PutRight, readied_by, readied_in, refl}
-use Terms.{Reservation, Reservations, ReservedBy, run_at, run_carried, RunAgrees, running_word, RunsNext}
-use Terms.{SequencesAgree, set_up_word, slice_index, slice_index_or, Some, Source, source_word, SpiRepresents}
-use Terms.{SpiState, SpiTable, StandsIn, STATE, stored_by, stored_in, subst, sym, take_held, true, UnitAgrees, View}
-use Terms.{view, word_of, World, ℕ}
-use Rattle.spi_sequences.specs.laws.{words.SameWords.{banks_words, going_words}, hardware.AfterReset.{none_in}}
-use Rattle.spi_sequences.specs.laws.{words.KeptWords.{banks_view}, words.WordsOfModule.{of_banks, of_held, of_set_up}}
-use Rattle.spi_sequences.specs.laws.{words.WordsOfModule.{past_the_first}, words.WordsToState.{going_next}}
-use Rattle.spi_sequences.specs.laws.{words.SendsKept.{sends_as}, services.SetUpRight.{none_stored}}
+use Terms.{AllRight, AllSend, Answer, AnswerName, ap, AreCarried, AreOwed, arith, BanksAgree, Bool, Call, carried_at}
+use Terms.{CarriesAgrees, cases, Channel, channel_of, Chip, Cleared, Contains, Debt, Destination, DiffersIn, false}
+use Terms.{FitsSpi, flat_map-cons, Going, has_bit, held_word, idle, is_for, is_off, is_owed, IsSoundState, length, List}
+use Terms.{Memory, None, not, Option, Origin, Pending, place_of, placed_of, position_word, prepares, put_held}
+use Terms.{readied_by, readied_in, refl, Reservation, Reservations, ReservedBy, run_at, run_carried, RunAgrees}
+use Terms.{running_word, RunsNext, same_or_other, SequencesAgree, set_up_word, slice_index, slice_index_or, Some}
+use Terms.{Source, source_word, SpiRepresents, SpiState, SpiTable, StandsIn, STATE, stored_by, stored_in, subst, sym}
+use Terms.{take_held, true, UnitAgrees, View, view, word_of, World, ℕ}
+use Rattle.spi_sequences.specs.laws.{hardware.StableUnderHardware.{none_in}, services.SetUpRight.{none_stored}}
+use Rattle.spi_sequences.specs.laws.words.SameWords.{banks_as, banks_view, banks_words, going_words, sends_as}
+use Rattle.spi_sequences.specs.laws.words.WordsOfModule.{of_banks, of_held, of_set_up, past_the_first}
+use Rattle.spi_sequences.specs.laws.words.WordsToState.{going_free, going_next, other_number}
+use Rattle.mcal_base.specs.facts.Truths.{and_second}
 
 -- frames that hold the same of channels
 pub record HoldsLike (d : SpiTable) (held held1 : Reservations) : Type 0 where
@@ -41,20 +42,7 @@ holds_debt d x u held e = subst (λ y. HoldsLike d held (record { by = x.by; wha
 })
 
 pub banks_held : (d : SpiTable) (held held1 : Reservations) (going : ℕ → Option Going) (m : Memory) (v : View) (c : ℕ) (k : Channel) → HoldsLike d held held1 → BanksAgree d held going m v c k → BanksAgree d held1 going m v c k
-banks_held d held held1 going m v c k b h = record {
-  sent = h.sent;
-  sends = h.sends;
-  written = λ none. h.written (sym b.prepares ∙ none);
-  readied_sent = λ is. h.readied_sent (subst (λ xs. Contains xs (c, false)) b.readied is);
-  pinned = h.pinned;
-  writes = h.writes ∙ sym (b.puts v.sources c false);
-  received = h.received;
-  receives = h.receives;
-  readable = λ none. h.readable (sym b.prepares ∙ none);
-  readied_received = λ is. h.readied_received (subst (λ xs. Contains xs (c, true)) b.readied is);
-  reads = h.reads ∙ sym (b.takes c);
-  keeps = subst (λ o. PutRight going m (placed_of d c) o h.received.put) (sym (b.puts v.sources c true)) h.keeps;
-}
+banks_held d held held1 going m v c k b h = banks_as d held held1 going going m m v v c k (λ side j is. refl) (λ o t. t) (λ a o t. t) refl refl (b.puts v.sources c) (b.takes c) b.prepares b.readied h
 
 -- what is held changes alone
 pub holds_changed : (d : SpiTable) (held held1 : Reservations) (chip : Chip) (w : World) (s : SpiState) (h : SpiRepresents d held chip w s) → HoldsLike d held held1 → AllRight d s.mode s.channels held1 → AllSend d chip w h.going s held1 → AreCarried (view s) held1 → AreOwed d held1 h.going s → SpiRepresents d held1 chip w s
@@ -139,3 +127,33 @@ module _ (d : SpiTable) (fits : FitsSpi d) (below held1 : Reservations) (chip ch
     where
       banks_kept : (c : ℕ) (x : Channel) → channel_of d c ≡ Some x → x.internal ≡ true → BanksAgree d below h.going (word_of chip1) (view s) c x
       banks_kept c x known internal = banks_words d fits below h.going (word_of chip) (word_of chip1) (view s) c x known (above (held_word (placed_of d c)) (past_the_first d c x _ (fits.channels c x known) (of_held d fits c x known))) (λ side j is. above j (past_the_first d c x j (fits.channels c x known) (of_banks d fits c x known internal side j is))) (h.words.banks c x known internal)
+
+-- ---- A frame has cleared a unit that it leaves busy, or without a sequence that waits.
+
+-- what a frame of this origin holds that acted so and has cleared the unit
+abbrev pub cleared_of : (number : ℕ) → Origin Call → Option Answer → ReservedBy Call Reservation
+cleared_of u by acted = record { by = by; what = Cleared u; acted = acted }
+
+-- it holds nothing of channels
+like : (d : SpiTable) (u : ℕ) (by : Origin Call) (acted : Option Answer) (held : Reservations) → HoldsLike d held (cleared_of u by acted ∷ held)
+like d u by acted held = record {
+  puts = λ sources n r. refl;
+  takes = λ n. refl;
+  prepares = refl;
+  readied = flat_map-cons (λ h. readied_by h.what) (cleared_of u by acted) held;
+  stored = flat_map-cons (λ h. stored_by h.what) (cleared_of u by acted) held;
+}
+
+module _ (d : SpiTable) (held : Reservations) (chip : Chip) (w : World) (s : SpiState) (u : ℕ) (by : Origin Call) (acted : Option Answer) where
+  -- a unit is cleared that is busy, or for which no sequence waits
+  pub clears : FitsSpi d → (h : SpiRepresents d held chip w s) → ((p : Pending) → run_at s u ≡ None → Contains s.pending p → is_for d u p ≡ true → ⊥) → SpiRepresents d (cleared_of u by acted ∷ held) chip w s
+  clears fits h none = holds_changed d held (cleared_of u by acted ∷ held) chip w s h (like d u by acted held) (tt, h.right) (tt, h.sending) h.carriers owed
+    where
+      owed : AreOwed d (cleared_of u by acted ∷ held) h.going s
+      owed n p lt free there for = cases (same_or_other n u)
+          (λ e. absurd (none p (ap (run_at s) (sym e) ∙ going_free d fits held chip w s h n lt free) there (subst (λ k. is_for d k p ≡ true) e for)))
+          (λ ne. ap (λ q. not q && is_owed n held) (other_number u n (λ e. ne (sym e))) ∙ h.owed n p lt free there for)
+
+  -- a frame that ends, or goes on, holds it no more
+  pub clear_over : SpiRepresents d (cleared_of u by acted ∷ held) chip w s → SpiRepresents d held chip w s
+  clear_over h = holds_changed d (cleared_of u by acted ∷ held) held chip w s h (holds_back d held (cleared_of u by acted ∷ held) (like d u by acted held)) h.right.1 h.sending.1 h.carriers (λ n p lt free there for. and_second (not (u == n)) (is_owed n held) (h.owed n p lt free there for))

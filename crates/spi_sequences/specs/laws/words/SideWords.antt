@@ -1,29 +1,28 @@
 -- The words of one side of an internal channel change, and what a frame holds of them; the rest of the agreement stays.
--- From words.WordsOfModule, words.KeptWords, words.ListTests, words.SameWords, hardware.SourceFilled and 5 more.
--- Used by services.WriteRight, services.ReadRight, services.InitPrepared, spi_starting: words.QuietWords and 14 more.
-use Rattle.std.proofs.Common.{◌≡◌, ◌≢◌, ◌+◌, ◌*◌, ◌<◌, ◌≤◌, ◌==◌, ◌&&◌, ◌||◌, [], ◌∷◌, ◌∙◌, ◌⊎◌, ◌++◌, if◌then◌else◌}
+-- From words.WordsOfModule, words.SameWords, hardware.SourceFilled, hardware.StableUnderHardware and 3 more.
+-- Used by services.WriteRight, services.ReadRight, services.InitPrepared and 11 more.
+use Rattle.std.proofs.Common.{◌≡◌, ◌≢◌, ◌+◌, ◌*◌, ◌<◌, ◌≤◌, ◌==◌, ◌&&◌, ◌||◌, [], ◌∷◌, ◌∙◌, ◌++◌, if◌then◌else◌}
 use Rattle.spi_sequences.specs.Terms
 use Terms.{AllRight, AllSend, ap, AreCarried, AreThere, arith, Banks, BanksAgree, block_of, Bool, Call, carried_at}
 use Terms.{CarriesAgrees, cases, Channel, channel_at, channel_of, ChannelState, Chip, chip_after, common_steps}
 use Terms.{Contains, control_word, Destination, differs-after, DiffersIn, false, first_items, first_word, FitsChannel}
-use Terms.{FitsSpi, flat_map-cons, Going, has_bit, HasWords, held_word, HeldRight, inl, inr, is_off, is_owed}
-use Terms.{is_preparing, length, length_by, List, Memory, Mode, nat_le, nat_lt, nat_tests, None, Option, or_rest}
-use Terms.{owes_by, Part, place_of, Placed, placed_of, prepares, Preparing, put_by, put_held, PutRight, Putting}
-use Terms.{readied_by, readied_in, Reading, Received, refl, replicate, Reservation, Reservations, ReservedBy, run_at}
-use Terms.{run_carried, RunAgrees, same_or_other, Sending, Sent, set_up_code, set_up_word, SetUpFits, Side, slice_get}
-use Terms.{slice_index, slice_index_or, Some, some_is, Source, source_word, SOURCES, SpiRepresents, SpiState}
-use Terms.{SpiTable, stands-agree, StandsIn, STATE, Store, stored, stored_by, stored_in, subst, sym, take, take_by}
-use Terms.{take_held, TakeRight, Taking, to_write, trio_of, TripleBuffer, true, unit_at, UnitAgrees, untouched, View}
-use Terms.{view, word_at, word_of, words-same, words_in, World, Writing, ℕ}
-use Rattle.spi_sequences.specs.laws.{words.SameWords.{sequences_alike, run_alike, banks_alike}}
-use Rattle.spi_sequences.specs.laws.{hardware.SourceFilled.{own_low, put_if}, hardware.AfterReset.{none_in}}
-use Rattle.spi_sequences.specs.laws.{words.KeptWords.{banks_view, next_view, sequences_as, sound_as}}
-use Rattle.spi_sequences.specs.laws.words.SendsKept.{sends_as}
-use Rattle.spi_sequences.specs.laws.{hardware.StableUnderHardware.{pointwise}, words.WordsOfModule.{IsWordOf}}
-use Rattle.spi_sequences.specs.laws.{words.WordsOfModule.{has_channel, internal_words, of_banks, of_held, of_one}}
-use Rattle.spi_sequences.specs.laws.{words.WordsOfModule.{of_set_up, own_banks, own_of_channel, past_the_first}}
+use Terms.{FitsSpi, flat_map-cons, Going, has_bit, HasWords, held_word, HeldRight, is_off, is_owed, is_preparing}
+use Terms.{length, length_by, List, Memory, Mode, nat_le, nat_lt, nat_tests, None, Option, or_rest, owes_by, Part}
+use Terms.{place_of, Placed, placed_of, prepares, Preparing, put_by, put_held, PutRight, readied_by, readied_in}
+use Terms.{Reading, Received, refl, replicate, Reservation, Reservations, ReservedBy, run_at, run_carried}
+use Terms.{same_or_other, Sending, Sent, set_up_code, set_up_word, SetUpFits, Side, slice_get, slice_index}
+use Terms.{slice_index_or, Some, some_is, Source, source_word, SOURCES, SpiRepresents, SpiState, SpiTable, stands-agree}
+use Terms.{StandsIn, STATE, Store, stored, stored_by, stored_in, subst, sym, take, take_by, take_held, TakeRight}
+use Terms.{Taking, to_write, trio_of, TripleBuffer, true, unit_at, UnitAgrees, untouched, View, view, word_at, word_of}
+use Terms.{words-same, words_in, World, Writing, ℕ}
+use Rattle.spi_sequences.specs.laws.{hardware.SourceFilled.{own_low, put_if}, hardware.StableUnderHardware.{none_in}}
+use Rattle.spi_sequences.specs.laws.{hardware.StableUnderHardware.{pointwise}, services.SetUpRight.{none_stored}}
+use Rattle.spi_sequences.specs.laws.words.SameWords.{banks_alike, banks_as, banks_view, next_view, put_words}
+use Rattle.spi_sequences.specs.laws.words.SameWords.{run_alike, sends_as, sequences_alike, sequences_as, sound_as}
+use Rattle.spi_sequences.specs.laws.words.WordsOfModule.{has_channel, internal_words, IsWordOf, of_banks, of_held}
+use Rattle.spi_sequences.specs.laws.words.WordsOfModule.{of_one, of_set_up, own_banks, own_of_channel, past_the_first}
 use Rattle.spi_sequences.specs.laws.{words.WordsOfModule.{starts_at}, words.WordsToState.{is_number, not_true}}
-use Rattle.spi_sequences.specs.laws.{words.WordsToState.{other_number}, services.SetUpRight.{none_stored}}
+use Rattle.spi_sequences.specs.laws.words.WordsToState.{other_number}
 use Rattle.word_shapes.specs.TripleBuffer as trio
 
 -- ---- the words of a side stand apart
@@ -42,25 +41,20 @@ pub sides_apart : (x : Placed) (side : Side) (j : ℕ) → trio.own_of (trio_of 
 sides_apart x Sent j e = second_half (control_word x Sent) x.channel.length j e
 sides_apart x Received j e = first_half (control_word x Sent) x.channel.length j e
 
-held_by_first : (f n : ℕ) → (f + 2 == f || (nat_le (f + 4) (f + 2) && nat_lt (f + 2) (f + 4 + 3 * n))) ≡ false
-held_by_first f n = grind (arith, nat_tests, common_steps)
+-- the third and the fourth word of a channel are of neither
+front_of_first : (f n i : ℕ) → 2 ≤ i → i < 4 → (f + i == f || (nat_le (f + 4) (f + i) && nat_lt (f + i) (f + 4 + 3 * n))) ≡ false
+front_of_first f n i low high = grind (arith, nat_tests, common_steps)
 
-held_by_second : (f n : ℕ) → (f + 2 == f + 1 || (nat_le (f + 4 + 3 * n) (f + 2) && nat_lt (f + 2) (f + 4 + 3 * n + 3 * n))) ≡ false
-held_by_second f n = grind (arith, nat_tests, common_steps)
+front_of_second : (f n i : ℕ) → 2 ≤ i → i < 4 → (f + i == f + 1 || (nat_le (f + 4 + 3 * n) (f + i) && nat_lt (f + i) (f + 4 + 3 * n + 3 * n))) ≡ false
+front_of_second f n i low high = grind (arith, nat_tests, common_steps)
 
 held_apart : (x : Placed) (side : Side) → trio.own_of (trio_of x side) (held_word x) ≡ false
-held_apart x Sent = held_by_first (control_word x Sent) x.channel.length
-held_apart x Received = held_by_second (control_word x Sent) x.channel.length
-
-set_up_by_first : (f n : ℕ) → (f + 3 == f || (nat_le (f + 4) (f + 3) && nat_lt (f + 3) (f + 4 + 3 * n))) ≡ false
-set_up_by_first f n = grind (arith, nat_tests, common_steps)
-
-set_up_by_second : (f n : ℕ) → (f + 3 == f + 1 || (nat_le (f + 4 + 3 * n) (f + 3) && nat_lt (f + 3) (f + 4 + 3 * n + 3 * n))) ≡ false
-set_up_by_second f n = grind (arith, nat_tests, common_steps)
+held_apart x Sent = front_of_first (control_word x Sent) x.channel.length 2 (omega arith) (omega arith)
+held_apart x Received = front_of_second (control_word x Sent) x.channel.length 2 (omega arith) (omega arith)
 
 pub set_up_by : (x : Placed) (side : Side) → trio.own_of (trio_of x side) (set_up_word x) ≡ false
-set_up_by x Sent = set_up_by_first (control_word x Sent) x.channel.length
-set_up_by x Received = set_up_by_second (control_word x Sent) x.channel.length
+set_up_by x Sent = front_of_first (control_word x Sent) x.channel.length 3 (omega arith) (omega arith)
+set_up_by x Received = front_of_second (control_word x Sent) x.channel.length 3 (omega arith) (omega arith)
 
 abbrev take_if : Bool → Taking → Option Taking
 take_if q x = if q then Some x else None
@@ -99,17 +93,13 @@ module _ (d : SpiTable) (fits : FitsSpi d) (c : ℕ) (k : Channel) (e : channel_
   is_of_bank (Reading n b) = n == c
   is_of_bank _ = false
 
-  -- what is held of it, or nothing
-  pub beside_nothing : (held : Reservations) → IsBeside held held
-  beside_nothing held = record { puts = λ sources n r ne. refl; takes = λ n ne. refl; prepares = refl; readied = refl; stored = refl; owed = λ u. refl }
-
   pub beside_one : (x : ReservedBy Call Reservation) (held : Reservations) → is_of_bank x.what ≡ true → IsBeside held (x ∷ held)
   beside_one x held is = record {
     puts = λ sources n r ne. ap (λ o. or_rest o (put_held d sources n r held)) (no_put x.what sources n r ne is);
     takes = λ n ne. ap (λ o. or_rest o (take_held n held)) (no_take x.what n ne is);
-    prepares = ap (λ b. b || prepares held) (unready x.what is);
-    readied = flat_map-cons (λ h. readied_by h.what) x held ∙ ap (λ ys. ys ++ readied_in held) (nothing_ready x.what is);
-    stored = flat_map-cons (λ h. stored_by h.what) x held ∙ ap (λ ys. ys ++ stored_in held) (nothing_stored x.what is);
+    prepares = ap (λ b. b || prepares held) (nothing x.what is).0;
+    readied = flat_map-cons (λ h. readied_by h.what) x held ∙ ap (λ ys. ys ++ readied_in held) (nothing x.what is).1;
+    stored = flat_map-cons (λ h. stored_by h.what) x held ∙ ap (λ ys. ys ++ stored_in held) (nothing x.what is).2;
     owed = λ u. owes_none x.what u (is_owed u held) is;
   }
     where
@@ -127,17 +117,9 @@ module _ (d : SpiTable) (fits : FitsSpi d) (c : ℕ) (k : Channel) (e : channel_
       no_take (Reading m b) n ne f = ap (λ q. take_if q (record { bank = b; kept = words_in x.acted })) (unlike m n ne f)
       no_take _ n ne f = absurd (cc)
 
-      unready : (y : Reservation) → is_of_bank y ≡ true → is_preparing y ≡ false
-      unready (Preparing ws rs z) f = absurd (cc)
-      unready _ f = refl
-
-      nothing_ready : (y : Reservation) → is_of_bank y ≡ true → readied_by y ≡ []
-      nothing_ready (Preparing ws rs z) f = absurd (cc)
-      nothing_ready _ f = refl
-
-      nothing_stored : (y : Reservation) → is_of_bank y ≡ true → stored_by y ≡ []
-      nothing_stored (Preparing ws rs z) f = absurd (cc)
-      nothing_stored _ f = refl
+      nothing : (y : Reservation) → is_of_bank y ≡ true → (is_preparing y ≡ false) × (readied_by y ≡ []) × (stored_by y ≡ [])
+      nothing (Preparing ws rs z) f = absurd (cc)
+      nothing _ f = (refl, refl, refl)
 
       owes_none : (y : Reservation) (u : ℕ) (below : Bool) → is_of_bank y ≡ true → owes_by u y below ≡ below
       owes_none (Writing m p b i z) u below f = refl
@@ -153,20 +135,7 @@ module _ (d : SpiTable) (fits : FitsSpi d) (c : ℕ) (k : Channel) (e : channel_
 
   -- another channel's banks
   banks_beside : (held held1 : Reservations) (going : ℕ → Option Going) (m : Memory) (v : View) (n : ℕ) (x : Channel) → n ≢ c → IsBeside held held1 → BanksAgree d held going m v n x → BanksAgree d held1 going m v n x
-  banks_beside held held1 going m v n x ne b h = record {
-    sent = h.sent;
-    sends = h.sends;
-    written = λ none. h.written (sym b.prepares ∙ none);
-    readied_sent = λ is. h.readied_sent (subst (λ xs. Contains xs (n, false)) b.readied is);
-    pinned = h.pinned;
-    writes = h.writes ∙ sym (b.puts v.sources n false ne);
-    received = h.received;
-    receives = h.receives;
-    readable = λ none. h.readable (sym b.prepares ∙ none);
-    readied_received = λ is. h.readied_received (subst (λ xs. Contains xs (n, true)) b.readied is);
-    reads = h.reads ∙ sym (b.takes n ne);
-    keeps = subst (λ o. PutRight going m (placed_of d n) o h.received.put) (sym (b.puts v.sources n true ne)) h.keeps;
-  }
+  banks_beside held held1 going m v n x ne b h = banks_as d held held1 going going m m v v n x (λ side j is. refl) (λ o t. t) (λ a o t. t) refl refl (λ r. b.puts v.sources n r ne) (b.takes n ne) b.prepares b.readied h
 
   -- ---- the agreement
 
@@ -191,21 +160,12 @@ module _ (d : SpiTable) (fits : FitsSpi d) (c : ℕ) (k : Channel) (e : channel_
     sources : (u : ℕ) (g : Going) (n : ℕ) (x : Part) (k1 : Channel) (i : ℕ) → u < 2 → h.going u ≡ Some g → slice_get g.parts n ≡ Some x → channel_of d x.channel ≡ Some k1 → i < length_by (channel_of d x.channel) → word_of chip1 (source_word (placed_of d x.channel) i) ≡ word_of chip (source_word (placed_of d x.channel) i)
     sources u g n x k1 i lt is at there few = differs.others (source_word (placed_of d x.channel) i) (not_users (source_word (placed_of d x.channel) i) (omega arith))
 
-    -- what it runs looks at no bank
-    runs_kept : (u : ℕ) → u < 2 → RunAgrees d (word_of chip1) u (h.going u)
-    runs_kept u lt = run_alike d fits h.going (word_of chip) (word_of chip1) (view s) after_state held_same sources h.nexts u lt (h.going u) refl (h.nexts u lt) ((h.words.on on).runs u lt)
-
     other_banks : (n : ℕ) (x : Channel) → n ≢ c → channel_of d n ≡ Some x → x.internal ≡ true → BanksAgree d held1 h.going (word_of chip1) (view (with_channels s cs)) n x
     other_banks n x ne f internal =
-        banks_view d held1 h.going (word_of chip1) (view s) (view (with_channels s cs)) n x (like.written n ne) (like.received n ne) (λ r. puts r)
+        let same_sources : (view (with_channels s cs)).sources ≡ (view s).sources = pointwise (view (with_channels s cs)).sources (view s).sources like.source in
+        banks_view d held1 h.going (word_of chip1) (view s) (view (with_channels s cs)) n x (like.written n ne) (like.received n ne) (λ r. ap (λ f. put_held d f n r held1) same_sources)
         (banks_beside below held1 h.going (word_of chip1) (view s) n x ne beside
         (banks_alike d fits h.going (word_of chip) (word_of chip1) (view s) after_state held_same sources h.nexts below n x f (λ side1 j is. differs.others j (not_of_other n x j ne f (of_banks d fits n x f internal side1 j is))) (h.words.banks n x f internal)))
-      where
-        same_sources : (view (with_channels s cs)).sources ≡ (view s).sources
-        same_sources = pointwise (view (with_channels s cs)).sources (view s).sources like.source
-
-        puts : (r : Bool) → put_held d (view (with_channels s cs)).sources n r held1 ≡ put_held d (view s).sources n r held1
-        puts r = ap (λ f. put_held d f n r held1) same_sources
 
     pub banks_changed : (k.internal ≡ true → length (slice_index_or cs c untouched).written ≡ k.length) → AllRight d s.mode cs held1 → AllSend d chip w h.going s held1 → AreCarried (view s) held1 → (k.internal ≡ true → BanksAgree d held1 h.going (word_of chip1) (view (with_channels s cs)) c k) → SpiRepresents d held1 chip1 w (with_channels s cs)
     banks_changed sized right sending carried own = record {
@@ -224,13 +184,24 @@ module _ (d : SpiTable) (fits : FitsSpi d) (c : ℕ) (k : Channel) (e : channel_
         state = differs.others STATE (not_first STATE (omega arith)) ∙ h.words.state;
         on = λ still. record {
           sequences = sequences_as d (view s) s.mode (view (with_channels s cs)).written (view (with_channels s cs)).received (view (with_channels s cs)).sources (word_of chip1) (sequences_alike d fits h.going (word_of chip) (word_of chip1) (view s) after_state held_same sources h.nexts (h.words.on on).sequences);
-          runs = runs_kept;
+          runs = λ u lt. run_alike d fits h.going (word_of chip) (word_of chip1) (view s) after_state held_same sources h.nexts u lt (h.going u) refl (h.nexts u lt) ((h.words.on on).runs u lt);
         };
-        banks = λ n x f internal. banks_of_each n x f internal (same_or_other n c);
+        banks = λ n x f internal. cases (same_or_other n c)
+            (λ at.
+            let one = some_is x k (sym f ∙ ap (channel_of d) at ∙ e) in
+            subst (λ i. BanksAgree d held1 h.going (word_of chip1) (view (with_channels s cs)) i x) (sym at) (subst (λ z. BanksAgree d held1 h.going (word_of chip1) (view (with_channels s cs)) c z) (sym one) (own (ap (λ z. z.internal) (sym one) ∙ internal))))
+            (λ ne. other_banks n x ne f internal);
         stored = λ j v is. absurd (none_in (j, v) (subst (λ xs. Contains xs (j, v)) (beside.stored ∙ none_stored d s.mode s.channels below on h.right) is));
       };
       set_ups = λ still n x f external. differs.others _ (set_up_apart n x f external) ∙ h.set_ups on n x f external ∙ ap (λ o. set_up_code o) (sym (like.set_up n));
-      sizes = λ still n x f. record { written = λ i. sizes_by n x f i (same_or_other n c); set_up = λ i. subst (λ o. SetUpFits x o) (sym (like.set_up n)) ((h.sizes on n x f).set_up i) };
+      sizes = λ still n x f. record {
+        written = λ i. cases (same_or_other n c)
+            (λ at.
+            let one = some_is x k (sym f ∙ ap (channel_of d) at ∙ e) in
+            ap (λ m. length (slice_index_or cs m untouched).written) at ∙ sized (ap (λ z. z.internal) (sym one) ∙ i) ∙ ap (λ z. z.length) (sym one))
+            (λ ne. ap length (like.written n ne) ∙ (h.sizes on n x f).written i);
+        set_up = λ i. subst (λ o. SetUpFits x o) (sym (like.set_up n)) ((h.sizes on n x f).set_up i);
+      };
       arrays = λ n. record {
         source = λ i lt. differs.others (place_of (Source n) i) (not_users (place_of (Source n) i) (omega arith)) ∙ (h.arrays n).source i lt ∙ ap (λ xs. word_at xs i) (sym (like.source n));
         destination = λ i lt. differs.others (place_of (Destination n) i) (not_users (place_of (Destination n) i) (omega arith)) ∙ (h.arrays n).destination i lt ∙ ap (λ xs. word_at xs i) (sym (like.destination n));
@@ -239,18 +210,6 @@ module _ (d : SpiTable) (fits : FitsSpi d) (c : ℕ) (k : Channel) (e : channel_
       owed = λ u p lt free there for. beside.owed u ∙ h.owed u p lt free there for;
     }
       where
-        banks_of_each : (n : ℕ) (x : Channel) → channel_of d n ≡ Some x → x.internal ≡ true → (n ≡ c) ⊎ (n ≢ c) → BanksAgree d held1 h.going (word_of chip1) (view (with_channels s cs)) n x
-        banks_of_each n x f internal (inl at) =
-            let one : x ≡ k = some_is x k (sym f ∙ ap (channel_of d) at ∙ e) in
-            subst (λ i. BanksAgree d held1 h.going (word_of chip1) (view (with_channels s cs)) i x) (sym at) (subst (λ z. BanksAgree d held1 h.going (word_of chip1) (view (with_channels s cs)) c z) (sym one) (own (ap (λ z. z.internal) (sym one) ∙ internal)))
-        banks_of_each n x f internal (inr ne) = other_banks n x ne f internal
-
-        sizes_by : (n : ℕ) (x : Channel) → channel_of d n ≡ Some x → x.internal ≡ true → (n ≡ c) ⊎ (n ≢ c) → length (slice_index_or cs n untouched).written ≡ x.length
-        sizes_by n x f i (inl at) =
-            let one : x ≡ k = some_is x k (sym f ∙ ap (channel_of d) at ∙ e) in
-            ap (λ m. length (slice_index_or cs m untouched).written) at ∙ sized (ap (λ z. z.internal) (sym one) ∙ i) ∙ ap (λ z. z.length) (sym one)
-        sizes_by n x f i (inr ne) = ap length (like.written n ne) ∙ (h.sizes on n x f).written i
-
         set_up_apart : (n : ℕ) (x : Channel) → channel_of d n ≡ Some x → x.internal ≡ false → mine (set_up_word (placed_of d n)) ≡ false
         set_up_apart n x f external = cases (same_or_other n c)
             (λ at. subst (λ i. mine (set_up_word (placed_of d i)) ≡ false) (sym at) (set_up_by (placed_of d c) side))
@@ -274,9 +233,6 @@ none_readied d mode cs (x ∷ xs) on r =
 pub trio_fits : (d : SpiTable) → FitsSpi d → (c : ℕ) (k : Channel) → channel_of d c ≡ Some k → k.internal ≡ true → (side : Side) → trio.Fits (trio_of (placed_of d c) side)
 trio_fits d fits c k e internal side = by side
   where
-    f : FitsChannel d c k
-    f = fits.channels c k e
-
     at : first_word (placed_of d c) ≡ STATE + block_of d c
     at = starts_at d fits c k e
 
@@ -284,17 +240,15 @@ trio_fits d fits c k e internal side = by side
     len = ap (λ x. x.length) (has_channel d fits c k e)
 
     last : STATE + block_of d c + 3 + 6 * k.length < SOURCES
-    last = own_low d fits _ (own_of_channel d c k (STATE + block_of d c + 3 + 6 * k.length) f (record { from = omega arith; below = let size = internal_words d fits c k e internal in omega (arith, size) }))
+    last =
+        let f : FitsChannel d c k = fits.channels c k e in
+        own_low d fits _ (own_of_channel d c k (STATE + block_of d c + 3 + 6 * k.length) f (record { from = omega arith; below = let size = internal_words d fits c k e internal in omega (arith, size) }))
 
     by : (side : Side) → trio.Fits (trio_of (placed_of d c) side)
     by Sent = record { banks = omega (arith, at, len, last); control = omega (arith, at, last); apart = λ n lt same. omega (arith, same) }
     by Received = record { banks = omega (arith, at, len, last); control = omega (arith, at, last); apart = λ n lt same. omega (arith, same) }
 
 module _ (d : SpiTable) (fits : FitsSpi d) (c : ℕ) (k : Channel) (e : channel_of d c ≡ Some k) (internal : k.internal ≡ true) (below held1 : Reservations) (chip chip1 : Chip) (going : ℕ → Option Going) (v v1 : View) where
-  put_as : (m m1 : Memory) (held put : Option Putting) → m1 (held_word (placed_of d c)) ≡ m (held_word (placed_of d c)) → PutRight going m (placed_of d c) held put → PutRight going m1 (placed_of d c) held put
-  put_as m m1 None (Some p) same h = (h.0, h.1, h.2, same ∙ h.3)
-  put_as m m1 _ _ same h = h
-
   -- what it received, in these banks
   pub received_changed : DiffersIn (mine d fits c k e internal Received) chip chip1 → IsBeside d fits c k e internal Received below held1 → v1.written c ≡ v.written c → put_held d v1.sources c false held1 ≡ put_held d v.sources c false below → (x : Banks)
       → trio.Stands (trio_of (placed_of d c) Received) (word_of chip1) x → (prepares held1 ≡ false → x.newest ≡ first_items 0 k.length (v1.received c)) → (Contains (readied_in held1) (c, true) → x.newest ≡ replicate k.length 0)
@@ -311,7 +265,7 @@ module _ (d : SpiTable) (fits : FitsSpi d) (c : ℕ) (k : Channel) (e : channel_
     readable = readable;
     readied_received = readied;
     reads = reads;
-    keeps = put_as (word_of chip) (word_of chip1) (put_held d v1.sources c true held1) x.put (differs.others _ (not_held d fits c k e internal Received c k e)) keeps;
+    keeps = put_words going (word_of chip) (word_of chip1) (placed_of d c) (put_held d v1.sources c true held1) x.put (differs.others _ (not_held d fits c k e internal Received c k e)) keeps;
   }
 
   -- what it sends
@@ -330,7 +284,7 @@ module _ (d : SpiTable) (fits : FitsSpi d) (c : ℕ) (k : Channel) (e : channel_
     readable = λ none. h.readable (sym beside.prepares ∙ none) ∙ ap (λ xs. first_items 0 k.length xs) (sym received);
     readied_received = λ is. h.readied_received (subst (λ xs. Contains xs (c, true)) beside.readied is);
     reads = h.reads ∙ sym takes;
-    keeps = put_as (word_of chip) (word_of chip1) (put_held d v1.sources c true held1) h.received.put (differs.others _ (not_held d fits c k e internal Sent c k e)) (subst (λ o. PutRight going (word_of chip) (placed_of d c) o h.received.put) (sym puts) h.keeps);
+    keeps = put_words going (word_of chip) (word_of chip1) (placed_of d c) (put_held d v1.sources c true held1) h.received.put (differs.others _ (not_held d fits c k e internal Sent c k e)) (subst (λ o. PutRight going (word_of chip) (placed_of d c) o h.received.put) (sym puts) h.keeps);
   }
 
 own_there : (t : TripleBuffer) → trio.Fits t → AreThere (trio.own_of t)

@@ -1,17 +1,17 @@
 -- Which driver words are the module's: the first 64, those of each channel, and the users' arrays. They stand apart.
 -- From words.Cases.
--- Used by words.SideWords, spi_serving: services.WellEnded, spi_starting: services.StartAround and 62 more.
+-- Used by spi_serving: services.WellEnded, words.SideWords, spi_starting: services.StartAround and 50 more.
 use Rattle.std.proofs.Common.{◌≡◌, ◌≢◌, ◌+◌, ◌-◌, ◌*◌, ◌%◌, ◌<◌, ◌≤◌, ◌==◌, ◌&&◌, ◌||◌, [], ◌∷◌, ◌∙◌, if◌then◌else◌}
 use Rattle.spi_sequences.specs.Terms
 use Terms.{ap, arith, banked, block_of, Bool, Channel, channel_of, control_word, Destination, enumerate_from, eq_is}
 use Terms.{false, first_word, FitsChannel, FitsSpi, held_word, is_own_word, is_users_place, is_users_word, is_within}
 use Terms.{is_word_of, length, length_by, List, list_any, nat_le, nat_lt, nat_tests, NO_CHANNEL, None, not, Option}
 use Terms.{or_else, or_left, or_right, order_word, own_words, place_of, placed_of, Received, refl, Sent, set_up_word}
-use Terms.{Side, slice_index_or, Some, Source, SpiTable, start_of, STATE, subst, suc, sym, trio_of, true, whether}
-use Terms.{zero, ℕ}
+use Terms.{Side, slice_index_or, Some, some_or_none, Source, SpiTable, start_of, STATE, subst, suc, sym, trio_of, true}
+use Terms.{whether, zero, ℕ}
+use Rattle.mcal_base.specs.facts.Truths.{or_true}
 use Rattle.word_shapes.specs.PriorityQueue as ranked
 use Rattle.word_shapes.specs.TripleBuffer as trio
-use Rattle.mcal_base.specs.facts.Truths.{or_true}
 
 -- a word of a channel: one of its first four, or of its banks
 pub record IsWordOf (d : SpiTable) (c : ℕ) (k : Channel) (word : ℕ) : Type 0 where
@@ -61,11 +61,9 @@ of_sixteen d c k fits e = let lt = in_list d.channels c k e in omega (arith, lt,
 
 -- a place of a configured channel
 pub few_places : (d : SpiTable) → FitsSpi d → (n i : ℕ) → i < length_by (channel_of d n) → (n < 16) × (i < 64)
-few_places d fits n i lt = by (channel_of d n) refl lt
-  where
-    by : (o : Option Channel) → channel_of d n ≡ o → i < length_by o → (n < 16) × (i < 64)
-    by None e less = absurd (omega (arith, less))
-    by (Some k) e less = (of_sixteen d n k fits e, let most = (fits.channels n k e).few in omega (arith, less, most))
+few_places d fits n i lt = some_or_none (channel_of d n)
+    (λ k e. let width = ap length_by e in let most = (fits.channels n k e).few in (of_sixteen d n k fits e, omega (arith, lt, width, most)))
+    (λ e. absurd (let width = ap length_by e in omega (arith, lt, width)))
 
 pub placed_is : (d : SpiTable) (c : ℕ) (k : Channel) → FitsSpi d → channel_of d c ≡ Some k → placed_of d c ≡ record { number = c; block = block_of d c; channel = k }
 placed_is d c k fits e =
@@ -102,9 +100,6 @@ module _ (d : SpiTable) (fits : FitsSpi d) (c : ℕ) (k : Channel) (e : channel_
   pub of_banks : k.internal ≡ true → (side : Side) (j : ℕ) → trio.own_of (trio_of (placed_of d c) side) j ≡ true → IsWordOf d c k j
   of_banks internal side j own = control_or_bank (j == control_word (placed_of d c) side) refl own
     where
-      len : k.length ≡ (placed_of d c).channel.length
-      len = sym (ap (λ x. x.length) has_channel)
-
       low : (b n : ℕ) → nat_le b j && nat_lt j (b + n) ≡ true → b ≤ j
       low b n i = grind (arith, nat_tests)
 
@@ -114,6 +109,7 @@ module _ (d : SpiTable) (fits : FitsSpi d) (c : ℕ) (k : Channel) (e : channel_
       control_or_bank : (q : Bool) → (j == control_word (placed_of d c) side) ≡ q → q || (nat_le (trio_of (placed_of d c) side).banks j && nat_lt j ((trio_of (placed_of d c) side).banks + 3 * (placed_of d c).channel.length)) ≡ true → IsWordOf d c k j
       control_or_bank true i own = subst (λ n. IsWordOf d c k n) (sym (eq_is j _ i)) (of_control side)
       control_or_bank false i own =
+          let len : k.length ≡ (placed_of d c).channel.length = sym (ap (λ x. x.length) has_channel) in
           let b = (trio_of (placed_of d c) side).banks in
           let lower = low b (3 * (placed_of d c).channel.length) own in
           let higher = high b (3 * (placed_of d c).channel.length) own in
@@ -168,11 +164,9 @@ within_start start n i lt = grind (arith, nat_tests)
 
 module _ (d : SpiTable) (fits : FitsSpi d) (c i : ℕ) (lt : i < length_by (channel_of d c)) where
   there : c < length d.channels
-  there = by (channel_of d c) refl lt
-    where
-      by : (k : Option Channel) → channel_of d c ≡ k → i < length_by k → c < length d.channels
-      by None e lt = absurd (omega (arith, lt))
-      by (Some k) e lt = in_list d.channels c k e
+  there = some_or_none (channel_of d c)
+      (λ k e. in_list d.channels c k e)
+      (λ e. absurd (let width = ap length_by e in omega (arith, lt, width)))
 
   pub source_own : is_word_of d (place_of (Source c) i) ≡ true
   source_own = or_right (is_own_word d (place_of (Source c) i)) (is_users_word d (place_of (Source c) i)) (any_numbered (is_users_place (place_of (Source c) i)) d.channels c there (or_left (is_within (start_of (Source c)) (length_by (channel_of d c)) (place_of (Source c) i)) (is_within (start_of (Destination c)) (length_by (channel_of d c)) (place_of (Source c) i)) (within_start (start_of (Source c)) (length_by (channel_of d c)) i lt)))

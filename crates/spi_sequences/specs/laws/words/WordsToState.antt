@@ -1,23 +1,22 @@
 -- What the words of an initialised module say: of results, of pending sequences, and of what the units run.
--- From words.ListTests, words.AllSequences, words.Cases, words.SameWords, words.WordsOfModule.
--- Used by services.QueryRight, services.CancelRight, services.ModuleRight and 28 more.
+-- From words.JobPlaces, words.Cases, words.SameWords, words.WordsOfModule.
+-- Used by services.QueryRight, services.CancelRight, services.ModuleRight, spi_serving: services.FreedUnit and 22 more.
 use Rattle.std.proofs.Common.{◌≡◌, ◌+◌, ◌-◌, ◌*◌, ◌/◌, ◌%◌, ◌<◌, ◌==◌, ◌||◌, ◌∙◌, if◌then◌else◌}
 use Rattle.spi_sequences.specs.Terms
-use Terms.{all_of, AnswerName, ap, arith, Bool, carried_at, CarriesAgrees, Carrying, Chip, Contains, Contains-get_or}
+use Terms.{all_of, AnswerName, ap, arith, Bool, carried_at, CarriesAgrees, Chip, Contains, Contains-get_or}
 use Terms.{entry_carried, false, FitsSpi, get_or_default, Going, has_job, inl, inr, is_for, is_of, is_off, is_pending}
-use Terms.{is_running, is_some, is_sync_sequence, is_sync_unit, IsLast, IsOfSequence, job_code, job_result_in}
-use Terms.{jobs_of, List, nat_lt, next_in, next_job, NEXTS, None, Option, PENDING, Pending, refl, Reservations, Run}
-use Terms.{run_at, run_carried, run_in, run_of, RunAgrees, Running, running_word, runs_sequence, RunsBy, RunsNext}
-use Terms.{same_Some, sequence_code, sequence_result, sequence_result_in, sequence_word, shares_job, Some}
-use Terms.{some_or_none, SpiBusy, SpiIdle, SpiJobFailed, SpiJobOk, SpiRepresents, SpiSeqCanceled, SpiSeqFailed}
-use Terms.{SpiSeqOk, SpiSeqPending, SpiState, SpiTable, status_by, subst, sym, Transfer, true, unit_at}
-use Terms.{unit_of_sequence, UnitAgrees, view, whether, word_of, World, ℕ}
-pub use Rattle.spi_sequences.specs.laws.words.ListTests.{any_none, any_some, at_contained, is_below, is_number, is_past}
-pub use Rattle.spi_sequences.specs.laws.words.ListTests.{none_any, not_true, one_unit, other_number, same_number}
-use Rattle.spi_sequences.specs.laws.{words.SameWords.{job_small}, words.ListTests.{any_in, none_by}}
-use Rattle.spi_sequences.specs.laws.{words.AllSequences.{all_cases, all_pending, any_all, one_of_all}}
-use Rattle.spi_sequences.specs.laws.{words.WordsOfModule.{some_at}}
+use Terms.{is_running, is_some, is_sync_sequence, is_sync_unit, IsLast, IsOfSequence, job_code, job_result_in, jobs_of}
+use Terms.{List, nat_lt, next_in, next_job, NEXTS, None, Option, PENDING, Pending, refl, Reservations, run_at}
+use Terms.{run_carried, run_in, run_of, RunAgrees, Running, running_word, runs_sequence, RunsBy, RunsNext, same_Some}
+use Terms.{sequence_code, sequence_result, sequence_result_in, sequence_word, shares_job, Some, some_or_none, SpiBusy}
+use Terms.{SpiIdle, SpiJobFailed, SpiJobOk, SpiRepresents, SpiSeqCanceled, SpiSeqFailed, SpiSeqOk, SpiSeqPending}
+use Terms.{SpiState, SpiTable, status_by, subst, sym, Transfer, true, unit_at, UnitAgrees, view, whether, word_of}
+use Terms.{World, ℕ}
+use Rattle.spi_sequences.specs.laws.words.JobPlaces.{all_cases, all_pending, any_all, any_in, none_by, one_of_all}
+use Rattle.spi_sequences.specs.laws.words.{SameWords.{job_small}, WordsOfModule.{some_at}}
 use Rattle.mcal_base.specs.facts.Truths.{or_true}
+pub use Rattle.spi_sequences.specs.laws.words.JobPlaces.{any_none, any_some, at_contained, is_below, is_number, is_past}
+pub use Rattle.spi_sequences.specs.laws.words.JobPlaces.{none_any, not_true, one_unit, other_number, same_number}
 
 -- ---- results
 
@@ -97,15 +96,13 @@ module _ (d : SpiTable) (fits : FitsSpi d) (held : Reservations) (chip : Chip) (
   runs_by q u lt false i e (Some g) is = record { unit = u; few = lt; async = i; job = g; is = is; of = is_number g.pending.sequence q (sym (ap (runs_sequence q) (going_run u g lt i is).1) ∙ e) }
 
   pub runs_on : (q : ℕ) → is_running s q ≡ true → RunsOn q
-  runs_on q e = unit_runs (any_some (runs_sequence q) s.units e)
-    where
-      unit_runs : (x : Option Run) × Contains s.units x × (runs_sequence q x ≡ true) → RunsOn q
-      unit_runs (x, (u, lt, at), is) =
-          let same : run_at s u ≡ x = get_or_default s.units u None x lt ∙ at in
-          let runs : runs_sequence q (run_at s u) ≡ true = ap (runs_sequence q) same ∙ is in
-          whether (nat_lt u 2)
-          (λ f. runs_by q u (is_below u 2 f) (is_sync_unit d u) refl runs (h.going u) refl)
-          (λ f. absurd (let g = sym runs ∙ ap (runs_sequence q) (none_by (run_at s u) (h.sound.few u (is_past u 2 f))) in cc))
+  runs_on q e =
+      let (x, (u, lt, at), is) = any_some (runs_sequence q) s.units e in
+      let same : run_at s u ≡ x = get_or_default s.units u None x lt ∙ at in
+      let runs : runs_sequence q (run_at s u) ≡ true = ap (runs_sequence q) same ∙ is in
+      whether (nat_lt u 2)
+      (λ f. runs_by q u (is_below u 2 f) (is_sync_unit d u) refl runs (h.going u) refl)
+      (λ f. absurd (let g = sym runs ∙ ap (runs_sequence q) (none_by (run_at s u) (h.sound.few u (is_past u 2 f))) in cc))
 
   -- ---- sequences under way
 
@@ -122,10 +119,7 @@ module _ (d : SpiTable) (fits : FitsSpi d) (held : Reservations) (chip : Chip) (
   pub pending_alone : (q : ℕ) → is_sync_sequence d q ≡ false → is_pending q under_way ≡ is_pending q s.pending
   pending_alone q async = whether (is_pending q s.pending)
       (λ e. let r = any_some (is_of q) s.pending e in any_in (is_of q) under_way r.0 (all_pending (view s) r.0 r.1) r.2 ∙ sym e)
-      (λ e. none e ∙ sym e)
-    where
-      none : is_pending q s.pending ≡ false → is_pending q under_way ≡ false
-      none e = any_all (view s) (is_of q) e (λ u p begun. other_number p.sequence q (λ same. let r = h.sound.carries.unit u p begun in let f = sym async ∙ ap (is_sync_sequence d) (sym same) ∙ ap (is_sync_unit d) r.2 ∙ r.1 in cc))
+      (λ e. any_all (view s) (is_of q) e (λ u p begun. other_number p.sequence q (λ same. let r = h.sound.carries.unit u p begun in let f = sym async ∙ ap (is_sync_sequence d) (sym same) ∙ ap (is_sync_unit d) r.2 ∙ r.1 in cc)) ∙ sym e)
 
   -- its next job is one of its jobs
   pub next_there : (p : Pending) → Contains under_way p → Contains (jobs_of d p.sequence) (next_job d p)
@@ -146,40 +140,28 @@ module _ (d : SpiTable) (fits : FitsSpi d) (held : Reservations) (chip : Chip) (
 
   -- ---- units that are in use
 
-  no_run : (o : Option Carrying) → run_carried o ≡ None → o ≡ None
-  no_run None e = refl
-  no_run (Some x) e = absurd (cc)
-
-  no_entry : (o : Option Carrying) → ((p : Pending) → entry_carried o ≡ Some p → ⊥) → o ≡ None
-  no_entry None h = refl
-  no_entry (Some x) h = absurd (h x.entry refl)
-
   pub carried_free : (u : ℕ) → u < 2 → h.going u ≡ None → carried_at s u ≡ None
-  carried_free u lt is = whether (is_sync_unit d u)
-      (λ sync. no_run (carried_at s u) (subst (λ o. CarriesAgrees d (unit_at chip.serials u) (run_carried (carried_at s u)) o) is (h.sends u lt sync)).1)
-      (λ async. no_entry (carried_at s u) (λ p begun. let f = sym async ∙ (h.sound.carries.unit u p begun).1 in cc))
+  carried_free u lt is = some_or_none (carried_at s u)
+      (λ x i. absurd (whether (is_sync_unit d u)
+      (λ sync. let f = sym (subst (λ o. CarriesAgrees d (unit_at chip.serials u) (run_carried (carried_at s u)) o) is (h.sends u lt sync)).1 ∙ ap run_carried i in cc)
+      (λ async. let f = sym async ∙ (h.sound.carries.unit u x.entry (ap entry_carried i)).1 in cc)))
+      (λ i. i)
 
   in_use : (u : ℕ) (g : Going) → u < 2 → h.going u ≡ Some g → is_some (run_at s u) || is_some (carried_at s u) ≡ true
-  in_use u g lt is = runs_or_carries (is_sync_unit d u) refl
-    where
-      some : (o : Option Carrying) (r : Run) → run_carried o ≡ Some r → is_some o ≡ true
-      some None r e = absurd (cc)
-      some (Some x) r e = refl
-
-      runs_or_carries : (q : Bool) → is_sync_unit d u ≡ q → is_some (run_at s u) || is_some (carried_at s u) ≡ true
-      runs_or_carries true sync =
-          let a = subst (λ o. CarriesAgrees d (unit_at chip.serials u) (run_carried (carried_at s u)) o) is (h.sends u lt sync) in
-          ap (λ b. is_some (run_at s u) || b) (some (carried_at s u) (run_of d g a.0) a.1) ∙ or_true (is_some (run_at s u))
-      runs_or_carries false async = ap (λ r. is_some r || is_some (carried_at s u)) (going_run u g lt async is).1
+  in_use u g lt is = whether (is_sync_unit d u)
+      (λ sync.
+      let a = subst (λ o. CarriesAgrees d (unit_at chip.serials u) (run_carried (carried_at s u)) o) is (h.sends u lt sync) in
+      let some : is_some (carried_at s u) ≡ true = some_or_none (carried_at s u) (λ x i. ap is_some i) (λ i. absurd (let f = sym a.1 ∙ ap run_carried i in cc)) in
+      ap (λ b. is_some (run_at s u) || b) some ∙ or_true (is_some (run_at s u)))
+      (λ async. ap (λ r. is_some r || is_some (carried_at s u)) (going_run u g lt async is).1)
 
   -- a unit that carries out a sequence runs a job of it
   pub carried_going : (u : ℕ) (p : Pending) → (view s).begun u ≡ Some p → (g : Going) × (h.going u ≡ Some g) × (g.pending ≡ p)
-  carried_going u p begun = some_or_none (h.going u)
+  carried_going u p begun =
+      let right = h.sound.carries.unit u p begun in
+      some_or_none (h.going u)
       (λ g is. (g, is, same_Some g.pending p (sym (subst (λ q. RunsBy q (view s) u g.pending) right.1 (going_next u g right.0 is).1) ∙ begun)))
       (λ is. absurd (let f = sym begun ∙ ap entry_carried (carried_free u right.0 is) in cc))
-    where
-      right : (u < 2) × (is_sync_unit d u ≡ true) × (unit_of_sequence d p.sequence ≡ u)
-      right = h.sound.carries.unit u p begun
 
   -- the word of a sequence says whether it is under way
   module _ (on : is_off s.mode ≡ false) where
@@ -203,11 +185,9 @@ module _ (d : SpiTable) (fits : FitsSpi d) (held : Reservations) (chip : Chip) (
         ap run_in a.running ∙ run_packed (next_job d g.pending) g.pending.sequence (next_small g.pending p.0) (h.sound.entries g.pending p.0).number
 
     pub unit_word_says : (u : ℕ) → u < 2 → (if word_of chip (running_word u) == 0 then SpiIdle else SpiBusy) ≡ status_by false (is_some (run_at s u) || is_some (carried_at s u))
-    unit_word_says u lt = word_says (h.going u) refl
-      where
-        word_says : (g : Option Going) → h.going u ≡ g → (if word_of chip (running_word u) == 0 then SpiIdle else SpiBusy) ≡ status_by false (is_some (run_at s u) || is_some (carried_at s u))
-        word_says None is = ap (λ v. if v == 0 then SpiIdle else SpiBusy) (subst (λ o. RunAgrees d (word_of chip) u o) is ((h.words.on on).runs u lt)) ∙ sym (ap (λ r. status_by false (is_some r || is_some (carried_at s u))) (going_free u lt is) ∙ ap (λ x. status_by false (is_some x)) (carried_free u lt is))
-        word_says (Some g) is =
-            let a = subst (λ o. RunAgrees d (word_of chip) u o) is ((h.words.on on).runs u lt) in
-            let some : (word_of chip (running_word u) == 0) ≡ false = other_number (word_of chip (running_word u)) 0 (λ e. let f = sym e ∙ a.running in omega (arith, f)) in
-            ap (λ b. if b then SpiIdle else SpiBusy) some ∙ sym (ap (status_by false) (in_use u g lt is))
+    unit_word_says u lt = some_or_none (h.going u)
+        (λ g is.
+        let a = subst (λ o. RunAgrees d (word_of chip) u o) is ((h.words.on on).runs u lt) in
+        let some : (word_of chip (running_word u) == 0) ≡ false = other_number (word_of chip (running_word u)) 0 (λ e. let f = sym e ∙ a.running in omega (arith, f)) in
+        ap (λ b. if b then SpiIdle else SpiBusy) some ∙ sym (ap (status_by false) (in_use u g lt is)))
+        (λ is. ap (λ v. if v == 0 then SpiIdle else SpiBusy) (subst (λ o. RunAgrees d (word_of chip) u o) is ((h.words.on on).runs u lt)) ∙ sym (ap (λ r. status_by false (is_some r || is_some (carried_at s u))) (going_free u lt is) ∙ ap (λ x. status_by false (is_some x)) (carried_free u lt is)))

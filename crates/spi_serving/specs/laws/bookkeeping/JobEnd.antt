@@ -1,23 +1,72 @@
--- A job's end: what the machine makes of it, and that the frame has loaded how its sequence goes on.
--- From bookkeeping.UnderWay, words.FacingWords, spi_sequences: services.CancelRight and 5 more.
--- Used by services.ServeRight, spi_sending: services.SendLast, services.JobOverRight and 4 more.
-use Rattle.std.proofs.Common.{◌≡◌, ◌+◌, ◌<◌, ◌++◌, ◌∙◌, if◌then◌else◌}
+-- Writes of a unit's registers, what they leave of the agreement; and a job's end, whose last word one of them acknowledges.
+-- From words.FacingWords, spi_sequences: hardware.StableUnderHardware, spi_sequences: services.CancelRight and 4 more.
+-- Used by services.ServeRight, spi_sending: services.SendSteps, spi_sending: bookkeeping.SelectsNext and 8 more.
+use Rattle.std.proofs.Common.{◌≡◌, ◌≢◌, ◌+◌, ◌<◌, ◌++◌, ◌∙◌, if◌then◌else◌}
 use Rattle.spi_serving.specs.Terms
-use Terms.{after_job, after_last, all_pending, AnswerName, ap, arith, Arrived, Bool, CANCELLED, cancelled_bit, changed}
-use Terms.{Chip, chip_after, Contains, done_same, end_by, ended, FAILED, false, find, FitsSpi, found_entry}
-use Terms.{goes_to_next, has_done, has_further, has_mark, is_done, is_of, is_sync_unit, is_there, IsFound, IsLast}
-use Terms.{IsServed, job_notice, job_over, jobs_by, jobs_list, jobs_of, length, length-take-le, List, MARKS, nat_lt}
-use Terms.{next_in, next_job, NEXTS, None, notes, Notice, notices_by, one_pending, Option, outcome_with, Pending}
-use Terms.{pending_of, PendingAgrees, refl, Reservations, result_by, Run, run_at, Running, SendsRight, Sequence}
-use Terms.{sequence_after, sequence_code, sequence_notice, sequence_of, SequenceNext, Serial, SerialAck, served}
-use Terms.{served_by, Serves, Some, spi_machine, SpiJobOk, SpiRepresents, SpiState, SpiTable, sym, true, unit_at}
-use Terms.{unit_of, UnitAgrees, view, with_item, with_next_in, with_run, word_of, World, Write, ℕ}
-use Rattle.spi_serving.specs.laws.{words.FacingWords.{ends_here, run_is, way}, hardware.UnitRegisters.{unit_same}}
-use Rattle.spi_serving.specs.laws.{bookkeeping.UnderWay.{UnderWay, asked_by, is_ready, runs_so, unit_line}}
+use Terms.{after_job, after_last, all_pending, AnswerName, ap, arith, Arrived, Bool, CANCELLED, cancelled_bit}
+use Terms.{carried_at, CarriesAgrees, changed, Chip, chip_after, Contains, done_same, end_by, ended, FAILED, false}
+use Terms.{find, FitsSpi, found_entry, get_or-set_other, get_or-set_same, goes_to_next, Going, has_done, has_further}
+use Terms.{has_mark, idle, is_done, is_of, is_sync_unit, is_there, IsFound, IsLast, IsServed, job_notice, job_over}
+use Terms.{jobs_by, jobs_list, jobs_of, length, length-set, length-take-le, List, MARKS, nat_lt, next_in, next_job}
+use Terms.{NEXTS, None, notes, Notice, notices_by, one_pending, Option, outcome_with, Pending, pending_of}
+use Terms.{PendingAgrees, refl, Reservations, result_by, Run, run_at, run_carried, Running, sends_as, SendsRight}
+use Terms.{Sequence, sequence_after, sequence_code, sequence_notice, sequence_of, SequenceNext, Serial, SerialAck}
+use Terms.{SerialWidth, served, served_by, Serves, set_unit, Some, spi_machine, SpiJobOk, SpiRepresents, SpiState}
+use Terms.{SpiTable, stands-move, subst, sym, true, unit_at, unit_of, UnitAgrees, view, with_item, with_next_in}
+use Terms.{with_run, word_of, World, Write, ℕ}
+use Rattle.spi_serving.specs.laws.words.FacingWords.{asked_by, ends_here, is_ready, run_is, runs_so, UnderWay}
+use Rattle.spi_serving.specs.laws.words.FacingWords.{unit_line, way}
 use Rattle.chip_units.specs.Serials as serials
 use Rattle.spi_machine.specs.Machine as machine
 use Rattle.spi_machine.specs.Wiring as wiring
 use Rattle.spi_sequences.specs.declared.service.serve.SequenceNext.TheVariants as courses
+
+-- a unit among those of a chip, and the others
+pub unit_same : (chip : Chip) (u : ℕ) (x : Serial) → length chip.serials.units ≡ 2 → u < 2 → unit_at (serials.with_unit chip.serials u x) u ≡ x
+unit_same chip u x size few = get_or-set_same chip.serials.units u x idle (subst (λ n. u < n) (sym size) few)
+
+pub unit_other : (chip : Chip) (u n : ℕ) (x : Serial) → n ≢ u → unit_at (serials.with_unit chip.serials u x) n ≡ unit_at chip.serials n
+unit_other chip u n x ne = get_or-set_other chip.serials.units u n x idle ne
+
+module _ (d : SpiTable) (below : Reservations) (chip : Chip) (w : World) (s : SpiState) (h : SpiRepresents d below chip w s) (u : ℕ) (few : u < 2) where
+  -- a width is neither a unit's word nor its device
+  width_unit : (v : ℕ) (r : Option Going) → UnitAgrees d (unit_at chip.serials u) (run_at s u) r → UnitAgrees d (record (unit_at chip.serials u) { width = v }) (run_at s u) r
+  width_unit v None a = a
+  width_unit v (Some g) a = a
+
+  width_carried : (v n : ℕ) (r : Option Going) → CarriesAgrees d (unit_at chip.serials n) (run_carried (carried_at s n)) r → CarriesAgrees d (record (unit_at chip.serials n) { width = v }) (run_carried (carried_at s n)) r
+  width_carried v n None a = a
+  width_carried v n (Some g) a = a
+
+  pub width_agrees : (v y : ℕ) → SpiRepresents d below (chip_after chip (Write (SerialWidth u) v) y) w s
+  width_agrees v y = record {
+    right = h.right;
+    outside = stands-move chip w (Write (SerialWidth u) v) y h.outside;
+    wired = h.wired;
+    size = length-set chip.serials.units u _ ∙ h.size;
+    sound = h.sound;
+    going = h.going;
+    nexts = h.nexts;
+    units = set_unit (λ n x. is_sync_unit d n ≡ false → UnitAgrees d x (run_at s n) (h.going n)) chip.serials.units u new h.size (λ lt async. width_unit v (h.going u) (h.units u lt async)) (λ n lt ne. h.units n lt);
+    sends = set_unit (λ n x. is_sync_unit d n ≡ true → CarriesAgrees d x (run_carried (carried_at s n)) (h.going n)) chip.serials.units u new h.size (λ lt sync. width_carried v u (h.going u) (h.sends u lt sync)) (λ n lt ne. h.sends n lt);
+    sending = sends_as d chip (chip_after chip (Write (SerialWidth u) v) y) w w h.going h.going s s (λ n g lt sync is. refl) (λ n g lt sync is. set_unit (λ k x. x.select ≡ (unit_at chip.serials k).select) chip.serials.units u new h.size (λ less. refl) (λ k less ne. refl) n lt) (λ n g i x k lt sync is there known. refl) (λ n o knows. knows) below h.sending;
+    carriers = h.carriers;
+    words = h.words;
+    set_ups = h.set_ups;
+    sizes = h.sizes;
+    arrays = λ c. record { source = (h.arrays c).source; destination = (h.arrays c).destination };
+    lines = h.lines;
+    owed = h.owed;
+  }
+    where
+      new : Serial
+      new = record (unit_at chip.serials u) { width = v }
+
+  -- and it is the unit's
+  pub width_is : (v y : ℕ) → (unit_at (chip_after chip (Write (SerialWidth u) v) y).serials u).width ≡ v
+  width_is v y = ap (λ x. x.width) (unit_same chip u (record (unit_at chip.serials u) { width = v }) h.size few)
+
+-- ---- the end of a job
 
 -- how a sequence goes on after its job, by how it ends with it
 abbrev pub course_by : (nexts sequence next : ℕ) → Option AnswerName → SequenceNext
@@ -64,11 +113,10 @@ module _ (d : SpiTable) (fits : FitsSpi d) (below : Reservations) (chip : Chip) 
   pub ends_unit : UnitAgrees d (unit_at (chip_after chip (Write (SerialAck u) 1) y).serials u) None None
   ends_unit = (ap (λ (x : Serial). x.word) (unit_same chip u (serials.acknowledged chip.serials.time (unit_at chip.serials u)) h.size few) ∙ ap (λ q. (if q then record (unit_at chip.serials u) { received = serials.received (unit_at chip.serials u) chip.serials.time; word = None } else unit_at chip.serials u).word) done, refl)
     where
-      time : chip.serials.time ≡ w.now
-      time = h.outside.together.serials ∙ h.outside.now
-
       done : serials.is_done (unit_at chip.serials u) chip.serials.time ≡ true
-      done = ap (λ o. serials.has_ended o chip.serials.time) under.stands ∙ ap (λ t. serials.is_done_at under.word t) time ∙ done_same under.word under.transfer w.now under.like.start ∙ ap (λ (r : Run). is_done w.now r.transfer) (sym under.runs) ∙ by.done.done
+      done =
+          let time : chip.serials.time ≡ w.now = h.outside.together.serials ∙ h.outside.now in
+          ap (λ o. serials.has_ended o chip.serials.time) under.stands ∙ ap (λ t. serials.is_done_at under.word t) time ∙ done_same under.word under.transfer w.now under.like.start ∙ ap (λ (r : Run). is_done w.now r.transfer) (sym under.runs) ∙ by.done.done
 
   -- of a unit that starts jobs of pending sequences
   module _ (async : is_sync_unit d u ≡ false) where

@@ -1,14 +1,14 @@
 -- A channel is in one job under way, once: its pin and its put are that job's.
--- From spi_sequences: words.ListTests, spi_sequences: words.SameWords, spi_sequences: words.WordsToState and 1 more.
--- Used by spi_sending: services.SendFurther, words.LastKept, words.ReleasedPins and 15 more.
+-- From spi_sequences: words.SameWords, spi_sequences: services.RequestRight, spi_sequences: words.JobPlaces and 1 more.
+-- Used by services.WellEnded, spi_sending: services.SendFurther, services.FurtherBegun, services.JobLeft and 10 more.
 use Rattle.std.proofs.Common.{◌≡◌, ◌<◌, ◌==◌, ◌∙◌}
 use Rattle.spi_serving.specs.Terms
-use Terms.{any_in, ap, arith, channels_of, Chip, Contains, contains_map, false, FitsSpi, Going, going_next}
-use Terms.{GoingAgrees, held_word, is_for, is_number, is_off, is_on_unit, is_to_begin, job_there, Keeps, KeepsNone}
-use Terms.{length, next_job, None, Option, Part, Pins, PinsNone, placed_of, PutRight, Putting, received_of, refl}
-use Terms.{Reservations, RunAgrees, same_number, slice_get, Some, some_is, SpiRepresents, SpiState, SpiTable, subst}
-use Terms.{sym, taken_of, TakeRight, Taking, true, uses_channel, word_of, World, ℕ}
-use Rattle.spi_serving.specs.laws.words.JoinedLists.{get_mapped}
+use Terms.{any_in, ap, arith, channels_of, Chip, Contains, contains_map, false, FitsSpi, Going, going_next, GoingAgrees}
+use Terms.{held_word, is_for, is_number, is_off, is_on_unit, is_to_begin, job_there, Keeps, KeepsNone, length, next_job}
+use Terms.{None, Option, Part, Pins, PinsNone, placed_of, PutRight, Putting, received_of, refl, Reservations, RunAgrees}
+use Terms.{same_number, slice_get, Some, some_is, SpiRepresents, SpiState, SpiTable, subst, sym, taken_of, TakeRight}
+use Terms.{Taking, true, uses_channel, word_of, World, ℕ}
+use Rattle.spi_sequences.specs.laws.services.RequestRight.{map_get}
 
 module _ (d : SpiTable) (fits : FitsSpi d) (below : Reservations) (chip : Chip) (w : World) (s : SpiState) (h : SpiRepresents d below chip w s) (on : is_off s.mode ≡ false) where
   pub agrees_at : (u : ℕ) (g : Going) → u < 2 → h.going u ≡ Some g → GoingAgrees d (word_of chip) u g
@@ -39,7 +39,7 @@ module _ (d : SpiTable) (fits : FitsSpi d) (below : Reservations) (chip : Chip) 
       (fits.jobs (next_job d g.pending) a ea).once j i x.channel (number j y bt ∙ ap (λ c. Some c) same) (number i x at)
     where
       number : (n : ℕ) (z : Part) → slice_get g.parts n ≡ Some z → slice_get (channels_of d (next_job d g.pending)) n ≡ Some z.channel
-      number n z there = ap (λ xs. slice_get xs n) (sym (agrees_at u g lt e).channels) ∙ get_mapped (λ y. y.channel) g.parts n z there
+      number n z there = ap (λ xs. slice_get xs n) (sym (agrees_at u g lt e).channels) ∙ map_get (λ y. y.channel) g.parts n z there
 
   -- ---- the job under way of a unit
 
@@ -78,15 +78,3 @@ module _ (d : SpiTable) (fits : FitsSpi d) (below : Reservations) (chip : Chip) 
         bank_kept (Some k) f (j, y, part, more, filled) =
             let one = is_same v k j y less f part.0 part.1 in
             (p, refl, filled ∙ ap (λ z. received_of z j y) one.job ∙ ap (λ n. received_of g n y) one.place ∙ ap (received_of g i) one.part, held)
-
-    -- and is not before
-    pub none_kept : taken_of g.at i (length x.values) ≡ 0 → (o : Option Putting) → PutRight h.going (word_of chip) (placed_of d x.channel) None o → o ≡ None
-    none_kept none None h1 = refl
-    none_kept none (Some p) (v, less, keeps, held) = none_is_kept (h.going v) refl keeps
-      where
-        none_is_kept : (z : Option Going) → h.going v ≡ z → Keeps z x.channel p.filled → Some p ≡ None
-        none_is_kept None f k = absurd k
-        none_is_kept (Some k) f (j, y, part, more, filled) =
-            let one = is_same v k j y less f part.0 part.1 in
-            let same : taken_of k.at j (length y.values) ≡ taken_of g.at i (length x.values) = ap (λ z. taken_of z.at j (length y.values)) one.job ∙ ap (λ n. taken_of g.at n (length y.values)) one.place ∙ ap (λ z. taken_of g.at i (length z.values)) one.part in
-            absurd (omega (arith, more, same, none))

@@ -1,5 +1,5 @@
 -- What the machine has of the words that came in, once a job has ended well.
--- From spi_sequences: words.ListTests, words.JoinedLists, bookkeeping.JobsApart, words.Positions and 7 more.
+-- From words.Positions, spi_sequences: words.JobPlaces, bookkeeping.JobsApart, services.FreedUnit and 6 more.
 -- Used by services.WellEnded, spi_sending: services.SendGoesOn, spi_sending: services.SendLast and 3 more.
 use Rattle.std.proofs.Common.{◌≡◌, ◌≢◌, ◌+◌, ◌-◌, ◌<◌, ◌==◌, ◌&&◌, [], ◌∷◌, ◌++◌, ◌∙◌, if◌then◌else◌}
 use Rattle.spi_serving.specs.Terms
@@ -7,15 +7,15 @@ use Terms.{after_last, all_kept, ap, arith, at_contained, Bool, channel-seen, ch
 use Terms.{ext_get_or, false, first-at, first_items, get_or-drop, get_or-take, get_or_default, go_there, Goes, goes_on}
 use Terms.{goes_to_array, goes_to_channel, has_done, Interrupt, is_below, is_done, is_number, is_past, item-same}
 use Terms.{JobWord, kept, length, length-drop, length-first, List, nat_lt, no_word, None, none_any, not, not_true}
-use Terms.{Outcome, outcome, Part, received_with, refl, Run, run_at, serve-leaves, serve-receives}
-use Terms.{serve-stores, Serves, slice_get, slice_index_or, Some, spi_machine, SpiState, stored, suc, sum_by}
-use Terms.{sum_by-cons, sym, take, tells_nothing, ToChannel, ToDestination, true, untouched, with_item, with_run}
-use Terms.{word_at, word_in, word_of, words_before, words_of, ℕ}
-use Rattle.spi_serving.specs.laws.{words.AllKept.{whole}, bookkeeping.JobsApart.{agrees_at, for_at, one_part}}
-use Rattle.spi_serving.specs.laws.{services.FreedUnit.{IsFilled, with_channels}, words.JoinedLists.{before-all}}
-use Rattle.spi_serving.specs.laws.{words.JoinedLists.{before-less, before-next, get_within}, words.Positions.{words_at}}
-use Rattle.spi_serving.specs.laws.{words.Positions.{words_count}, bookkeeping.StoredWord.{stored_is, stored_like}}
-use Rattle.spi_serving.specs.laws.{bookkeeping.UnderWay.{unit_line}, ToServe.{ToServe}}
+use Terms.{Outcome, outcome, Part, received_with, refl, Run, run_at, serve-leaves, serve-receives, serve-stores, Serves}
+use Terms.{slice_get, slice_index_or, Some, spi_machine, SpiState, stored, suc, sum_by, sum_by-cons, sym, take}
+use Terms.{tells_nothing, ToChannel, ToDestination, true, untouched, with_item, with_run, word_at, word_in, word_of}
+use Terms.{words_before, words_of, ℕ}
+use Rattle.spi_serving.specs.laws.{bookkeeping.JobsApart.{agrees_at, for_at, one_part}, services.FreedUnit.{IsFilled}}
+use Rattle.spi_serving.specs.laws.{services.FreedUnit.{with_channels}, services.FurtherBegun.{stored_is, stored_like}}
+use Rattle.spi_serving.specs.laws.{ToServe.{ToServe}, words.AllKept.{whole}, words.FacingWords.{unit_line}}
+use Rattle.spi_serving.specs.laws.words.Positions.{before-all, before-less, before-next, get_within, words_at}
+use Rattle.spi_serving.specs.laws.words.Positions.{words_count}
 use Rattle.spi_machine.specs.Machine as machine
 use Rattle.spi_serving.specs.laws.words.Positions as positions
 

@@ -1,35 +1,116 @@
--- A job has ended and its sequence with it: both results and the order of the unit are told, and the words stand for the
--- machine's state.
--- From services.ToldRight, spi_sequences: bookkeeping.SequenceEnded, services.FreedUnit and 16 more.
--- Used by services.JobOverRight.
+-- A job has ended and its sequence with it: both results and the order of the unit are told (as they are where a sequence goes on),
+-- and the words stand for the machine's state.
+-- From services.FreedUnit, spi_sequences: bookkeeping.SequenceEnded, spi_sequences: words.JobPlaces and 12 more.
+-- Used by services.ServeRight, spi_sending: services.SendLast, spi_sending: services.SendGoesOn.
 use Rattle.std.proofs.Common.{◌≡◌, ◌≢◌, ◌+◌, ◌<◌, ◌≤◌, ◌&&◌, [], ◌∷◌, ◌∙◌, ◌⊎◌}
 use Rattle.spi_serving.specs.Terms
-use Terms.{after_serve, all_of, all_pending, Answer, AnswerName, ap, AreOwed, arith, Bool, Call, cases, ChannelState}
-use Terms.{Chip, CommitsTo, Contains, DiffersIn, drop-ends, drop_gave, Dropped, dropping, ended_sound, ended_view}
-use Terms.{ended_words, entries_of, failed_word, false, filter, filter_back, filter_keeps, FitsSpi, FrameRole}
-use Terms.{given_back, Going, going_asked, going_next, inl, inr, is_behind, is_for, is_left, is_next, is_of, is_off}
-use Terms.{is_some, is_sync_unit, IsOfSequence, IsPart, IsSoundState, item-other, item-same, job_code, job_result}
-use Terms.{job_word, jobs_of, Leaves, leaves_pending, Leaving, left_order, length, List, MARKS, may_store, named_own}
-use Terms.{next_ahead, next_job, next_left, next_small, NEXTS, None, not, not_order, one_owed, Option, order_there}
-use Terms.{order_word, Origin, other_number, own_first, own_order, PartTo, Pending, refl, result_by, RunsBy, RunsNext}
-use Terms.{same_or_other, search_of, sequence_code, sequence_word, sequences_as, SequencesAgree, serve_drops, Served}
-use Terms.{ServePlace, settles_part, Some, sound_as, spi_owing, SpiJobOk, SpiRepresents, SpiSeqOk, SpiSeqPending}
-use Terms.{SpiState, SpiTable, STATE, stay, subst, sym, Taker, there_by, true, unit_owed, Units, unless_done, view}
-use Terms.{with_item, without, word_of, ℕ}
+use Terms.{after_serve, all_of, all_pending, Answer, AnswerName, ap, AreOwed, arith, Bool, Call, ChannelState, Chip}
+use Terms.{chip_after, CommitsTo, Contains, DiffersIn, drop-ends, drop_gave, Dropped, dropping, ended_sound, ended_view}
+use Terms.{ended_words, entries_of, Entry, failed_word, false, filter, filter_back, filter_keeps, FitsSpi, FrameRole}
+use Terms.{from_order, given_back, going_asked, going_next, holds-agree, inl, inr, is_behind, is_for, is_left, is_next}
+use Terms.{is_of, is_off, is_some, is_sync_unit, IsOfSequence, IsPart, IsSoundState, item-other, item-same, job_code}
+use Terms.{job_result, job_word, jobs_of, Leaves, leaves_pending, Leaving, left_order, length, List, MARKS, may_store}
+use Terms.{named_own, next_ahead, next_job, next_left, next_small, NEXTS, None, not, not_order, one_owed, Option}
+use Terms.{order_there, order_word, Origin, other_number, own_first, own_order, PartTo, Pending, position_word, refl}
+use Terms.{result_by, running_word, same_or_other, search_of, sequence_code, sequence_word, sequences_as}
+use Terms.{SequencesAgree, serve_drops, Served, ServePlace, settles_part, Some, sound_as, spi_owing, SpiJobOk}
+use Terms.{SpiRepresents, SpiSeqOk, SpiSeqPending, SpiState, SpiTable, stands-move, stands_owed, StandsIn, STATE, stay}
+use Terms.{Store, stored_other, stored_same, subst, sym, Taker, there_by, to_order, true, unit_owed, Units, unless_done}
+use Terms.{view, with_item, without, word_of, World, ℕ}
+use Rattle.spi_serving.specs.laws.services.FreedUnit.{calm_run, few_run, freed_agrees, going_left, in_no_other}
+use Rattle.spi_serving.specs.laws.services.FreedUnit.{IsFilled, IsTold, Left, order_left, other_free, others_run}
+use Rattle.spi_serving.specs.laws.services.FreedUnit.{owed_left, start_owed, with_free}
+use Rattle.spi_serving.specs.laws.{services.FurtherRight.{serving}, ToServe.{ToServe}}
 use Rattle.spi_sequences.specs.Refinement.{IsLast}
-use Rattle.spi_serving.specs.laws.{services.FreedServed.{calm_run, few_run, freed_agrees, others_run}}
-use Rattle.spi_serving.specs.laws.{services.FreedUnit.{in_no_other, order_left, IsFilled, Left, going_left}}
-use Rattle.spi_serving.specs.laws.{services.FreedUnit.{other_free, others_differ, owed_left, start_owed, with_free}}
-use Rattle.spi_serving.specs.laws.{services.FurtherRight.{serving}}
-use Rattle.spi_serving.specs.laws.{bookkeeping.MovedOn.{going_here, going_other}, services.ToldRight.{IsAside}}
-use Rattle.spi_serving.specs.laws.{services.ToldRight.{aside_high, both_outside, both_told, first_told, is_told}}
-use Rattle.spi_serving.specs.laws.{services.ToldRight.{order_before, order_other, told_first, told_other, told_second}}
-use Rattle.spi_serving.specs.laws.{ToServe.{ToServe}}
-use Rattle.word_shapes.specs.Order as order
 use Rattle.word_shapes.specs.PriorityQueue as ranked
+use Rattle.word_shapes.specs.Order as order
 use Rattle.word_shapes.specs.declared.dropped.Dropped.TheVariants as drops
 use Rattle.spi_sequences.specs.declared.service.serve.SequenceNext.TheVariants as courses
 use Rattle.spi_sequences.specs.declared.service.serve.ServePlace.TheVariants as serve
+
+-- a word that is none of what a unit runs, nor of an order, nor the module's state
+pub record IsAside (a : ℕ) : Type 0 where
+  pub low : STATE < a
+  pub high : a < STATE + 64
+  pub runs : (n : ℕ) → n < 2 → (running_word n ≢ a) × (position_word n ≢ a)
+  pub orders : (n : ℕ) → n < 2 → ranked.own_of (record { at = order_word n }) a ≡ false
+
+pub aside_high : (a : ℕ) → STATE + 24 ≤ a → a < STATE + 64 → IsAside a
+aside_high a le lt = record {
+  low = omega (arith, le);
+  high = lt;
+  runs = λ n few. (λ e. omega (arith, e, le, few), λ e. omega (arith, e, le, few));
+  orders = λ n few. not_order n a (λ e. omega (arith, e, le, few)) (λ e. omega (arith, e, le, few)) (λ e. omega (arith, e, le, few));
+}
+
+pub aside_nexts : IsAside NEXTS
+aside_nexts = record {
+  low = omega arith;
+  high = omega arith;
+  runs = λ n few. (λ e. omega (arith, e), λ e. omega (arith, e));
+  orders = λ n few. not_order n NEXTS (λ e. omega (arith, e)) (λ e. omega (arith, e)) (λ e. omega (arith, e));
+}
+
+module _ (w : World) (u : ℕ) (few : u < 2) (c : Chip) (outside : StandsIn c w) (a : ℕ) (aside : IsAside a) (x : ℕ) (b : ℕ) (beside : IsAside b) (y : ℕ) (apart : a ≢ b) where
+  abbrev its : ℕ → ℕ → Bool
+  its n = ranked.own_of (record { at = order_word n })
+
+  -- the chip after both stores
+  abbrev pub first_told : Chip
+  first_told = chip_after c (Store a x) 0
+
+  abbrev pub both_told : Chip
+  both_told = chip_after first_told (Store b y) 0
+
+  pub first_outside : StandsIn first_told w
+  first_outside = stands-move c w (Store a x) 0 outside
+
+  pub both_outside : StandsIn both_told w
+  both_outside = stands-move first_told w (Store b y) 0 first_outside
+
+  both_other : (j : ℕ) → j ≢ a → j ≢ b → word_of both_told j ≡ word_of c j
+  both_other j na nb = stored_other first_told b y 0 j nb ∙ stored_other c a x 0 j na
+
+  not_own : (n j i : ℕ) → its n j ≡ true → its n i ≡ false → j ≢ i
+  not_own n j i own out e = let f = sym own ∙ ap (its n) e ∙ out in cc
+
+  -- orders are as they were
+  pub order_before : (n : ℕ) → n < 2 → (xs : List Entry) → ranked.Holds (record { at = order_word n }) (word_of c) xs → ranked.Holds (record { at = order_word n }) (word_of both_told) xs
+  order_before n lt xs h = holds-agree (record { at = order_word n }) (word_of c) (word_of both_told) xs (λ j own. sym (both_other j (not_own n j a own (aside.orders n lt)) (not_own n j b own (beside.orders n lt)))) h
+
+  module _ (f : Chip) (differs : DiffersIn (ranked.own_of (record { at = order_word u })) both_told f) where
+    pub told_other : (j : ℕ) → its u j ≡ false → j ≢ a → j ≢ b → word_of f j ≡ word_of c j
+    told_other j out na nb = differs.others j out ∙ both_other j na nb
+
+    pub told_first : word_of f a ≡ x
+    told_first = differs.others a (aside.orders u few) ∙ stored_other first_told b y 0 a apart ∙ stored_same c a x 0 (let lt = aside.high in omega (arith, lt)) outside.all.words
+
+    pub told_second : word_of f b ≡ y
+    told_second = differs.others b (beside.orders u few) ∙ stored_same first_told b y 0 (let lt = beside.high in omega (arith, lt)) first_outside.all.words
+
+    -- the order of another unit
+    pub order_other : (n : ℕ) → n < 2 → n ≢ u → (xs : List Entry) → ranked.Holds (record { at = order_word n }) (word_of c) xs → ranked.Holds (record { at = order_word n }) (word_of f) xs
+    order_other n lt ne xs h = holds-agree (record { at = order_word n }) (word_of both_told) (word_of f) xs (λ j own. sym (differs.others j (other j own))) (order_before n lt xs h)
+      where
+        other : (j : ℕ) → its n j ≡ true → its u j ≡ false
+        other j own =
+            let low = from_order n j own in
+            let high = to_order n j own in
+            not_order u j (λ e. ne (omega (arith, low, high, e, lt, few))) (λ e. ne (omega (arith, low, high, e, lt, few))) (λ e. ne (omega (arith, low, high, e, lt, few)))
+
+    pub is_told : IsTold w c f
+    is_told = record {
+      outside = stands_owed (its u) both_told f w differs both_outside;
+      rest = differs.rest;
+      above = λ j le. told_other j (not_order u j (λ e. omega (arith, e, le, few)) (λ e. omega (arith, e, le, few)) (λ e. omega (arith, e, le, few))) (λ e. let lt = aside.high in omega (arith, e, lt, le)) (λ e. let lt = beside.high in omega (arith, e, lt, le));
+      state = told_other STATE (not_order u STATE (λ e. omega (arith, e)) (λ e. omega (arith, e)) (λ e. omega (arith, e))) (λ e. let lt = aside.low in omega (arith, e, lt)) (λ e. let lt = beside.low in omega (arith, e, lt));
+      runs = λ n lt. (
+        told_other (running_word n) (not_order u (running_word n) (λ e. omega (arith, e, lt, few)) (λ e. omega (arith, e, lt, few)) (λ e. omega (arith, e, lt, few))) (aside.runs n lt).0 (beside.runs n lt).0,
+        told_other (position_word n) (not_order u (position_word n) (λ e. omega (arith, e, lt, few)) (λ e. omega (arith, e, lt, few)) (λ e. omega (arith, e, lt, few))) (aside.runs n lt).1 (beside.runs n lt).1,
+      );
+    }
+
+-- ---- a sequence ends
 
 -- ---- the sequence leaves the order: a part of what is owed
 
@@ -52,8 +133,7 @@ last_result true = tt
 last_result false = tt
 
 pub told_result : (b : Bool) → failed_word b ≡ job_code (result_by b)
-told_result true = refl
-told_result false = refl
+told_result b = grind arith
 
 -- ---- the words
 
@@ -119,18 +199,8 @@ module _ (st : ToServe) (async : is_sync_unit st.d st.u ≡ false) (owner : Orig
   sound = sound_as d (ended_view d fits (view s) h.sound p all (p.next + 1) (omega arith) results ran unrun after.pending (view s).begun leaves runs idle x named done others rest calm off) s.mode (view after).written (view after).received (view after).sources (λ e. absurd (let f = sym on ∙ e in cc)) (λ e n. absurd (let f = sym on ∙ e in cc))
       (ended_sound d fits (view s) h.sound p all (p.next + 1) (omega arith) results ran unrun after.pending (view s).begun leaves runs idle x named done others rest calm off)
 
-  nexts : (n : ℕ) → n < 2 → RunsNext d (view after) n (going_left st n)
-  nexts n lt = cases (same_or_other n u)
-      (λ e. subst (λ k. RunsNext d (view after) k (going_left st k)) (sym e) (subst (λ o. RunsNext d (view after) u o) (sym (going_here h.going u None)) tt))
-      (λ ne. subst (λ o. RunsNext d (view after) n o) (sym (going_other h.going u None n ne)) (other ne (h.going n) refl (h.nexts n lt)))
-    where
-      other : n ≢ u → (o : Option Going) → h.going n ≡ o → RunsNext d (view s) n o → RunsNext d (view after) n o
-      other ne None e r = tt
-      other ne (Some k) e r = (leaves.stays k.pending r.0 (others_differ st n k lt ne e), split (is_sync_unit d n) r.1, r.2)
-        where
-          split : (b : Bool) → RunsBy b (view s) n k.pending → RunsBy b (view after) n k.pending
-          split true begun = begun
-          split false asked = (filter_keeps (λ z. not (is_of p.sequence z)) s.pending k.pending asked.0 (ap not (other_number k.pending.sequence p.sequence (others_differ st n k lt ne e))), asked.1)
+  still : (z : Pending) → Contains s.pending z → z.sequence ≢ p.sequence → Contains after.pending z
+  still z at ne = filter_keeps (λ y. not (is_of p.sequence y)) s.pending z at (ap not (other_number z.sequence p.sequence ne))
 
   owed : AreOwed d (start_owed u owner acted ∷ below) (going_left st) after
   owed n z lt free at mine = owed_left st owner acted n lt free (λ ne. h.owed n z lt (other_free st n ne free) (filter_back (λ y. not (is_of p.sequence y)) s.pending z at).0 mine)
@@ -221,7 +291,7 @@ module _ (st : ToServe) (async : is_sync_unit st.d st.u ≡ false) (owner : Orig
           (λ j lt left none. subst (λ k. word_of f (job_word k) ≡ job_code (job_result results k)) (sym (is_next d fits p within j left none)) result_told) orders)
 
       represents : Done f
-      represents = freed_agrees st async owner acted cs like c f l (is_told w u few c l.outside result aside (failed_word r.failed) ending beside v apart f differs) after.pending after.sequence_results after.job_results sound nexts sequences owed
+      represents = freed_agrees st async owner acted cs like c f l (is_told w u few c l.outside result aside (failed_word r.failed) ending beside v apart f differs) after.pending after.sequence_results after.job_results sound still sequences owed
 
     pub result_owes : Owes (serve.Result leaving) c
     result_owes = one_owed (spi_owing d) Done (Units (serving d e u (serve.Result leaving))) c (Some (Units (serving d e u (serve.End r v)))) (may_store d fits result (failed_word r.failed) (own_first d result (omega arith) (let lt = job_few in omega (arith, lt)))) tt refl

@@ -1,7 +1,7 @@
 -- Around the steps of the serving window: its frame may make them, the hardware leaves the places as they are, and what follows
 -- a step at a place that owes moves.
 -- From spi_sequences: services.ServeSteps, spi_sequences: hardware.StableUnderHardware.
--- Used by spi_driver: services.ServePart, spi_sending: services.SendAround.
+-- Used by spi_driver: services.UnitBounds, spi_driver: services.UnitRight, spi_sending: services.SendAround.
 use Rattle.std.proofs.Common.{◌≡◌, ◌≢◌, ◌+◌, ◌<◌, ◌≤◌, ◌==◌, ◌&&◌, ◌∙◌, ◌⊎◌, if◌then◌else◌}
 use Rattle.spi_serving.specs.Terms
 use Terms.{after_job, ap, arith, Arrived, asked_word, begins_word, Bool, cancelled_bit, carried_at, Carrying}
@@ -10,12 +10,11 @@ use Terms.{get_or-set_other, get_or-set_same, happened, has_mark, idle, inl, inr
 use Terms.{IsArrived, IsDone, IsFinding, IsFurther, IsLast, IsServed, IsTaken, item-other, item-same, length, Level}
 use Terms.{level_leaves, Load, MARKS, Memory, moved, nat_le, nat_tests, NEXTS, None, Option, Order, Position, refl}
 use Terms.{resets_chip, Run, run_at, run_carried, run_in, running_word, same_or_other, Serial, serve_move, serve_owes}
-use Terms.{Served, ServePlace, slice_index_or, Some, SpiFault, SpiState, SpiTable, subst, sym, Taker, taker_of, Tick}
-use Terms.{Transfer, true, unit_at, unit_run, Word, word_of, word_place, words_kept, World, world_after, ℕ}
+use Terms.{Served, ServePlace, slice_index_or, Some, some_is, SpiFault, SpiState, SpiTable, subst, sym, Taker, taker_of}
+use Terms.{Tick, Transfer, true, unit_at, unit_run, Word, word_of, word_place, words_kept, World, world_after, ℕ}
 use Rattle.chip_units.specs.Serials as serials
 use Rattle.spi_jobs.specs.declared.finding.Find.TheVariants as finds
 use Rattle.spi_sequences.specs.declared.service.serve.ServePlace.TheVariants as serve
-use Rattle.mcal_base.specs.facts.Options.{some_is}
 
 -- ---- the hardware leaves the places
 
@@ -65,8 +64,7 @@ module _ (d : SpiTable) (u : ℕ) (f f1 : Footing) (w w1 : World) (s s1 : SpiSta
 
 module _ (d : SpiTable) (u : ℕ) (few : u < 2) (chip : Chip) (w : World) (s : SpiState) (size : length chip.serials.units ≡ 2) where
   same_width : (x : Serial) (o : Option Word) (q : Bool) → (if q then record x { word = o } else x).width ≡ x.width
-  same_width x o true = refl
-  same_width x o false = refl
+  same_width x o q = grind arith
 
   width_kept : (n : ℕ) → (unit_at (serials.after_fault chip.serials n) u).width ≡ (unit_at chip.serials u).width
   width_kept n = width_same (same_or_other u n)
@@ -121,16 +119,7 @@ module _ (d : SpiTable) (u : ℕ) where
   calm_find _ = (refl, refl)
 
   pub serve_calm : (p : ServePlace) → serve_owes p ≡ false → NotServing p → (resets_chip (serve_move d u p) ≡ false) × (begins_word (serve_move d u p) ≡ false)
-  serve_calm serve.Shut e n = (refl, refl)
-  serve_calm serve.State e n = (refl, refl)
-  serve_calm (serve.Running b) e n = (refl, refl)
-  serve_calm (serve.Position r b) e n = (refl, refl)
   serve_calm (serve.Taker r) e n = calm_asking ((channel_served d r).channel.internal && r.at.word == 0) _ _
-  serve_calm (serve.Receive r t) e n = (refl, refl)
-  serve_calm (serve.Width a p) e n = (refl, refl)
   serve_calm (serve.Find a p x) e n = calm_find x
   serve_calm (serve.Begin a p v) e n = absurd n
-  serve_calm (serve.Marks a) e n = (refl, refl)
-  serve_calm (serve.Nexts a c) e n = (refl, refl)
-  serve_calm (serve.Acknowledge a c) e n = (refl, refl)
-  serve_calm _ e n = absurd (cc)
+  serve_calm _ e n = (cc, cc)

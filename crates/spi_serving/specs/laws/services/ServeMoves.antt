@@ -1,18 +1,18 @@
 -- The moves of the serving window are its frame's.
--- From words.FacingWords, spi_sequences: words.WordsOfModule, words.FoundWord and 7 more.
--- Used by spi_driver: services.ServePart, spi_sending: services.SendAround.
+-- From words.FacingWords, spi_sequences: words.WordsOfModule, spi_sequences: services.ServeSteps and 6 more.
+-- Used by spi_driver: services.UnitRight, spi_driver: services.UnitSteps, spi_sending: services.SendAround.
 use Rattle.std.proofs.Common.{◌≡◌, ◌<◌, ◌==◌, ◌&&◌, ◌||◌, ◌∙◌, if◌then◌else◌}
 use Rattle.spi_serving.specs.Terms
 use Terms.{and_parts, arith, Arrived, asked_word, asking, bank_word, Channel, channel_of, channel_served, Chip}
 use Terms.{control_word, false, Find, find_move, FitsSpi, has_channel, held_word, is_shared, IsFinding, IsFurther}
-use Terms.{length_by, Load, lt_from, MARKS, may, may_first, may_store, may_users, Move, NEXTS, of_sixteen}
-use Terms.{own-control, own-word, own_held, Placed, placed_of, Position, position_word, Received, refl, Reservations}
-use Terms.{running_word, Sent, serve_move, serve_owes, ServePlace, Some, source_own, source_word, SpiRepresents}
-use Terms.{SpiState, SpiTable, subst, sym, trio_of, true, whether_as, word_of, word_place, World, ℕ}
-use Rattle.spi_serving.specs.laws.{services.ServeDecisions.{asks_load, footing}, words.FacingWords.{next_at}}
-use Rattle.spi_serving.specs.laws.{words.FacingWords.{next_channel, served_by, served_is, standing, way}}
-use Rattle.spi_serving.specs.laws.{words.FoundWord.{bank_small, known, pinned_bank_is, placed}}
-use Rattle.spi_serving.specs.laws.{words.Positions.{part_few, part_known}, words.SidesApart.{banks_own, is_inside}}
+use Terms.{length_by, Load, lt_from, MARKS, may, may_first, may_store, may_users, Move, NEXTS, of_sixteen, own-control}
+use Terms.{own-word, own_held, Placed, placed_of, Position, position_word, Received, refl, Reservations, running_word}
+use Terms.{Sent, serve_move, serve_owes, ServePlace, Some, source_own, source_word, SpiRepresents, SpiState, SpiTable}
+use Terms.{subst, sym, trio_of, true, whether_as, word_of, word_place, World, ℕ}
+use Rattle.spi_serving.specs.laws.{services.ServeRight.{asks_load, footing}, words.FacingWords.{bank_small, known}}
+use Rattle.spi_serving.specs.laws.words.FacingWords.{next_at, next_channel, pinned_bank_is, placed, served_by}
+use Rattle.spi_serving.specs.laws.{words.FacingWords.{served_is, standing, way}, words.Positions.{part_few, part_known}}
+use Rattle.spi_serving.specs.laws.words.SidesApart.{banks_own, is_inside}
 use Rattle.spi_jobs.specs.declared.finding.Find.TheVariants as finds
 use Rattle.spi_sequences.specs.declared.service.serve.ServePlace.TheVariants as serve
 

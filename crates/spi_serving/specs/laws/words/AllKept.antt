@@ -1,21 +1,23 @@
--- A job's last word is kept: what its internal channels received becomes readable, one channel after the other.
--- From spi_sequences: services.ServeSteps, words.SidesApart, words.JoinedLists, bookkeeping.JobsApart and 10 more.
--- Used by words.LastKept, services.JobLeft, services.WellEnded, words.CommitWords and 4 more.
+-- A job's last word is kept: what its internal channels received becomes readable, one channel after the other, each with its moves.
+-- From words.Positions, words.SidesApart, spi_sequences: services.ServeSteps, spi_sequences: words.Cases and 8 more.
+-- Used by services.JobLeft, services.WellEnded, spi_sending: services.SendKeeps and 3 more.
 use Rattle.std.proofs.Common.{◌≡◌, ◌≢◌, ◌+◌, ◌-◌, ◌<◌, ◌≤◌, ◌==◌, [], ◌∷◌, ◌++◌, ◌∙◌, ◌⊎◌, if◌then◌else◌}
 use Rattle.spi_serving.specs.Terms
-use Terms.{Answer, ap, AreThere, arith, bank_of, Banks, Bool, Channel, channel_at_place, channel_of, Chip}
-use Terms.{commit-ends, commit_at, commit_by, commit_last, commit_with, CommitsTo, committing, committing_of}
-use Terms.{DiffersIn, drop, false, first_internal, has_ended, held_word, inl, inr, is_number, is_some, IsPart}
-use Terms.{Leaving, length, length-append, length-take-le, List, may_store, Memory, named_own, nat_lt, nat_tests}
-use Terms.{next_job, None, Option, own_held, own_low, Part, PartBy, PartTo, PendingWrites, placed_of, Put, put_gave}
-use Terms.{put_left, PutIn, Putting, putting, Received, refl, same_or_other, serve_commits, serve_owes, ServePlace}
-use Terms.{settles_part, slice_get, Some, some_is, spi_owing, SpiTable, stands-agree, stands_owed, StandsIn, subst}
-use Terms.{suc, sym, take, take_held, trio_of, TripleBuffer, true, whether_as, word_of, words_before, words_of, ℕ}
-use Rattle.spi_serving.specs.laws.{bookkeeping.JobsApart.{agrees_at, for_at, one_part}, services.EndsOwed.{end_to, OwesEnds, OwesPut}}
-use Rattle.spi_serving.specs.laws.{words.JoinedLists.{before-all, before-less, before-next, dropped-count, get_within}}
-use Rattle.spi_serving.specs.laws.{words.Positions.{channel_there, part_known, words_count}}
-use Rattle.spi_serving.specs.laws.{words.SidesApart.{banks_fit, banks_of_one, banks_own, banks_unheld, banks_words}}
-use Rattle.spi_serving.specs.laws.{words.SidesApart.{is_inside}, ToServe.{ToServe}}
+use Terms.{Answer, ap, AreThere, arith, bank_of, Banks, Bool, cases, Channel, channel_at_place, channel_number}
+use Terms.{channel_of, Chip, commit-ends, commit_at, commit_last, commit_with, CommitsTo, committing, committing_of}
+use Terms.{DiffersIn, drop, false, first_internal, has_ended, held_word, inl, inr, is_number, is_some, IsPart, IsWordOf}
+use Terms.{Leaving, length, length-append, length-take-le, List, list_of, lt_since, map, may_store, meets_at, Memory}
+use Terms.{named_own, nat_lt, nat_tests, next_job, None, Option, own_held, own_low, Part, PartBy, PartTo, PendingWrites}
+use Terms.{placed_of, Put, put_gave, put_left, PutIn, Putting, putting, Received, refl, same_or_other, serve_commits}
+use Terms.{serve_owes, Served, ServePlace, settles_part, Side, slice_get, Some, some_is, some_or_none, SOURCES}
+use Terms.{spi_owing, SpiTable, stands-agree, stands_owed, StandsIn, STATE, subst, suc, sym, take, take_held, trio_of}
+use Terms.{TripleBuffer, true, whether_as, word_of, words_before, words_of, zero, ℕ}
+use Rattle.spi_serving.specs.laws.{bookkeeping.JobsApart.{agrees_at, for_at, one_part}, services.FurtherRight.{end_to}}
+use Rattle.spi_serving.specs.laws.{services.FurtherRight.{OwesEnds, OwesPut}, ToServe.{ToServe}}
+use Rattle.spi_serving.specs.laws.words.Positions.{before-all, before-less, before-next, channel_there, dropped-count}
+use Rattle.spi_serving.specs.laws.words.Positions.{get_within, list_channels, number_there, part_known, words_count}
+use Rattle.spi_serving.specs.laws.words.SidesApart.{banks_fit, banks_low, banks_of_one, banks_own, banks_past}
+use Rattle.spi_serving.specs.laws.words.SidesApart.{banks_unheld, banks_words, is_inside}
 use Rattle.word_shapes.specs.TripleBuffer as trio
 use Rattle.spi_jobs.specs.declared.banks.Commit.TheVariants as commits
 use Rattle.spi_jobs.specs.declared.keeping.Taker.TheVariants as takers
@@ -24,9 +26,7 @@ use Rattle.spi_sequences.specs.declared.service.serve.ServePlace.TheVariants as 
 -- ---- places after a job's last word owe moves
 
 pub commit_owes : (d : SpiTable) (l : Leaving) (n : ℕ) → serve_owes (commit_last d l n) ≡ true
-commit_owes d l n =
-    elim (first_internal d l.served n) as (λ o. serve_owes (commit_by d l o) ≡ true)
-    [ None ↦ refl | Some i ↦ refl ]
+commit_owes d l n = grind arith
 
 pub lt_else : (i n : ℕ) → i ≢ n → nat_lt i (suc n) ≡ nat_lt i n
 lt_else i n ne = grind (arith, nat_tests)
@@ -39,6 +39,38 @@ part_channel st = part_known st.d st.fits st.u (word_of st.chip) st.g (for_at st
 
 pub part_inside : (st : ToServe) (n : ℕ) (x : Part) (at : slice_get st.g.parts n ≡ Some x) → (placed_of st.d x.channel).channel.internal ≡ true → (part_channel st n x at).0.internal ≡ true
 part_inside st n x at inside = is_inside st.d st.fits x.channel (part_channel st n x at).0 (part_channel st n x at).1 inside
+
+-- a word that is in no bank of this side of the job's channels
+module _ (st : ToServe) (side : Side) where
+  abbrev pub IsBeside : ℕ → Type 0
+  IsBeside j = (n : ℕ) (x : Part) → slice_get st.g.parts n ≡ Some x → (placed_of st.d x.channel).channel.internal ≡ true → trio.own_of (trio_of (placed_of st.d x.channel) side) j ≡ false
+
+  pub first_beside : (j : ℕ) → j < STATE + 64 → IsBeside j
+  first_beside j lt n x at i = banks_past st.d st.fits x.channel (part_channel st n x at).0 (part_channel st n x at).1 (part_inside st n x at i) side j lt
+
+  pub users_beside : (j : ℕ) → SOURCES ≤ j → IsBeside j
+  users_beside j le n x at i = banks_low st.d st.fits x.channel (part_channel st n x at).0 (part_channel st n x at).1 (part_inside st n x at i) side j le
+
+  module _ (n : ℕ) (k : Channel) (known : channel_of st.d n ≡ Some k) where
+    pub held_beside : IsBeside (held_word (placed_of st.d n))
+    held_beside m x at i = banks_unheld st.d st.fits x.channel (part_channel st m x at).0 (part_channel st m x at).1 (part_inside st m x at i) side n k known
+
+    pub word_beside : (j : ℕ) → IsWordOf st.d n k j → ((m : ℕ) (x : Part) → slice_get st.g.parts m ≡ Some x → n ≡ x.channel → (placed_of st.d x.channel).channel.internal ≡ true → trio.own_of (trio_of (placed_of st.d x.channel) side) j ≡ false) → IsBeside j
+    word_beside j word own m x at i = cases (same_or_other n x.channel)
+        (λ e. own m x at e i)
+        (λ ne. banks_of_one st.d st.fits x.channel (part_channel st m x at).0 (part_channel st m x at).1 (part_inside st m x at i) side n k j ne known word)
+
+  -- nor is what is held of one of them
+  pub part_beside : (n : ℕ) (x : Part) → slice_get st.g.parts n ≡ Some x → IsBeside (held_word (placed_of st.d x.channel))
+  part_beside n x at = held_beside x.channel (part_channel st n x at).0 (part_channel st n x at).1
+
+  -- banks of two places are apart
+  pub places_apart : (n m : ℕ) (x z : Part) → slice_get st.g.parts n ≡ Some x → slice_get st.g.parts m ≡ Some z → (placed_of st.d x.channel).channel.internal ≡ true → (placed_of st.d z.channel).channel.internal ≡ true → m ≢ n
+      → (j : ℕ) → trio.own_of (trio_of (placed_of st.d z.channel) side) j ≡ true → trio.own_of (trio_of (placed_of st.d x.channel) side) j ≡ false
+  places_apart n m x z at bt inside within ne j own =
+      let q = part_channel st m z bt in
+      let k = part_channel st n x at in
+      banks_of_one st.d st.fits x.channel k.0 k.1 (part_inside st n x at inside) side z.channel q.0 j (λ e. ne (one_part st.d st.fits st.below st.chip st.w st.s st.h st.on st.u st.g st.few st.is n m x z at bt e)) q.1 (banks_words st.d st.fits z.channel q.0 q.1 (part_inside st m z bt within) side j own)
 
 module _ (st : ToServe) (v : ℕ) where
   open st use {d, fits, below, chip, w, s, h, on, u, few, g, is}
@@ -62,7 +94,7 @@ module _ (st : ToServe) (v : ℕ) where
 
   -- a word that is in no bank of what the job's channels receive
   abbrev pub IsApart : ℕ → Type 0
-  IsApart j = (n : ℕ) (x : Part) → slice_get g.parts n ≡ Some x → (placed_of d x.channel).channel.internal ≡ true → trio.own_of (trio_at x) j ≡ false
+  IsApart j = IsBeside st Received j
 
   -- what came in of the internal parts at these places is readable
   pub record AllKept (b : Chip) (committed : ℕ → Bool) (c : Chip) : Type 0 where
@@ -70,16 +102,6 @@ module _ (st : ToServe) (v : ℕ) where
     pub rest : c ≡ record b { words = c.words }
     pub apart : (j : ℕ) → IsApart j → word_of c j ≡ word_of b j
     pub received : (n : ℕ) (x : Part) → slice_get g.parts n ≡ Some x → (placed_of d x.channel).channel.internal ≡ true → ReceivedAt n x (word_of c) (committed n)
-
-  -- banks of two places are apart
-  pub places_apart : (n m : ℕ) (x z : Part) → slice_get g.parts n ≡ Some x → slice_get g.parts m ≡ Some z → (placed_of d x.channel).channel.internal ≡ true → (placed_of d z.channel).channel.internal ≡ true → m ≢ n → (j : ℕ) → trio.own_of (trio_at z) j ≡ true → trio.own_of (trio_at x) j ≡ false
-  places_apart n m x z at bt inside within ne j own =
-      let k = part_channel st n x at in
-      let q = part_channel st m z bt in
-      banks_of_one d fits x.channel k.0 k.1 (is_inside d fits x.channel k.0 k.1 inside) Received z.channel q.0 j (λ e. ne (one_part d fits below chip w s h on u g few is n m x z at bt e)) q.1 (banks_words d fits z.channel q.0 q.1 (is_inside d fits z.channel q.0 q.1 within) Received j own)
-
-  pub unheld : (n m : ℕ) (x z : Part) → slice_get g.parts n ≡ Some x → slice_get g.parts m ≡ Some z → (placed_of d x.channel).channel.internal ≡ true → trio.own_of (trio_at x) (held_word (placed_of d z.channel)) ≡ false
-  unheld n m x z at bt inside = let k = part_channel st n x at in let q = part_channel st m z bt in banks_unheld d fits x.channel k.0 k.1 (is_inside d fits x.channel k.0 k.1 inside) Received z.channel q.0 q.1
 
   module _ (b : Chip) (n : ℕ) (x : Part) (at : slice_get g.parts n ≡ Some x) (inside : (placed_of d x.channel).channel.internal ≡ true) where
     -- the banks of one place change
@@ -101,9 +123,9 @@ module _ (st : ToServe) (v : ℕ) where
               puts = r.puts;
               filled = r.filled;
               takes = r.takes;
-              held = differs.others (held_word (placed_of d z.channel)) (unheld n m x z at bt inside) ∙ r.held;
+              held = differs.others (held_word (placed_of d z.channel)) (part_beside st Received m z bt n x at inside) ∙ r.held;
               stands = subst (λ q. trio.Stands (trio_at z) (word_of c1) (if q then committing r.put r.banks else r.banks)) (sym (others m ne))
-                  (stands-agree (trio_at z) (word_of c) (word_of c1) (if f m then committing r.put r.banks else r.banks) (λ j own. sym (differs.others j (places_apart n m x z at bt inside within ne j own))) r.stands);
+                  (stands-agree (trio_at z) (word_of c) (word_of c1) (if f m then committing r.put r.banks else r.banks) (λ j own. sym (differs.others j (places_apart st Received n m x z at bt inside within ne j own))) r.stands);
             }
 
     -- ---- a channel's words become readable
@@ -161,7 +183,7 @@ module _ (st : ToServe) (v : ℕ) where
                 puts = was.puts;
                 filled = was.filled;
                 takes = was.takes;
-                held = differs.others (held_word (placed_of d x.channel)) (unheld n n x x at at inside) ∙ was.held;
+                held = differs.others (held_word (placed_of d x.channel)) (part_beside st Received n x at n x at inside) ∙ was.held;
                 stands = subst (λ q. trio.Stands (trio_at x) (word_of c1) (if q then committing was.put was.banks else was.banks)) (sym by_now) now.1;
               }) others))
 
@@ -207,3 +229,83 @@ module _ (st : ToServe) (v : ℕ) where
               (whether_as (n == l.served.at.channel) (λ q. Owes (serve.Commit l n (commit_with (placed_of d x.channel) q l.taker)) c)
               (λ k. let z = taken (is_number n l.served.at.channel k) in subst (λ y. Owes (serve.Commit l n (commit_with (placed_of d x.channel) true y)) c) (sym z.1) (commit_put z.0 (z.2 ∙ r.held)))
               (λ k. commit_held))
+
+-- ---- the places of the job, one after the other
+
+-- the places before this one
+abbrev pub upto : ℕ → (place : ℕ) → Bool
+upto n i = nat_lt i n
+
+pub none_mapped : {A B : Type 0} (f : A → B) (xs : List A) (n : ℕ) → slice_get xs n ≡ None → slice_get (map f xs) n ≡ None
+none_mapped f [] n e = refl
+none_mapped f (x ∷ xs) zero e = absurd (cc)
+none_mapped f (x ∷ xs) (suc n) e = none_mapped f xs n e
+
+module _ (st : ToServe) (v : ℕ) (b : Chip) (served : Served) (job_is : served.run.job ≡ next_job st.d st.g.pending) where
+  open st use {d, fits, below, chip, w, s, h, on, u, few, g, is}
+
+  abbrev On : (ℕ → Bool) → Chip → Type 0
+  On f c = AllKept st v b f c
+
+  abbrev has_inside : Part → Bool
+  has_inside x = (placed_of d x.channel).channel.internal
+
+  -- a place without an internal channel
+  lifted : (n : ℕ) (c : Chip) → On (upto n) c → ((x : Part) → slice_get g.parts n ≡ Some x → has_inside x ≡ false) → On (upto (suc n)) c
+  lifted n c a none = record {
+    outside = a.outside;
+    rest = a.rest;
+    apart = a.apart;
+    received = λ m z bt within. subst (λ q. ReceivedAt st v m z (word_of c) q) (sym (lt_else m n (λ f. let other = none z (ap (slice_get g.parts) (sym f) ∙ bt) in let k = sym other ∙ within in cc))) (a.received m z bt within);
+  }
+
+  -- what a place of the job has, as a frame looks for it
+  meets_none : (n : ℕ) → slice_get g.parts n ≡ None → meets_at d (λ x. x.channel.internal) (channel_number (list_of d served.run.job) n) ≡ false
+  meets_none n f =
+      ap (λ j. meets_at d (λ x. x.channel.internal) (channel_number (list_of d j) n)) job_is
+      ∙ ap (meets_at d (λ x. x.channel.internal)) (ap (λ xs. slice_get xs n) (list_channels d fits u (word_of chip) g (for_at d fits below chip w s h on u g few is) (agrees_at d fits below chip w s h on u g few is) ∙ sym (agrees_at d fits below chip w s h on u g few is).channels) ∙ none_mapped (λ y. y.channel) g.parts n f)
+
+  meets_some : (n : ℕ) (x : Part) → slice_get g.parts n ≡ Some x → meets_at d (λ y. y.channel.internal) (channel_number (list_of d served.run.job) n) ≡ has_inside x
+  meets_some n x f =
+      ap (λ j. meets_at d (λ y. y.channel.internal) (channel_number (list_of d j) n)) job_is
+      ∙ ap (meets_at d (λ y. y.channel.internal)) (number_there d fits u (word_of chip) g (for_at d fits below chip w s h on u g few is) (agrees_at d fits below chip w s h on u g few is) n x f)
+
+  -- what is held of a channel stays while banks are committed
+  pub held_kept : (n : ℕ) (x : Part) → slice_get g.parts n ≡ Some x → (f : ℕ → Bool) (c : Chip) → On f c → word_of c (held_word (placed_of d x.channel)) ≡ word_of b (held_word (placed_of d x.channel))
+  held_kept n x at f c a = a.apart (held_word (placed_of d x.channel)) (part_beside st Received n x at)
+
+  -- as a frame owes the moves of an internal channel at a place, where there is one, and what it owes after the last one
+  module _ (owing : Option ℕ → PendingWrites) (Done : Chip → Type 0) where
+    abbrev Owing : Option ℕ → Chip → Type 0
+    Owing o c = (i : ℕ) × CommitsTo (spi_owing d) i (owing o) c Done
+
+    module _ (one : (n : ℕ) (x : Part) → slice_get g.parts n ≡ Some x → has_inside x ≡ true → (c : Chip) → On (upto n) c → ((c1 : Chip) → On (upto (suc n)) c1 → Owing (first_internal d served (3 - n)) c1) → Owing (Some n) c)
+        (onward : (c : Chip) → On (upto 4) c → Owing None c) where
+      small : (m n : ℕ) → n + suc m ≡ 4 → nat_lt 3 m ≡ false
+      small m n four = lt_since 3 m (omega (arith, four))
+
+      abbrev by_first : (n m : ℕ) → Bool → Option ℕ
+      by_first n m q = if q then Some n else first_internal d served m
+
+      first_is : (m n : ℕ) → n + suc m ≡ 4 → (q : Bool) → meets_at d (λ x. x.channel.internal) (channel_number (list_of d served.run.job) n) ≡ q → first_internal d served (suc m) ≡ by_first n m q
+      first_is m n four q e1 =
+          ap (λ z. if z then None else if meets_at d (λ x. x.channel.internal) (channel_number (list_of d served.run.job) (4 - suc m)) then Some (4 - suc m) else first_internal d served m) (small m n four)
+          ∙ ap (λ i. if meets_at d (λ x. x.channel.internal) (channel_number (list_of d served.run.job) i) then Some i else first_internal d served m) (let at : 4 - suc m ≡ n = omega (arith, four) in at)
+          ∙ ap (by_first n m) e1
+
+      pub commits_owed : (m n : ℕ) → n + m ≡ 4 → (c : Chip) → On (upto n) c → Owing (first_internal d served m) c
+      commits_owed zero n four c a = onward c (subst (λ k. On (upto k) c) (let same : n ≡ 4 = omega (arith, four) in same) a)
+      commits_owed (suc m) n four c a = some_or_none (slice_get g.parts n)
+          (λ x f. there (commits_owed m (suc n) (omega (arith, four))) x f (has_inside x) refl)
+          (λ f. skip (commits_owed m (suc n) (omega (arith, four))) (meets_none n f) (λ x at. absurd (let k = sym f ∙ at in cc)))
+        where
+          More : Type 0
+          More = (c1 : Chip) → On (upto (suc n)) c1 → Owing (first_internal d served m) c1
+
+          skip : More → meets_at d (λ x. x.channel.internal) (channel_number (list_of d served.run.job) n) ≡ false → ((x : Part) → slice_get g.parts n ≡ Some x → has_inside x ≡ false) → Owing (first_internal d served (suc m)) c
+          skip more f none = subst (λ o. Owing o c) (sym (first_is m n four false f)) (more c (lifted n c a none))
+
+          there : More → (x : Part) → slice_get g.parts n ≡ Some x → (q : Bool) → has_inside x ≡ q → Owing (first_internal d served (suc m)) c
+          there more x at false f = skip more (meets_some n x at ∙ f) (λ z bt. ap has_inside (some_is z x (sym bt ∙ at)) ∙ f)
+          there more x at true f = subst (λ o. Owing o c) (sym (first_is m n four true (meets_some n x at ∙ f)))
+              (one n x at f c a (λ c1 a1. subst (λ k. Owing (first_internal d served k) c1) (let same : m ≡ 3 - n = omega (arith, four) in same) (more c1 a1)))

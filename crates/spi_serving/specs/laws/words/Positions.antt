@@ -1,50 +1,127 @@
--- Where words of a job under way stand: which is at a place of its parts, and which place comes after it.
--- From words.JoinedLists, spi_sequences: services.ServeSteps, spi_sequences: words.ListTests and 2 more.
--- Used by words.FacingWords, services.FurtherRight, words.FoundWord, spi_sending: bookkeeping.HeldWord and 16 more.
-use Rattle.std.proofs.Common.{◌≡◌, ◌+◌, ◌*◌, ◌/◌, ◌%◌, ◌<◌, ◌≤◌, ◌==◌, ◌&&◌, ◌||◌, ◌∙◌, if◌then◌else◌}
+-- Lists that are joined of parts, and where words of a job under way stand in them: which is at a place, and which place comes after.
+-- From spi_sequences: services.ServeSteps, spi_sequences: words.SameWords and 3 more.
+-- Used by words.FacingWords, services.FurtherBegun, services.WellEnded, words.AllKept and 11 more.
+use Rattle.std.proofs.Common.{◌≡◌, ◌+◌, ◌-◌, ◌<◌, ◌≤◌, ◌&&◌, ◌||◌, ◌==◌, [], ◌∷◌, ◌++◌, ◌∙◌, if◌then◌else◌}
 use Rattle.spi_serving.specs.Terms
 use Terms.{after_word, ap, arith, as_words, asked_word, bank_of, Bool, Channel, channel_at_place, channel_number}
-use Terms.{channel_of, channels_by, channels_of, control_word, ExternalAgrees, false, FitsSpi, flag, free_bank, Going}
-use Terms.{GoingAgrees, has_channel, held_word, is_ahead, is_below, is_for, is_past, is_to_begin, Job, job_of}
-use Terms.{job_there, JobWord, length, length-map, length-take-le, length_taken, List, list_by, list_of, masked}
-use Terms.{Memory, min, nat_lt, nat_tests, next_job, no_word, None, not, Option, packed, Part, part_there, PartBy}
-use Terms.{Placed, placed_by, placed_of, Position, Received, refl, SetUp, slice_get, slice_index_or, Some, SpiTable}
-use Terms.{subst, suc, sum_by, sym, take, taker_of, true, unpacked, width_by, words_before, words_of, ℕ}
-use Rattle.spi_serving.specs.laws.words.JoinedLists.{before-all, before-less, before-next, get_mapped, get_there}
-use Rattle.spi_serving.specs.laws.words.JoinedLists.{get_within, joined-at, joined-count, numbered-count}
-use Rattle.spi_serving.specs.laws.words.JoinedLists.{numbered-first}
+use Terms.{channel_of, channels_by, channels_of, control_word, drop, enumerate_from, ExternalAgrees, false, FitsSpi}
+use Terms.{flat_map, flat_map-cons, free_bank, get_or-append-add, get_or_append_left, Going, GoingAgrees, has_channel}
+use Terms.{held_word, is_ahead, is_below, is_for, is_past, is_to_begin, Job, job_of, job_there, JobWord, length}
+use Terms.{length-append, length-map, length-take-le, length_taken, List, list_by, list_of, map, masked, Memory, min}
+use Terms.{nat_lt, nat_tests, next_job, no_word, None, not, Option, Part, part_there, PartBy, Placed, placed_by}
+use Terms.{placed_of, Position, Received, refl, slice_get, slice_index_or, Some, SpiTable, subst, suc, sum_by}
+use Terms.{sum_by-cons, sym, take, taker_of, true, unpacked, unpacked_back, width_by, words_before, words_of, zero, ℕ}
+use Rattle.spi_sequences.specs.laws.services.RequestRight.{map_get}
 use Rattle.spi_jobs.specs.declared.keeping.Taker.TheVariants as takers
 
--- ---- set-ups in their words
+-- what is there of a list, with an item that isn't
+pub get_index : {A : Type 0} (xs : List A) (n : ℕ) (x z : A) → slice_get xs n ≡ Some x → slice_index_or xs n z ≡ x
+get_index [] n x z e = absurd (cc)
+get_index (y ∷ ys) zero x z e = cc
+get_index (y ∷ ys) (suc n) x z e = get_index ys n x z e
 
-pub unpacked_back : (x : SetUp) → x.length < 256 → unpacked (packed x) ≡ x
-unpacked_back x few = same (unpacked (packed x)) (first x.source x.destination) (second x.source x.destination) (third (flag x.source) (flag x.destination) (flag_few x.source) (flag_few x.destination))
-  where
-    same : (y : SetUp) → y.source ≡ x.source → y.destination ≡ x.destination → y.length ≡ x.length → y ≡ x
-    same y e f g = ap (λ q. record { source = q; destination = y.destination; length = y.length }) e ∙ ap (λ q. record { source = x.source; destination = q; length = y.length }) f ∙ ap (λ n. record { source = x.source; destination = x.destination; length = n }) g
+pub get_within : {A : Type 0} (xs : List A) (n : ℕ) (x : A) → slice_get xs n ≡ Some x → n < length xs
+get_within [] n x e = absurd (cc)
+get_within (y ∷ ys) zero x e = omega arith
+get_within (y ∷ ys) (suc n) x e = let lt = get_within ys n x e in omega (arith, lt)
 
-    flag_few : (q : Bool) → flag q ≤ 1
-    flag_few true = omega arith
-    flag_few false = omega arith
+pub get_there : {A : Type 0} (xs : List A) (n : ℕ) → n < length xs → (x : A) × (slice_get xs n ≡ Some x)
+get_there [] n lt = absurd (omega (arith, lt))
+get_there (y ∷ ys) zero lt = (y, refl)
+get_there (y ∷ ys) (suc n) lt = get_there ys n (omega (arith, lt))
 
-    flagged : (q : Bool) → (flag q == 1) ≡ q
-    flagged true = refl
-    flagged false = refl
+module _ {A : Type 0} (size : A → ℕ) where
+  -- how many are before a part
+  abbrev pub before : List A → ℕ → ℕ
+  before xs n = sum_by size (take n xs)
 
-    first_digit : (a b : ℕ) → a ≤ 1 → (a + 2 * b + 4 * x.length) % 2 ≡ a
-    first_digit a b le = omega (arith, le)
+  pub before-next : (xs : List A) (n : ℕ) (x : A) → slice_get xs n ≡ Some x → before xs (suc n) ≡ before xs n + size x
+  before-next [] n x e = absurd (cc)
+  before-next (y ∷ ys) zero x e = let same : y ≡ x = cc in ap (λ z. sum_by size (z ∷ [])) same ∙ sum_by-cons size x [] ∙ omega arith
+  before-next (y ∷ ys) (suc n) x e =
+      let rest = before-next ys n x e in
+      let more = sum_by-cons size y (take (suc n) ys) in
+      let less = sum_by-cons size y (take n ys) in
+      omega (arith, rest, more, less)
 
-    second_digit : (a b : ℕ) → a ≤ 1 → b ≤ 1 → (a + 2 * b + 4 * x.length) / 2 % 2 ≡ b
-    second_digit a b le less = omega (arith, le, less)
+  pub before-less : (xs : List A) (n k : ℕ) → n ≤ k → before xs n ≤ before xs k
+  before-less xs (suc n) zero le = absurd (omega (arith, le))
+  before-less (y ∷ ys) (suc n) (suc k) le =
+      let rest = before-less ys n k (omega (arith, le)) in
+      let more = sum_by-cons size y (take k ys) in
+      let less = sum_by-cons size y (take n ys) in
+      omega (arith, rest, more, less)
+  before-less _ _ _ le = omega arith
 
-    third : (a b : ℕ) → a ≤ 1 → b ≤ 1 → (a + 2 * b + 4 * x.length) / 4 % 256 ≡ x.length
-    third a b le less = omega (arith, le, less, few)
+  pub before-all : (xs : List A) (n : ℕ) → length xs ≤ n → before xs n ≡ sum_by size xs
+  before-all [] zero le = refl
+  before-all [] (suc n) le = refl
+  before-all (y ∷ ys) zero le = absurd (omega (arith, le))
+  before-all (y ∷ ys) (suc n) le =
+      let rest = before-all ys n (omega (arith, le)) in
+      let more = sum_by-cons size y (take n ys) in
+      let whole = sum_by-cons size y ys in
+      omega (arith, rest, more, whole)
 
-    first : (a b : Bool) → ((flag a + 2 * flag b + 4 * x.length) % 2 == 1) ≡ a
-    first a b = ap (λ z. z == 1) (first_digit (flag a) (flag b) (flag_few a)) ∙ flagged a
+module _ {A B : Type 0} (f : A → List B) where
+  -- an item of a part stands after those of the parts before it
+  pub joined-at : (size : A → ℕ) → ((x : A) → length (f x) ≡ size x) → (xs : List A) (n i : ℕ) (x : A) (z : B) → slice_get xs n ≡ Some x → i < size x → slice_index_or (flat_map f xs) (before size xs n + i) z ≡ slice_index_or (f x) i z
+  joined-at size same [] n i x z e lt = absurd (cc)
+  joined-at size same (y ∷ ys) zero i x z e lt =
+      let one : y ≡ x = cc in
+      let at : before size (y ∷ ys) zero + i ≡ i = omega arith in
+      ap (λ k. slice_index_or (flat_map f (y ∷ ys)) k z) at ∙ ap (λ ws. slice_index_or ws i z) (flat_map-cons f y ys) ∙ get_or_append_left (f y) (flat_map f ys) z i (let count = same y in let is : size y ≡ size x = ap size one in omega (arith, lt, count, is)) ∙ ap (λ v. slice_index_or (f v) i z) one
+  joined-at size same (y ∷ ys) (suc n) i x z e lt =
+      let first = sum_by-cons size y (take n ys) in
+      let count = same y in
+      let at : before size (y ∷ ys) (suc n) + i ≡ length (f y) + (before size ys n + i) = omega (arith, first, count) in
+      ap (λ k. slice_index_or (flat_map f (y ∷ ys)) k z) at ∙ ap (λ ws. slice_index_or ws (length (f y) + (before size ys n + i)) z) (flat_map-cons f y ys)
+      ∙ get_or-append-add (f y) (flat_map f ys) (before size ys n + i) z ∙ joined-at size same ys n i x z e lt
 
-    second : (a b : Bool) → ((flag a + 2 * flag b + 4 * x.length) / 2 % 2 == 1) ≡ b
-    second a b = ap (λ z. z == 1) (second_digit (flag a) (flag b) (flag_few a) (flag_few b)) ∙ flagged b
+  pub joined-count : (size : A → ℕ) → ((x : A) → length (f x) ≡ size x) → (xs : List A) → length (flat_map f xs) ≡ sum_by size xs
+  joined-count size same [] = refl
+  joined-count size same (y ∷ ys) =
+      let rest = joined-count size same ys in
+      let first = sum_by-cons size y ys in
+      let count = same y in
+      ap length (flat_map-cons f y ys) ∙ (let both = length-append (f y) (flat_map f ys) in omega (arith, both, rest, first, count))
+
+-- ---- lists that are numbered
+
+pub numbered-at : {A B : Type 0} (g : ℕ × A → B) (k : ℕ) (xs : List A) (i : ℕ) (y : A) (z : B) → i < length xs → slice_index_or (map g (enumerate_from k xs)) i z ≡ g (k + i, slice_index_or xs i y)
+numbered-at g k [] i y z lt = absurd (omega (arith, lt))
+numbered-at g k (x ∷ xs) zero y z lt = ap (λ n. g (n, x)) (omega arith)
+numbered-at g k (x ∷ xs) (suc i) y z lt = numbered-at g (k + 1) xs i y z (omega (arith, lt)) ∙ ap (λ n. g (n, slice_index_or xs i y)) (omega arith)
+
+pub numbered-first : {A B : Type 0} (g : ℕ × A → B) (xs : List A) (i : ℕ) (y : A) (z : B) → i < length xs → slice_index_or (map g (enumerate_from 0 xs)) i z ≡ g (i, slice_index_or xs i y)
+numbered-first g xs i y z lt = numbered-at g 0 xs i y z lt ∙ ap (λ n. g (n, slice_index_or xs i y)) (omega arith)
+
+pub numbered-count : {A B : Type 0} (g : ℕ × A → B) (k : ℕ) (xs : List A) → length (map g (enumerate_from k xs)) ≡ length xs
+numbered-count g k [] = refl
+numbered-count g k (x ∷ xs) = ap suc (numbered-count g (k + 1) xs)
+
+-- ---- parts of a list that grows
+
+pub dropped-more : {A : Type 0} (n : ℕ) (xs ys : List A) → n ≤ length xs → drop n (xs ++ ys) ≡ drop n xs ++ ys
+dropped-more zero xs ys le = refl
+dropped-more (suc n) [] ys le = absurd (omega (arith, le))
+dropped-more (suc n) (x ∷ xs) ys le = dropped-more n xs ys (omega (arith, le))
+
+pub taken-same : {A : Type 0} (n : ℕ) (xs ys : List A) → n ≤ length xs → take n (xs ++ ys) ≡ take n xs
+taken-same zero xs ys le = refl
+taken-same (suc n) [] ys le = absurd (omega (arith, le))
+taken-same (suc n) (x ∷ xs) ys le = ap (λ zs. x ∷ zs) (taken-same n xs ys (omega (arith, le)))
+
+pub taken-all : {A : Type 0} (n : ℕ) (xs : List A) → length xs ≤ n → take n xs ≡ xs
+taken-all zero (x ∷ xs) le = absurd (omega (arith, le))
+taken-all (suc n) (x ∷ xs) le = ap (λ zs. x ∷ zs) (taken-all n xs (omega (arith, le)))
+taken-all _ _ le = refl
+
+pub dropped-count : {A : Type 0} (n : ℕ) (xs : List A) → length (drop n xs) ≡ length xs - n
+dropped-count (suc n) (x ∷ xs) = let rest = dropped-count n xs in omega (arith, rest)
+dropped-count _ _ = omega arith
+
+-- ---- places of a job's parts
 
 -- ---- the parts of a job under way
 
@@ -63,7 +140,7 @@ module _ (d : SpiTable) (fits : FitsSpi d) (u : ℕ) (m : Memory) (g : Going) (f
 
   -- the number at a place of the job is that of the part there
   pub number_there : (n : ℕ) (x : Part) → slice_get g.parts n ≡ Some x → channel_number (list_of d job) n ≡ Some x.channel
-  number_there n x e = ap (λ xs. slice_get xs n) (list_channels ∙ sym h.channels) ∙ get_mapped (λ y. y.channel) g.parts n x e
+  number_there n x e = ap (λ xs. slice_get xs n) (list_channels ∙ sym h.channels) ∙ map_get (λ y. y.channel) g.parts n x e
 
   pub channel_there : (n : ℕ) (x : Part) → slice_get g.parts n ≡ Some x → channel_at_place d job n ≡ placed_of d x.channel
   channel_there n x e = ap (placed_by d) (number_there n x e)
@@ -80,9 +157,6 @@ module _ (d : SpiTable) (fits : FitsSpi d) (u : ℕ) (m : Memory) (g : Going) (f
   -- its channel is configured
   pub part_known : (n : ℕ) (x : Part) → slice_get g.parts n ≡ Some x → (k : Channel) × (channel_of d x.channel ≡ Some k)
   part_known n x e = let p = part_there d fits u g n x for h.channels e in (p.1, p.2)
-
-  pub part_small : (n : ℕ) (x : Part) → slice_get g.parts n ≡ Some x → x.channel < 16
-  part_small n x e = (part_there d fits u g n x for h.channels e).0
 
   -- it has no more words than the channel has places
   pub part_few : (n : ℕ) (x : Part) → slice_get g.parts n ≡ Some x → length x.values ≤ (placed_of d x.channel).channel.length

@@ -1,11 +1,11 @@
 -- The words of one side of an internal channel stand apart from others.
 -- From spi_sequences: words.SideWords, spi_sequences: words.WordsOfModule.
--- Used by words.KeepingWords, services.WellEnded, services.FailedEnded, words.AllKept, words.ReleasedPins and 3 more.
+-- Used by words.AllKept, words.KeepingWords, services.WellEnded, services.FurtherRight, services.JobLeft and 1 more.
 use Rattle.std.proofs.Common.{◌≡◌, ◌≢◌, ◌+◌, ◌<◌, ◌≤◌, ◌∙◌}
 use Rattle.spi_serving.specs.Terms
 use Terms.{ap, Bool, Channel, channel_of, false, FitsSpi, has_channel, held_word, is_own_word, IsWordOf, not_first}
-use Terms.{not_held, not_of_other, not_users, of_banks, own_banks, placed_of, Side, Some, SOURCES, SpiTable, STATE}
-use Terms.{sym, trio_fits, trio_of, true, ℕ}
+use Terms.{not_held, not_of_other, not_users, of_banks, own_banks, placed_of, Side, Some, SOURCES, SpiTable, STATE, sym}
+use Terms.{trio_fits, trio_of, true, ℕ}
 use Rattle.word_shapes.specs.TripleBuffer as trio
 
 module _ (d : SpiTable) (fits : FitsSpi d) (c : ℕ) (k : Channel) (e : channel_of d c ≡ Some k) where

@@ -1,17 +1,87 @@
--- A free unit has begun the first word of its next job: the words on the way to the machine's state, and there.
--- From spi_sequences: words.FirstParts, words.QuietWords.
--- Used by services.StartWords, bookkeeping.UnitBegun, services.StartBegun, words.UnitWords and 14 more.
-use Rattle.std.proofs.Common.{◌≡◌, [], ◌∷◌}
+-- A unit begins its next job: the words that stay as they are until then, and the state with the job running.
+-- From spi_sequences: words.WordsOfModule, spi_sequences: words.SideWords, spi_sequences: words.FirstParts and 3 more.
+-- Used by words.UnitWords, services.StartWords, words.PinnedBanks, spi_sending: services.SendBegun and 6 more.
+use Rattle.std.proofs.Common.{◌≡◌, ◌≢◌, ◌+◌, ◌<◌, ◌≤◌, ◌==◌, [], ◌∷◌, ◌∙◌, ◌⊎◌}
 use Rattle.spi_starting.specs.Terms
-use Terms.{Answer, as_read, Banks, begun, bit_or, Bool, Call, Channel, channel_at, channel_of, channels_of, Chip}
-use Terms.{chip_after, Debt, entries_of, false, first_items, first_parts, Going, HasWords, held_word, is_to_begin}
-use Terms.{job_started, job_words, List, MARKS, Memory, next_job, None, Option, order_word, Origin, packed, packed_run}
-use Terms.{Pending, pinning, placed_of, Position, position_word, put_held, Reservation, Reservations, ReservedBy, Run}
-use Terms.{running_word, Sent, SerialData, set_up_or, slice_get, Some, SpiRepresents, SpiState, SpiTable, started_bit}
-use Terms.{starts, trio_of, true, view, waiting, with_word, word_of, World, Write, ℕ}
-use Rattle.spi_starting.specs.laws.words.QuietWords.{IsQuiet}
+use Terms.{Answer, any_in, ap, arith, as_read, Banks, begun, bit_or, Bool, Call, Channel, channel_at, channel_of}
+use Terms.{channels_of, Chip, chip_after, Contains, Debt, entries_of, false, first_items, first_parts, FitsSpi, Going}
+use Terms.{HasWords, held_word, inl, inr, is_to_begin, IsWordOf, Job, job_of, job_started, job_words, List, MARKS}
+use Terms.{Memory, next_job, None, not_first, not_held, not_of_other, not_order, not_users, of_banks, of_held, of_one}
+use Terms.{of_set_up, Option, order_word, Origin, own_held, own_low, packed, packed_run, past_the_first, Pending}
+use Terms.{pinning, placed_of, Position, position_word, put_held, Received, Reservation, Reservations, ReservedBy, Run}
+use Terms.{running_word, same_number, same_or_other, Sent, SerialData, set_up_by, set_up_or, set_up_word, sides_apart}
+use Terms.{slice_get, Some, some_is, SOURCES, SpiRepresents, SpiState, SpiTable, started_bit, starts, STATE, subst, sym}
+use Terms.{trio_of, true, uses_channel, view, waiting, with_word, word_of, World, Write, ℕ}
 use Rattle.word_shapes.specs.PriorityQueue as ranked
 use Rattle.word_shapes.specs.TripleBuffer as trio
+
+-- not of the order that the job leaves, the marks, those of what the unit runs, nor of what is sent and held of one of
+-- its channels
+abbrev pub IsQuiet : SpiTable → (unit job : ℕ) → ℕ → Type 0
+IsQuiet d u j i =
+    (ranked.own_of (record { at = order_word u }) i ≡ false) × (i ≢ MARKS) × (i ≢ running_word u) × (i ≢ position_word u)
+    × ((b : ℕ) (x : Channel) → Contains (channels_of d j) b → channel_of d b ≡ Some x → (x.internal ≡ true → trio.own_of (trio_of (placed_of d b) Sent) i ≡ false) × (i ≢ held_word (placed_of d b)))
+
+module _ (d : SpiTable) (fits : FitsSpi d) (u : ℕ) (few : u < 2) (j : ℕ) (job : Job) (known : job_of d j ≡ Some job) where
+  pub channel_there : (b : ℕ) → Contains (channels_of d j) b → (b < 16) × (x : Channel) × (channel_of d b ≡ Some x)
+  channel_there b at = (fits.jobs j job known).there b at
+
+  -- a word past the first ones that is of no channel's that change
+  past_quiet : (i : ℕ) → STATE + 64 ≤ i → ((b : ℕ) (x : Channel) → Contains (channels_of d j) b → channel_of d b ≡ Some x → (x.internal ≡ true → trio.own_of (trio_of (placed_of d b) Sent) i ≡ false) × (i ≢ held_word (placed_of d b))) → IsQuiet d u j i
+  past_quiet i le apart = (
+    not_order u i (λ e. omega (arith, le, e, few)) (λ e. omega (arith, le, e, few)) (λ e. omega (arith, le, e, few)),
+    λ e. omega (arith, le, e),
+    λ e. omega (arith, le, e, few),
+    λ e. omega (arith, le, e, few),
+    apart,
+  )
+
+  -- of one channel
+  other_channel : (c : ℕ) (k : Channel) → channel_of d c ≡ Some k → (i : ℕ) → IsWordOf d c k i → (b : ℕ) (x : Channel) → channel_of d b ≡ Some x → b ≢ c → (x.internal ≡ true → trio.own_of (trio_of (placed_of d b) Sent) i ≡ false) × (i ≢ held_word (placed_of d b))
+  other_channel c k e i is b x f ne = (
+    λ inner. not_of_other d fits b x f inner Sent c k i (λ g. ne (sym g)) e is,
+    λ at. of_one d fits b c x k (held_word (placed_of d b)) i ne f e (of_held d fits b x f) is (sym at),
+  )
+
+  -- another word of a channel
+  pub quiet_beside : (c : ℕ) (k : Channel) (e : channel_of d c ≡ Some k) (i : ℕ) → IsWordOf d c k i → (k.internal ≡ true → trio.own_of (trio_of (placed_of d c) Sent) i ≡ false) → i ≢ held_word (placed_of d c) → IsQuiet d u j i
+  quiet_beside c k e i is sent held = past_quiet i (past_the_first d c k i (fits.channels c k e) is) (λ b x at f. apart_from_each b x f (same_or_other b c))
+    where
+      apart_from_each : (b : ℕ) (x : Channel) → channel_of d b ≡ Some x → (b ≡ c) ⊎ (b ≢ c) → (x.internal ≡ true → trio.own_of (trio_of (placed_of d b) Sent) i ≡ false) × (i ≢ held_word (placed_of d b))
+      apart_from_each b x f (inl same) = (
+        λ inner. subst (λ n. trio.own_of (trio_of (placed_of d n) Sent) i ≡ false) (sym same) (sent (ap (λ z. z.internal) (some_is k x (sym e ∙ ap (channel_of d) (sym same) ∙ f)) ∙ inner)),
+        subst (λ n. i ≢ held_word (placed_of d n)) (sym same) held,
+      )
+      apart_from_each b x f (inr ne) = other_channel c k e i is b x f ne
+
+  -- any word of a channel that the job doesn't have
+  pub quiet_away : (c : ℕ) (k : Channel) (e : channel_of d c ≡ Some k) → uses_channel d c j ≡ false → (i : ℕ) → IsWordOf d c k i → IsQuiet d u j i
+  quiet_away c k e away i is = past_quiet i (past_the_first d c k i (fits.channels c k e) is) (λ b x at f. by b x at f (same_or_other b c))
+    where
+      by : (b : ℕ) (x : Channel) → Contains (channels_of d j) b → channel_of d b ≡ Some x → (b ≡ c) ⊎ (b ≢ c) → (x.internal ≡ true → trio.own_of (trio_of (placed_of d b) Sent) i ≡ false) × (i ≢ held_word (placed_of d b))
+      by b x at f (inl same) = absurd (let g = sym away ∙ ap (λ n. uses_channel d n j) (sym same) ∙ any_in (λ k. k == b) (channels_of d j) b at (same_number b) in cc)
+      by b x at f (inr ne) = other_channel c k e i is b x f ne
+
+  -- a channel's set-up
+  pub quiet_set_up : (c : ℕ) (k : Channel) (e : channel_of d c ≡ Some k) → IsQuiet d u j (set_up_word (placed_of d c))
+  quiet_set_up c k e = quiet_beside c k e (set_up_word (placed_of d c)) (of_set_up d fits c k e) (λ inner. set_up_by (placed_of d c) Sent) (λ f. omega (arith, f))
+
+  -- and the words of what it received
+  pub quiet_received : (c : ℕ) (k : Channel) (e : channel_of d c ≡ Some k) (internal : k.internal ≡ true) (i : ℕ) → trio.own_of (trio_of (placed_of d c) Received) i ≡ true → IsQuiet d u j i
+  quiet_received c k e internal i own =
+      quiet_beside c k e i (of_banks d fits c k e internal Received i own) (λ inner. sides_apart (placed_of d c) Sent i own)
+      (λ f. let g = sym own ∙ ap (trio.own_of (trio_of (placed_of d c) Received)) f ∙ not_held d fits c k e internal Received c k e in cc)
+
+  -- the users' arrays
+  pub quiet_users : (i : ℕ) → SOURCES ≤ i → IsQuiet d u j i
+  quiet_users i le = past_quiet i (omega (arith, le)) (λ b x at f. (λ inner. not_users d fits b x f inner Sent i le, λ e. let low = own_low d fits (held_word (placed_of d b)) (own_held d fits b x f) in omega (arith, low, e, le)))
+
+  -- and the other ones of the first
+  pub quiet_first : (i : ℕ) → i < STATE + 64 → ranked.own_of (record { at = order_word u }) i ≡ false → i ≢ MARKS → i ≢ running_word u → i ≢ position_word u → IsQuiet d u j i
+  quiet_first i lt order marks running position =
+      (order, marks, running, position, λ b x at f. (λ inner. not_first d fits b x f inner Sent i lt, λ e. let past = past_the_first d b x (held_word (placed_of d b)) (fits.channels b x f) (of_held d fits b x f) in omega (arith, past, e, lt)))
+
+-- ---- the state
 
 -- what a frame of this origin holds that owes a unit its start
 abbrev pub debt_of : (number : ℕ) → Origin Call → Option Answer → ReservedBy Call Reservation

@@ -1,24 +1,23 @@
 -- Around the steps of the start window: its frame may make them, they leave fewer, the hardware leaves the places as
 -- they are, and what follows a step at a place that owes moves.
 -- From spi_sequences: words.WordsOfModule, spi_sequences: services.StartSteps and 6 more.
--- Used by spi_driver: services.StartPart, spi_sending: services.SendAround.
-use Rattle.std.proofs.Common.{◌≡◌, ◌≢◌, ◌+◌, ◌<◌, ◌≤◌, ◌==◌, ◌||◌, [], ◌∷◌, ◌∙◌, ◌⊎◌, if◌then◌else◌}
+-- Used by spi_driver: services.UnitBounds, spi_driver: bookkeeping.MaskDiscipline and 4 more.
+use Rattle.std.proofs.Common.{◌≡◌, ◌≢◌, ◌+◌, ◌<◌, ◌≤◌, ◌||◌, [], ◌∷◌, ◌∙◌, ◌⊎◌, if◌then◌else◌}
 use Rattle.spi_starting.specs.Terms
 use Terms.{and_parts, Answer, ap, arith, bank_word, banked, begins_word, block_of, Bool, Channel, channel_at_place}
-use Terms.{channel_of, channel_words, channels_of, Chip, choosing_front, Chosen, control_word, Ends, false}
-use Terms.{faulted_run, Fill, Find, find_gave, find_more, find_move, first_word, FitsSpi, flat_map, Front}
-use Terms.{front-lowers, front_gave, front_left, front_move, front_room, gave, get_or-set_other, get_or-set_same}
-use Terms.{happened, has_channel, has_ended, held_word, idle, inl, inr, internal_words, is_fill, is_shared, is_simple}
-use Terms.{is_some, IsChosen, IsFree, item-other, item-same, job_at_place, length, length_by, Level, level_leaves}
-use Terms.{List, Load, LooksAt, LowersTo, lt_from, MARKS, may, may_first, may_store, may_users, Memory, Move, moved}
-use Terms.{named_own, nat_lt, next_gave, next_in, next_job, next_on, NEXTS, no_word, None, number_of, of_sixteen}
-use Terms.{Option, or_none, Order, order_word, own-control, own_banks, own_held, own_of_channel, own_order}
-use Terms.{own_set_up, Pending, Placed, placed_of, prepare_ends, refl, resets_chip, run_at, running_word}
-use Terms.{same_or_other, Search, search_move, Seen, Sent, Serial, set_up_word, slice_index_or, Some, source_own}
-use Terms.{source_word, spi_bare, SpiFault, SpiState, SpiTable, start_chooses, start_finds, start_found, start_left}
-use Terms.{start_looks, start_more, start_move, start_owes, start_place, start_prepares, start_releases, start_takes}
-use Terms.{Started, StartPlace, starts_at, STATE, subst, suc, sym, take_gave, trio_of, true, unit_at, unpacked}
-use Terms.{untouched, will_give, Word, words_kept, World, zero, ℕ}
+use Terms.{channel_of, channel_words, channels_of, Chip, choosing_front, Chosen, control_word, Ends, false, faulted_run}
+use Terms.{Fill, Find, find_gave, find_more, find_move, first_word, FitsSpi, flat_map, Front, front-lowers, front_gave}
+use Terms.{front_left, front_move, front_room, gave, get_or-set_other, get_or-set_same, happened, has_channel}
+use Terms.{has_ended, held_word, idle, inl, inr, internal_words, is_fill, is_shared, is_simple, is_some, IsChosen}
+use Terms.{IsFree, item-other, item-same, job_at_place, length, length_by, Level, level_leaves, List, Load, LooksAt}
+use Terms.{LowersTo, lt_from, MARKS, may, may_first, may_store, may_users, Memory, Move, moved, named_own, nat_lt}
+use Terms.{next_gave, next_in, next_job, next_on, NEXTS, no_word, None, number_of, of_sixteen, Option, Order}
+use Terms.{order_word, own-control, own_banks, own_held, own_of_channel, own_order, own_set_up, Pending, Placed}
+use Terms.{placed_of, prepare_ends, refl, resets_chip, run_at, running_word, same_or_other, Search, search_move, Seen}
+use Terms.{Sent, Serial, set_up_word, slice_index_or, Some, source_own, source_word, spi_bare, SpiFault, SpiState}
+use Terms.{SpiTable, start_chooses, start_finds, start_found, start_left, start_looks, start_more, start_move}
+use Terms.{start_owes, start_place, start_prepares, start_releases, start_takes, Started, StartPlace, starts_at, STATE}
+use Terms.{subst, suc, sym, take_gave, trio_of, true, unit_at, untouched, will_give, Word, words_kept, World, zero, ℕ}
 use Rattle.spi_starting.specs.laws.services.StartWords.{next_owes, prepare_owes}
 use Rattle.chip_units.specs.Serials as serials
 use Rattle.word_shapes.specs.PriorityQueue as ranked
@@ -38,15 +37,14 @@ module _ (d : SpiTable) (fits : FitsSpi d) (u : ℕ) (few : u < 2) where
       at : placing.first_word (placed_of d b) ≡ STATE + block_of d b
       at = starts_at d fits b k known
 
-      len : (placed_of d b).channel.length ≡ k.length
-      len = ap (λ x. x.length) (has_channel d fits b k known)
-
       from : (e : ℕ) → STATE + block_of d b ≤ bank_word (placed_of d b) Sent e 0
       from e = omega (arith, at)
 
       below : (e : ℕ) → e < 4 → bank_word (placed_of d b) Sent e 0 < STATE + block_of d b + 4 + banked k
       below (suc (suc (suc (suc e)))) lt = absurd (omega (arith, lt))
-      below _ lt = omega (arith, at, len, (fits.channels b k known).some, internal_words d fits b k known internal)
+      below _ lt =
+          let len : (placed_of d b).channel.length ≡ k.length = ap (λ x. x.length) (has_channel d fits b k known) in
+          omega (arith, at, len, (fits.channels b k known).some, internal_words d fits b k known internal)
 
   pub may_find : (b : ℕ) (k : Channel) → channel_of d b ≡ Some k → (p : Find) → LooksAt d b k p → may d (find_move p) ≡ true
   may_find b k known (finds.Newest x) (is, internal) = subst (λ z. may d (Load (control_word z Sent)) ≡ true) (sym is) (may_store d fits (control_word (placed_of d b) Sent) 0 (own_banks d fits b k known internal Sent (control_word (placed_of d b) Sent) (own-control (trio_of (placed_of d b) Sent))))
@@ -76,22 +74,12 @@ module _ (d : SpiTable) (fits : FitsSpi d) (u : ℕ) (few : u < 2) where
   start_may (start.Select c x) f s at = lt_from u 2 few
   start_may (start.Width c x) f s at = lt_from u 2 few
   start_may (start.Begin c x) f s at = lt_from u 2 few
-  start_may (start.Choose c p) f s at = absurd at
-  start_may (start.Mark c) f s at = absurd at
-  start_may (start.Prepare r i p) f s at = absurd at
-  start_may (start.Release r p) f s at = absurd at
-  start_may (start.Run r) f s at = absurd at
-  start_may start.Stand f s at = absurd at
+  start_may _ f s at = absurd at
 
 -- a place where something stands owes no moves
 pub none_owed : (d : SpiTable) (u : ℕ) (p : StartPlace) (f : Seen) (s : SpiState) → start_place d u p f s → start_owes p ≡ false
-none_owed d u (start.Choose c p) f s at = absurd at
-none_owed d u (start.Mark c) f s at = absurd at
-none_owed d u (start.Prepare r i p) f s at = absurd at
-none_owed d u (start.Release r p) f s at = absurd at
-none_owed d u (start.Run r) f s at = absurd at
-none_owed d u start.Stand f s at = absurd at
-none_owed d u _ f s at = refl
+none_owed d u start.Shut f s at = refl
+none_owed d u _ f s at = search
 
 -- ---- what is left
 
@@ -107,8 +95,7 @@ Fewer n (x, started.Over) = 1 ≤ n
 
 module _ (d : SpiTable) (u : ℕ) where
   few_finds : (i : Bool) (x : Placed) → find_more (if i then finds.Newest x else finds.SetUp x) ≤ 1
-  few_finds true x = omega arith
-  few_finds false x = omega arith
+  few_finds i x = grind arith
 
   looks_fewer : (v m : ℕ) (p : Front) (x : ℕ) → Fewer (22 + front_room p) (start_looks d v m p x (front_gave p x) (has_ended (front_gave p x)))
   looks_fewer v m p x = by (front_gave p x).ended refl (front-lowers p x)
@@ -121,30 +108,14 @@ module _ (d : SpiTable) (u : ℕ) where
       by None e lt = subst (λ q. Fewer (22 + front_room p) (start_looks d v m p x (front_gave p x) (is_some q))) (sym e) (omega (arith, lt))
       by (Some a) e lt = subst (λ q. Fewer (22 + front_room p) (start_looks d v m p x (front_gave p x) (is_some q))) (sym e) (found (gave (front_gave p x)) (nat_lt (gave (front_gave p x)) 8) lt)
 
-  found_in_few : (c : Chosen) (i : Bool) (x : Placed) → 21 + find_more (if i then finds.Source x 0 else finds.Default x) < 22
-  found_in_few c true x = omega arith
-  found_in_few c false x = omega arith
-
   finds_fewer : (c : Chosen) (p : Find) (x : ℕ) → Fewer (21 + find_more p) (start_finds c p x (find_gave p x))
-  finds_fewer c (finds.SetUp x) v = found_in_few c (or_none v x.channel).source x
-  finds_fewer c (finds.Held x i) v =
-      elim (unpacked v).source as (λ q. 21 + find_more (if q then finds.Source x i else finds.Default x) < 22)
-      [ true ↦ omega arith | false ↦ omega arith ]
-  finds_fewer c _ v = omega arith
+  finds_fewer c (finds.SetUp x) v = grind arith
+  finds_fewer c _ v = grind arith
 
   pub start_shorter : (p : StartPlace) (v : ℕ) → start_owes p ≡ false → Fewer (start_left p) (start_takes d u p v)
-  start_shorter start.Running v e =
-      elim (v == 0) as (λ q. Fewer 28 (if q then (start.Nexts, started.Goes None) else (start.Running, started.Over)))
-      [ true ↦ omega arith | false ↦ omega arith ]
   start_shorter (start.Front x m p) v e = looks_fewer x m p v
   start_shorter (start.Find c p) v e = finds_fewer c p v
-  start_shorter (start.Choose c p) v e = absurd (cc)
-  start_shorter (start.Mark c) v e = absurd (cc)
-  start_shorter (start.Prepare r i p) v e = absurd (cc)
-  start_shorter (start.Release r p) v e = absurd (cc)
-  start_shorter (start.Run r) v e = absurd (cc)
-  start_shorter start.Stand v e = absurd (cc)
-  start_shorter _ v e = omega arith
+  start_shorter _ v e = grind arith
 
   -- ---- what is no start resets nothing and begins no word
 
@@ -165,13 +136,7 @@ module _ (d : SpiTable) (u : ℕ) where
   start_calm (start.Front x m p) e n = calm_front p.search
   start_calm (start.Find c p) e n = calm_find p
   start_calm (start.Begin c x) e n = absurd n
-  start_calm (start.Choose c p) e n = absurd (cc)
-  start_calm (start.Mark c) e n = absurd (cc)
-  start_calm (start.Prepare r i p) e n = absurd (cc)
-  start_calm (start.Release r p) e n = absurd (cc)
-  start_calm (start.Run r) e n = absurd (cc)
-  start_calm start.Stand e n = absurd (cc)
-  start_calm _ e n = (refl, refl)
+  start_calm _ e n = (cc, cc)
 
   -- ---- places that owe moves
 
@@ -216,12 +181,7 @@ module _ (d : SpiTable) (u : ℕ) (f f1 : Seen) (s s1 : SpiState) (words : f1.0 
   place_kept (start.Select c x) (q, is, sent) = (q, chosen_kept c q is, sent ∙ ap (λ z. z.sent) (sym (first_kept q)))
   place_kept (start.Width c x) (q, is, sent, at) = (q, chosen_kept c q is, sent ∙ ap (λ z. z.sent) (sym (first_kept q)), select ∙ at)
   place_kept (start.Begin c x) (q, is, sent, at, wide) = (q, chosen_kept c q is, sent ∙ ap (λ z. z.sent) (sym (first_kept q)), select ∙ at, width ∙ wide ∙ ap (λ z. z.width) (sym (first_kept q)))
-  place_kept (start.Choose c p) at = absurd at
-  place_kept (start.Mark c) at = absurd at
-  place_kept (start.Prepare r i p) at = absurd at
-  place_kept (start.Release r p) at = absurd at
-  place_kept (start.Run r) at = absurd at
-  place_kept start.Stand at = absurd at
+  place_kept _ at = absurd at
 
 module _ (d : SpiTable) (u : ℕ) where
   same_turn : (x : Serial) (o : Option Word) (q : Bool) → ((if q then record x { word = o } else x).select ≡ x.select) × ((if q then record x { word = o } else x).width ≡ x.width)

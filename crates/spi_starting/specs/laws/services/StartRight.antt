@@ -1,36 +1,202 @@
--- The start window is right at each of its places up to the start, and as it starts.
--- From spi_sequences: services.StartSteps, bookkeeping.ChosenNext, bookkeeping.UnitTurned, words.FirstWord and 15 more.
--- Used by spi_driver: services.StartPart, spi_driver: services.UnitParts, spi_driver: services.UnitSteps.
-use Rattle.std.proofs.Common.{◌≡◌, ◌%◌, ◌^◌, ◌<◌, ◌≤◌, ◌==◌, [], ◌∷◌, ◌∙◌, if◌then◌else◌}
+-- Each step of the starting window is right: what the first word is, and where nothing starts the unit is owed nothing.
+-- From spi_sequences: services.StartSteps, spi_sequences: words.FirstParts, words.PinnedBanks and 14 more.
+-- Used by spi_driver: services.UnitSteps, spi_driver: bookkeeping.NoneWaits, spi_sending: services.SendFree and 1 more.
+use Rattle.std.proofs.Common.{◌≡◌, ◌+◌, ◌%◌, ◌^◌, ◌<◌, ◌≤◌, ◌||◌, ◌==◌, [], ◌∷◌, ◌++◌, ◌∙◌, if◌then◌else◌}
 use Rattle.spi_starting.specs.Terms
-use Terms.{all_pending, Answer, ap, apart_agrees, arith, as_begun, Begun, Bool, by_two, Call, Channel}
-use Terms.{channel_at_place, channel_of, Chip, chip_after, choice, choice_next, choosing_front, Chosen, chosen_by}
-use Terms.{cleared_of, CommitsAfter, Contains, control_word, Ends, ends-then, entries_of, Entry, Event, false, Find}
-use Terms.{find_gave, find_move, finding_first, first_word, FitsSpi, FrameRole, Front, front-ends, front_gave}
-use Terms.{front_left, front_move, gave, get_or-set_same, Going, going_free, happens, has_channel, has_ended, idle}
-use Terms.{is_for, is_off, is_some, is_sync_unit, IsChosen, IsFirst, IsFree, job_at_place, job_of, job_place, length}
-use Terms.{List, Load, LooksAt, lt_from, MARKS, Mask, masked, masked_by, Memory, min, Move, nat_lt, next_at, next_by}
-use Terms.{next_job, next_on, NEXTS, None, number_in, number_of, Option, or_none, order_word, Origin, other_number}
-use Terms.{outcome_with, outgoing, part_at, Pending, placed_of, ranks_in, refl, Reservations, run_at, RunAgrees}
-use Terms.{running_word, Search, search_move, search_of, Seen, select_by, select_of, selects, SendsRight, Sent}
-use Terms.{sent_by, sent_word, SerialData, SerialSelect, SerialWidth, set_up_word, slice_index_or, Some, source_word}
-use Terms.{spi_bare, spi_owing, SpiRepresents, SpiState, SpiTable, StandsAt, Start, start_by, start_finds}
+use Terms.{all_pending, Answer, ap, apart_agrees, AreOwed, arith, as_begun, as_read, as_words, bank_of, bank_word}
+use Terms.{BanksAgree, Begun, Bool, by_two, Call, carried_at, CarriesAgrees, cases, Channel, channel_at}
+use Terms.{channel_at_place, channel_of, channels_of, Chip, chip_after, choice, choice_next, choosing_front, Chosen}
+use Terms.{chosen_by, cleared_of, clears, CommitsAfter, Contains, control_word, Destination, Ends, ends-then}
+use Terms.{entries_of, Entry, Event, false, Find, find_gave, find_move, finding_first, first-at, first_parts}
+use Terms.{first_word, FitsSpi, flat_map-cons, FrameRole, Front, front-ends, front_gave, front_left, front_move, gave}
+use Terms.{get_or-replicate, get_or-set_other, get_or-set_same, Goes, Going, going_free, going_run, happens, has_bit}
+use Terms.{has_channel, has_ended, held_word, holds_back, holds_changed, holds_debt, idle, is_for, is_off, is_owed}
+use Terms.{is_some, is_sync_unit, is_users, IsChosen, IsFirst, IsFree, job_at_place, job_of, job_place, JobWord, length}
+use Terms.{length-set, length_by, List, Load, LooksAt, lt_from, MARKS, Mask, masked, masked_by, Memory, min, Move}
+use Terms.{nat_lt, newest-in, newest-word, next_at, next_by, next_job, next_on, NEXTS, no_word, None, none_readied}
+use Terms.{Null, number_in, number_of, Option, or_none, order_word, Origin, other_number, outcome_with, outgoing}
+use Terms.{part_at, part_by, part_for, Pending, place_of, Placed, placed_of, Pointer, prepares, ranks_in, read_set_up}
+use Terms.{refl, Reservations, run_at, run_carried, RunAgrees, running_word, same_or_other, Search, search_move}
+use Terms.{search_of, Seen, select_by, select_of, selects, sends_as, SendsRight, Sent, sent_by, sent_word, Serial}
+use Terms.{SerialData, SerialSelect, SerialWidth, set_unit, set_up_code, set_up_fits, set_up_or, set_up_word, slice_get}
+use Terms.{slice_index, slice_index_or, slice_set, Some, some_is, some_words, Source, source_word, spi_bare, spi_owing}
+use Terms.{SpiRepresents, SpiState, SpiTable, stands-move, StandsAt, StandsIn, Start, start_by, start_finds}
 use Terms.{start_found, start_looks, start_move, start_of, start_owes, start_place, start_takes, Started, StartPlace}
-use Terms.{Starts, subst, suc, sym, Taken, tells_nothing, true, unit_at, unit_named, unit_number, Units, value_of}
-use Terms.{view, whether_as, will_give, word_of, World, Write, zero, ℕ}
-use Rattle.spi_starting.specs.laws.{services.StartBegun.{begun_owes, choosing}, services.StartWords.{starting}}
-use Rattle.spi_starting.specs.laws.{bookkeeping.ChosenNext.{first_placed, first_there, next_there, none_for}}
-use Rattle.spi_starting.specs.laws.{words.FirstWord.{first_is, found, mod_again}, bookkeeping.RanState.{debt_of}}
-use Rattle.spi_starting.specs.laws.{bookkeeping.RanState.{ran_state}, bookkeeping.UnitTurned.{goes_none, paid}}
-use Rattle.spi_starting.specs.laws.{bookkeeping.UnitTurned.{selects_agrees, widens_agrees}}
-use Rattle.spi_starting.specs.laws.{bookkeeping.UnitBegun.{IsTurned, at_most}}
+use Terms.{Starts, subst, suc, sym, Taken, tells_nothing, trio_of, true, unit_at, unit_named, unit_number, UnitAgrees}
+use Terms.{Units, Users, value_of, view, whether_as, width_by, will_give, will_read, word_of, words_are, words_from}
+use Terms.{words_of, WordsAgree, World, Write, zero, ℕ}
+use Rattle.spi_starting.specs.laws.{bookkeeping.RanState.{debt_of, ran_state}, services.StartWords.{begun_owes}}
+use Rattle.spi_starting.specs.laws.{services.StartWords.{choosing, starting}, words.PinnedBanks.{channel_is}}
+use Rattle.spi_starting.specs.laws.words.PinnedBanks.{first_placed, first_there, internal_values, next_there}
+use Rattle.spi_starting.specs.laws.{words.PinnedBanks.{none_for}, words.UnitWords.{at_most, IsTurned}}
+use Rattle.spi_jobs.specs.declared.finding.Find.TheVariants as finds
 use Rattle.word_shapes.specs.Playing as playing
 use Rattle.word_shapes.specs.PriorityQueue as ranked
 use Rattle.word_shapes.specs.declared.choosing.Next.TheVariants as nexts
 use Rattle.word_shapes.specs.declared.search.Search.TheVariants as search
-use Rattle.spi_jobs.specs.declared.finding.Find.TheVariants as finds
 use Rattle.spi_sequences.specs.declared.service.start.StartPlace.TheVariants as start
 use Rattle.spi_sequences.specs.declared.service.start.Started.TheVariants as started
+
+-- ---- the first of a job's words
+
+first_of : (c width : ℕ) (g : Goes) (values : List ℕ) (rest : List JobWord) → 0 < length values
+    → slice_index_or (as_words c width g values ++ rest) 0 no_word ≡ record { channel = c; place = 0; width = width; sent = masked width (slice_index_or values 0 0); goes = g }
+first_of c width g [] rest lt = absurd (omega (arith, lt))
+first_of c width g (v ∷ vs) rest lt = refl
+
+-- a word that is masked once more stays
+pub mod_again : (v n : ℕ) → v % 2 ^ n % 2 ^ n ≡ v % 2 ^ n
+mod_again v n = grind arith
+
+module _ (d : SpiTable) (fits : FitsSpi d) (held : Reservations) (chip : Chip) (w : World) (s : SpiState) (h : SpiRepresents d held chip w s) (on : is_off s.mode ≡ false) (b : ℕ) (k : Channel) (known : channel_of d b ≡ Some k) where
+  abbrev x : Placed
+  x = placed_of d b
+
+  -- what is sent first of a channel
+  abbrev pub value : ℕ
+  value = slice_index_or (part_at d s b).values 0 0
+
+  pub first_is : (p : Pending) → slice_get (channels_of d (next_job d p)) 0 ≡ Some b → first_word d s p ≡ record { channel = b; place = 0; width = k.width; sent = masked k.width value; goes = (part_at d s b).goes }
+  first_is p at = first_in_list (channels_of d (next_job d p)) refl at
+    where
+      first_in_list : (cs : List ℕ) → channels_of d (next_job d p) ≡ cs → slice_get cs 0 ≡ Some b → first_word d s p ≡ record { channel = b; place = 0; width = k.width; sent = masked k.width value; goes = (part_at d s b).goes }
+      first_in_list [] e f = absurd (cc)
+      first_in_list (c ∷ cs) e f =
+          let same : c ≡ b = some_is c b f in
+          ap (λ ws. slice_index_or ws 0 no_word) (sym (words_are d s (channels_of d (next_job d p))))
+          ∙ ap (λ xs. slice_index_or (words_of d (first_parts d s xs)) 0 no_word) e
+          ∙ ap (λ a. slice_index_or (words_of d (first_parts d s (a ∷ cs))) 0 no_word) same
+          ∙ ap (λ ws. slice_index_or ws 0 no_word) (flat_map-cons (λ z. as_words z.channel (width_by (channel_of d z.channel)) z.goes z.values) (part_at d s b) (first_parts d s cs))
+          ∙ first_of (part_at d s b).channel (width_by (channel_of d (part_at d s b).channel)) (part_at d s b).goes (part_at d s b).values (words_of d (first_parts d s cs)) (some_words d fits held chip w s h on b k known)
+          ∙ ap (λ a. record { channel = a; place = 0; width = width_by (channel_of d a); sent = masked (width_by (channel_of d a)) value; goes = (part_at d s b).goes }) (channel_is d s b)
+          ∙ ap (λ o. record { channel = b; place = 0; width = width_by o; sent = masked (width_by o) value; goes = (part_at d s b).goes }) known
+
+  -- ---- what a look gives
+
+  masks : (v : ℕ) → masked_by x.channel v ≡ masked k.width v
+  masks v = ap (λ z. masked_by z v) (has_channel d fits b k known) ∙ ap (λ q. if q then v % 2 ^ k.width else v) (lt_from k.width 32 (let few = (fits.channels b k known).narrow in omega (arith, few)))
+
+  none_prepares : prepares held ≡ false
+  none_prepares = (none_readied d s.mode s.channels held on h.right).1
+
+  found_internal : k.internal ≡ true → will_give (word_of chip) (finds.Newest x) ≡ masked k.width value
+  found_internal internal = masks (word_of chip (bank_word x Sent (bank_of (word_of chip (control_word x Sent))) 0)) ∙ ap (masked k.width) stands_there
+    where
+      was : BanksAgree d held h.going (word_of chip) (view s) b k
+      was = h.words.banks b k known internal
+
+      stands_there : word_of chip (bank_word x Sent (bank_of (word_of chip (control_word x Sent))) 0) ≡ value
+      stands_there =
+          let some : 0 < x.channel.length = subst (λ z. 0 < z.length) (sym (has_channel d fits b k known)) (fits.channels b k known).some in
+          ap (λ i. word_of chip (bank_word x Sent i 0)) (newest-in (trio_of x Sent) (word_of chip) was.sent was.sends)
+          ∙ newest-word (trio_of x Sent) (word_of chip) was.sent 0 was.sends some
+          ∙ ap (λ xs. slice_index xs 0) (was.written none_prepares)
+          ∙ first-at k.length (channel_at s b).written 0 (fits.channels b k known).some
+          ∙ sym (ap (λ z. slice_index_or z.values 0 0) (internal_values d s b k known internal))
+
+  -- of an external channel, by its set-up
+  external_value : k.internal ≡ false → value ≡ slice_index_or (words_from (set_up_or k (channel_at s b).set_up).source (set_up_or k (channel_at s b).set_up).words k (channel_at s b)) 0 0
+  external_value external = ap (λ z. slice_index_or z.values 0 0) (ap (λ o. part_by b o (channel_at s b)) known ∙ ap (part_for b k (channel_at s b)) external)
+
+  sent_first : (q : Pointer) (n : ℕ) → 0 < n → slice_index_or (words_from q n k (channel_at s b)) 0 0 ≡ (if is_users q then word_of chip (source_word x 0) else k.default_data)
+  sent_first Users n lt = first-at n (channel_at s b).source 0 lt ∙ sym ((h.arrays b).source 0 (subst (λ o. 0 < length_by o) (sym known) (fits.channels b k known).some))
+  sent_first Null n lt = get_or-replicate n 0 k.default_data 0 lt
+
+  found_by : (q : Bool) → (if q then masked_by x.channel (word_of chip (source_word x 0)) else masked_by x.channel x.channel.default_data) ≡ masked k.width (if q then word_of chip (source_word x 0) else k.default_data)
+  found_by true = masks (word_of chip (source_word x 0))
+  found_by false = masks x.channel.default_data ∙ ap (λ z. masked k.width z.default_data) (has_channel d fits b k known)
+
+  found_external : k.internal ≡ false → will_give (word_of chip) (finds.SetUp x) ≡ masked k.width value
+  found_external external =
+      ap (will_read (word_of chip) x) read
+      ∙ found_by (is_users (set_up_or k (channel_at s b).set_up).source)
+      ∙ sym (ap (masked k.width) (external_value external ∙ sent_first (set_up_or k (channel_at s b).set_up).source (set_up_or k (channel_at s b).set_up).words (set_up_fits k (channel_at s b).set_up (fits.channels b k known).some ((h.sizes on b k known).set_up external)).0))
+    where
+      read : or_none (word_of chip (set_up_word x)) x.channel ≡ as_read (set_up_or k (channel_at s b).set_up)
+      read = ap (λ v. or_none v x.channel) (h.set_ups on b k known external) ∙ ap (λ z. or_none (set_up_code (channel_at s b).set_up) z) (has_channel d fits b k known) ∙ read_set_up k (channel_at s b).set_up (fits.channels b k known).few ((h.sizes on b k known).set_up external)
+
+  -- a look at the channel will give its first word
+  pub found : will_give (word_of chip) (finding_first x) ≡ masked k.width value
+  found = ap (λ z. will_give (word_of chip) (if z.internal then finds.Newest x else finds.SetUp x)) (has_channel d fits b k known) ∙ by k.internal refl
+    where
+      by : (q : Bool) → k.internal ≡ q → will_give (word_of chip) (if q then finds.Newest x else finds.SetUp x) ≡ masked k.width value
+      by true e = found_internal e
+      by false e = found_external e
+
+-- ---- a window without a start
+
+module _ (d : SpiTable) (debts : Reservations) (chip : Chip) (w : World) (s : SpiState) (h : SpiRepresents d debts chip w s) (u : ℕ) (free : h.going u ≡ None) (x : Serial) (word : x.word ≡ (unit_at chip.serials u).word) where
+  turned_unit : (lt : u < 2) (n : ℕ) → n < 2 → is_sync_unit d n ≡ false → UnitAgrees d (slice_index_or (slice_set chip.serials.units u x) n idle) (run_at s n) (h.going n)
+  turned_unit lt = set_unit (λ n y. is_sync_unit d n ≡ false → UnitAgrees d y (run_at s n) (h.going n)) chip.serials.units u x h.size
+      (λ few async. subst (λ g. UnitAgrees d x (run_at s u) g) (sym free) (own (subst (λ g. UnitAgrees d (unit_at chip.serials u) (run_at s u) g) free (h.units u lt async))))
+      (λ n few ne. h.units n few)
+    where
+      own : UnitAgrees d (unit_at chip.serials u) (run_at s u) None → UnitAgrees d x (run_at s u) None
+      own a = (word ∙ a.0, a.1)
+
+  turned_carried : (lt : u < 2) (n : ℕ) → n < 2 → is_sync_unit d n ≡ true → CarriesAgrees d (slice_index_or (slice_set chip.serials.units u x) n idle) (run_carried (carried_at s n)) (h.going n)
+  turned_carried lt = set_unit (λ n y. is_sync_unit d n ≡ true → CarriesAgrees d y (run_carried (carried_at s n)) (h.going n)) chip.serials.units u x h.size
+      (λ few sync. subst (λ g. CarriesAgrees d x (run_carried (carried_at s u)) g) (sym free) (own (subst (λ g. CarriesAgrees d (unit_at chip.serials u) (run_carried (carried_at s u)) g) free (h.sends u lt sync))))
+      (λ n few ne. h.sends n few)
+    where
+      own : CarriesAgrees d (unit_at chip.serials u) (run_carried (carried_at s u)) None → CarriesAgrees d x (run_carried (carried_at s u)) None
+      own a = (word ∙ a.0, a.1)
+
+  -- a unit that isn't free is another one
+  turned_select : (n : ℕ) (g : Going) → h.going n ≡ Some g → (slice_index_or (slice_set chip.serials.units u x) n idle).select ≡ (unit_at chip.serials n).select
+  turned_select n g is = ap (λ y. y.select) (get_or-set_other chip.serials.units u n x idle (λ e. let f = sym free ∙ ap h.going (sym e) ∙ is in cc))
+
+  -- the chip with this unit, and the same words
+  pub turned_agrees : u < 2 → (c : Chip) → StandsIn c w → c.words ≡ chip.words → c.wiring ≡ chip.wiring → c.control ≡ chip.control → c.serials.units ≡ slice_set chip.serials.units u x → SpiRepresents d debts c w s
+  turned_agrees lt c outside words wiring control units = record {
+    right = h.right;
+    outside = outside;
+    wired = λ b few. ap (λ z. slice_index z.sources b) wiring ∙ h.wired b few;
+    size = ap length units ∙ length-set chip.serials.units u x ∙ h.size;
+    sound = h.sound;
+    going = h.going;
+    nexts = h.nexts;
+    units = λ n few async. subst (λ xs. UnitAgrees d (slice_index_or xs n idle) (run_at s n) (h.going n)) (sym units) (turned_unit lt n few async);
+    sends = λ n few sync. subst (λ xs. CarriesAgrees d (slice_index_or xs n idle) (run_carried (carried_at s n)) (h.going n)) (sym units) (turned_carried lt n few sync);
+    sending = sends_as d chip c w w h.going h.going s s (λ n g few sync is. refl) (λ n g few sync is. ap (λ xs. (slice_index_or xs n idle).select) units ∙ turned_select n g is) (λ n g i y k few sync is there known. ap (λ ws. slice_index ws (held_word (placed_of d y.channel))) words) (λ n o knows. knows) debts h.sending;
+    carriers = h.carriers;
+    words = subst (λ ws. WordsAgree d debts h.going (λ k. slice_index ws k) (view s)) (sym words) h.words;
+    set_ups = λ on b k known external. ap (λ ws. slice_index ws (set_up_word (placed_of d b))) words ∙ h.set_ups on b k known external;
+    sizes = h.sizes;
+    arrays = λ b. record { source = λ i few. ap (λ ws. slice_index ws (place_of (Source b) i)) words ∙ (h.arrays b).source i few; destination = λ i few. ap (λ ws. slice_index ws (place_of (Destination b) i)) words ∙ (h.arrays b).destination i few };
+    lines = λ n few. ap (λ z. has_bit z.enabled (26 + n)) control ∙ h.lines n few;
+    owed = h.owed;
+  }
+
+module _ (d : SpiTable) (fits : FitsSpi d) (below : Reservations) (owner : Origin Call) (acted : Option Answer) (chip : Chip) (w : World) (s : SpiState) (u : ℕ) (h : SpiRepresents d (debt_of u owner acted ∷ below) chip w s) where
+  abbrev debts : Reservations
+  debts = debt_of u owner acted ∷ below
+
+  -- a unit that runs no job does nothing
+  pub goes_none : run_at s u ≡ None → h.going u ≡ None
+  goes_none e = by (h.going u) refl
+    where
+      by : (g : Option Going) → h.going u ≡ g → g ≡ None
+      by None f = refl
+      by (Some g) f = absurd (let run = going_run d fits debts chip w s h u g h.right.0.0 h.right.0.2 f in let no = sym e ∙ run.1 in cc)
+
+  -- the debt is paid, and the unit cleared, where it runs a job or none waits
+  pub paid : ((q : Pending) → h.going u ≡ None → Contains s.pending q → is_for d u q ≡ true → ⊥) → SpiRepresents d (cleared_of u owner acted ∷ below) chip w s
+  paid none = clears d below chip w s u owner acted fits (holds_changed d debts below chip w s h (holds_back d below debts (holds_debt d (debt_of u owner acted) u below refl)) h.right.1 h.sending.1 h.carriers owed) (λ q free there for. none q (goes_none free) there for)
+    where
+      owed : AreOwed d below h.going s
+      owed n q lt free there for = cases (same_or_other n u)
+          (λ e. absurd (none q (ap h.going (sym e) ∙ free) there (subst (λ k. is_for d k q ≡ true) e for)))
+          (λ ne. ap (λ b. b || is_owed n below) (sym (other_number u n (λ e. ne (sym e)))) ∙ h.owed n q lt free there for)
+
+  module _ (free : h.going u ≡ None) (v received : ℕ) where
+    pub selects_agrees : SpiRepresents d debts (chip_after chip (Write (SerialSelect u) v) received) w s
+    selects_agrees = turned_agrees d debts chip w s h u free (record (unit_at chip.serials u) { select = v }) refl h.right.0.0 (chip_after chip (Write (SerialSelect u) v) received) (stands-move chip w (Write (SerialSelect u) v) received h.outside) refl refl refl refl
+
+    pub widens_agrees : SpiRepresents d debts (chip_after chip (Write (SerialWidth u) v) received) w s
+    widens_agrees = turned_agrees d debts chip w s h u free (record (unit_at chip.serials u) { width = v }) refl h.right.0.0 (chip_after chip (Write (SerialWidth u) v) received) (stands-move chip w (Write (SerialWidth u) v) received h.outside) refl refl refl refl
+
+-- ---- its steps
 
 -- ---- what a step leaves
 
@@ -135,8 +301,8 @@ module _ (d : SpiTable) (fits : FitsSpi d) (errand : FrameRole) (below : Reserva
   front_right : (p : Front) (n : ℕ) (free : IsFree s u) → Ends choosing_front (ranked.own_of (record { at = order_word u })) n p (word_of chip) (λ m words. words ≡ number_of (next_on d u s.pending) ∷ [])
       → (made : Move) → front_move p ≡ made → chip_after chip made y ≡ chip → value_of chip made ≡ playing.given (word_of chip) made → playing.after (word_of chip) made ≡ word_of chip
       → Leaves made (start_looks d (word_of chip NEXTS) (word_of chip MARKS) p (value_of chip made) (front_gave p (value_of chip made)) (has_ended (front_gave p (value_of chip made))))
-  front_right p zero free ends made is same value after = absurd ends
-  front_right p (suc n) free ends made is same value after = front_leaves (front_gave p (value_of chip made)) refl rest
+  front_right p zero free ends made is same _ after = absurd ends
+  front_right p (suc n) free ends made is same loaded after = front_leaves (front_gave p (value_of chip made)) refl rest
     where
       D : Memory → List ℕ → Type 0
       D m words = words ≡ number_of (next_on d u s.pending) ∷ []
@@ -147,7 +313,7 @@ module _ (d : SpiTable) (fits : FitsSpi d) (errand : FrameRole) (below : Reserva
       rest : playing.Either (front_gave p (value_of chip made)).ended (Ends choosing_front own n (front_left p (value_of chip made)) (word_of chip) D) (D (word_of chip))
       rest =
           subst (λ m. playing.Either (front_gave p (value_of chip made)).ended (Ends choosing_front own n (front_left p (value_of chip made)) m D) (D m)) after
-          (subst (λ v. playing.Either (front_gave p v).ended (Ends choosing_front own n (front_left p v) (playing.after (word_of chip) made) D) (D (playing.after (word_of chip) made))) (sym value)
+          (subst (λ v. playing.Either (front_gave p v).ended (Ends choosing_front own n (front_left p v) (playing.after (word_of chip) made) D) (D (playing.after (word_of chip) made))) (sym loaded)
           (subst (λ z. playing.Either (front_gave p (playing.given (word_of chip) z)).ended (Ends choosing_front own n (front_left p (playing.given (word_of chip) z)) (playing.after (word_of chip) z) D) (D (playing.after (word_of chip) z))) is ends.2))
 
       ended : (t : Taken) (a : Answer) → t.ended ≡ Some a → a.words ≡ number_of (next_on d u s.pending) ∷ [] → Leaves made (start_found d (word_of chip NEXTS) (word_of chip MARKS) p (value_of chip made) (gave t) (nat_lt (gave t) 8))
@@ -189,11 +355,9 @@ module _ (d : SpiTable) (fits : FitsSpi d) (errand : FrameRole) (below : Reserva
           → LooksAt d b k (if i then finds.Source x 0 else finds.Default x) × (will_give (word_of chip) (if i then finds.Source x 0 else finds.Default x) ≡ (first_word d s q).sent)
       found_so true e = ((looks, refl), e)
       found_so false e = (looks, e)
-  find_right c (finds.Bank x i e) (q, is, b, k, first, looks, will) = (h, (q, is, will))
-  find_right c (finds.Source x i) (q, is, b, k, first, looks, will) = (h, (q, is, will))
-  find_right c (finds.Default x) (q, is, b, k, first, looks, will) = (h, (q, is, will))
   find_right c (finds.Pinned x i) (q, is, b, k, first, looks, will) = absurd looks
   find_right c (finds.Held x i) (q, is, b, k, first, looks, will) = absurd looks
+  find_right c _ (q, is, b, k, first, looks, will) = (h, (q, is, will))
 
   -- ---- the unit is made ready
 
@@ -273,7 +437,7 @@ module _ (d : SpiTable) (fits : FitsSpi d) (errand : FrameRole) (below : Reserva
       is = start_is;
       sends = record { on = refl; word = sent_masked; width = ap (λ n. min n 16) width ∙ at_most (first_word d s q).width narrow; select = select };
       owing = refl;
-      owes = begun_owes (record { d = d; fits = fits; below = below; owner = owner; acted = acted; chip = chip; w = w; s = s; u = u; h = h; p = q; there = there.0; for = there.1; free = goes_none d fits below owner acted chip w s u h free }) next x y turned errand;
+      owes = begun_owes (record { d = d; fits = fits; below = below; owner = owner; acted = acted; chip = chip; w = w; s = s; u = u; h = h; p = q; there = there.0; for = there.1; free = goes_none d fits below owner acted chip w s u h free }) x y turned errand next;
     }
 
   begin_right : (c : Chosen) (x : ℕ) → start_place d u (start.Begin c x) (foot chip) s → Leaves (Write (SerialData u) x) (start_takes d u (start.Begin c x) 0)
@@ -295,9 +459,4 @@ module _ (d : SpiTable) (fits : FitsSpi d) (errand : FrameRole) (below : Reserva
   start_right (start.Select c x) e at = select_right c x at
   start_right (start.Width c x) e at = width_right c x at
   start_right (start.Begin c x) e at = begin_right c x at
-  start_right (start.Choose c p) e at = absurd (cc)
-  start_right (start.Mark c) e at = absurd (cc)
-  start_right (start.Prepare r i p) e at = absurd (cc)
-  start_right (start.Release r p) e at = absurd (cc)
-  start_right (start.Run r) e at = absurd (cc)
-  start_right start.Stand e at = absurd (cc)
+  start_right _ e at = absurd (cc)

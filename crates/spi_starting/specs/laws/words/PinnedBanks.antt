@@ -1,21 +1,72 @@
--- The banks of channels once a job has begun: what its unit is still to send of them is pinned.
--- From spi_sequences: words.ListTests, spi_sequences: words.FirstParts, spi_sequences: words.WordsOfModule and 10 more.
--- Used by spi_sending: services.SendBegun, words.BegunWords, services.StartBegun, words.FirstWord and 2 more.
-use Rattle.std.proofs.Common.{◌≡◌, ◌≢◌, ◌+◌, ◌<◌, ◌≤◌, ◌==◌, [], ◌∷◌, ◌∙◌, ◌⊎◌, if◌then◌else◌}
+-- A job has begun, whichever frame begins it: its first channel is there, the banks of its channels are pinned, and the words of what
+-- the units run.
+-- From bookkeeping.RanState, spi_sequences: words.FirstParts, spi_sequences: words.JobPlaces and 11 more.
+-- Used by spi_sending: services.SendBegun, services.StartRight, words.UnitWords, services.StartWords and 3 more.
+use Rattle.std.proofs.Common.{◌≡◌, ◌≢◌, ◌+◌, ◌*◌, ◌<◌, ◌≤◌, ◌==◌, [], ◌∷◌, ◌∙◌, ◌⊎◌, if◌then◌else◌}
 use Rattle.spi_starting.specs.Terms
-use Terms.{any_in, any_some, ap, arith, at_contained, Banks, BanksAgree, Bool, cases, Channel, channel_at, channel_of}
-use Terms.{channels_are, channels_of, Contains, contains_map, false, first_items, get_back, get_contained, Going}
-use Terms.{HasPart, held_word, inl, inr, is_number, is_on_unit, is_to_begin, Job, job_of, job_there, KeepsNone}
-use Terms.{length, List, map_get, Memory, nat_tests, next_job, NEXTS, None, none_in, none_readied, not_true, of_banks}
-use Terms.{of_held, Option, other_number, Part, part_at, part_by, part_for, past_the_first, pinning, Pins, PinsNone}
-use Terms.{placed_of, prepares, put_held, PutRight, Putting, readied_in, Received, refl, RunAgrees, same_number}
-use Terms.{same_or_other, same_Some, Sent, slice_get, Some, SpiState, SpiTable, stands-agree, STATE, subst, sym}
-use Terms.{taken_of, TakeRight, Taking, ToChannel, trio_of, true, uses_channel, view, whether, ℕ}
+use Terms.{any_in, any_some, ap, arith, as_read, at_contained, Banks, BanksAgree, best, best_in, Bool, cases, Channel}
+use Terms.{channel_at, channel_at_place, channel_number, channel_of, channels_are, channels_by, channels_of, Contains}
+use Terms.{contains_map, false, filter, filter_back, filter_keeps, first_items, FitsSpi, get_back, get_contained, Going}
+use Terms.{going_words, GoingAgrees, has_channel, HasPart, held_word, inl, inr, is_for, is_number, is_on_unit}
+use Terms.{is_to_begin, IsFirst, Job, job_of, job_there, KeepsNone, length, length-map, length-take-le, List, list_by}
+use Terms.{list_of, map_get, Memory, nat_tests, next_job, next_on, NEXTS, None, none_in, none_readied, not_order}
+use Terms.{not_true, of_banks, of_held, Option, other_number, packed, packed_run, Part, part_at, part_by, part_for}
+use Terms.{PartAgrees, PartBy, past_the_first, Pending, pinning, Pins, PinsNone, Placed, placed_by, placed_of}
+use Terms.{position_word, prepares, put_held, PutRight, Putting, readied_in, Received, refl, RunAgrees, running_word}
+use Terms.{same_number, same_or_other, same_Some, Sent, set_up_or, slice_get, Some, source_word, SpiState, SpiTable}
+use Terms.{stands-agree, STATE, subst, sym, taken_of, TakeRight, Taking, ToChannel, trio_of, true, uses_channel, view}
+use Terms.{whether, ℕ}
+use Rattle.spi_starting.specs.laws.bookkeeping.RanState.{channel_there, first_place, IsQuiet, quiet_away, quiet_first}
+use Rattle.spi_starting.specs.laws.{bookkeeping.RanState.{quiet_received, quiet_users, SentAt}, ToBegin.{begun_going}}
+use Rattle.spi_starting.specs.laws.ToBegin.{going_begun, ToBegin}
 use Rattle.spi_sequences.specs.Refinement.{Keeps}
-use Rattle.spi_starting.specs.laws.words.QuietWords.{IsQuiet, quiet_away, quiet_received}
-use Rattle.spi_starting.specs.laws.bookkeeping.RanState.{SentAt, first_place}
-use Rattle.spi_starting.specs.laws.ToBegin.{ToBegin, begun_going, going_begun}
 use Rattle.word_shapes.specs.TripleBuffer as trio
+
+-- the next sequence of a unit is pending, and for it
+pub next_there : (d : SpiTable) (u : ℕ) (ps : List Pending) (p : Pending) → next_on d u ps ≡ Some p → Contains ps p × (is_for d u p ≡ true)
+next_there d u ps p e = filter_back (is_for d u) ps p (best_in d (filter (is_for d u) ps) p e)
+
+-- where there is none, none is for it
+pub none_for : (d : SpiTable) (u : ℕ) (ps : List Pending) (q : Pending) → next_on d u ps ≡ None → Contains ps q → is_for d u q ≡ true → ⊥
+none_for d u ps q e there for = by (filter (is_for d u) ps) e (filter_keeps (is_for d u) ps q there for)
+  where
+    by : (xs : List Pending) → best d xs ≡ None → Contains xs q → ⊥
+    by [] f is = let lt = is.1 in omega (arith, lt)
+    by (x ∷ xs) f is = cc
+
+-- ---- the channels that a frame reads of the table are the job's
+
+pub count_is : (d : SpiTable) → FitsSpi d → (j : ℕ) (job : Job) → job_of d j ≡ Some job → length (channels_of d j) ≡ job.channels.count
+count_is d fits j job known =
+    let f = fits.jobs j job known in
+    let few = f.few in
+    let row = f.row in
+    ap (λ o. length (channels_by o)) known ∙ length-take-le job.channels.count job.channels.numbers (omega (arith, few, row))
+
+pub number_at : (d : SpiTable) (j : ℕ) (job : Job) → job_of d j ≡ Some job → (i : ℕ) → channel_number (list_of d j) i ≡ slice_get (channels_of d j) i
+number_at d j job known i = ap (λ o. channel_number (list_by o) i) known ∙ sym (ap (λ o. slice_get (channels_by o) i) known)
+
+pub some_channels : (d : SpiTable) → FitsSpi d → (j : ℕ) (job : Job) → job_of d j ≡ Some job → 0 < length (channels_of d j)
+some_channels d fits j job known = subst (λ n. 0 < n) (sym (count_is d fits j job known)) (fits.jobs j job known).some
+
+-- the first one
+pub first_there : (d : SpiTable) → FitsSpi d → (u : ℕ) (p : Pending) → is_for d u p ≡ true → (b : ℕ) × (k : Channel) × IsFirst d p b k
+first_there d fits u p for = first_in_list (channels_of d (next_job d p)) refl (some_channels d fits (next_job d p) job.0 job.1)
+  where
+    job : (k : Job) × (job_of d (next_job d p) ≡ Some k)
+    job = job_there d u p for
+
+    first_in_list : (xs : List ℕ) → channels_of d (next_job d p) ≡ xs → 0 < length xs → (b : ℕ) × (k : Channel) × IsFirst d p b k
+    first_in_list [] e lt = absurd (omega (arith, lt))
+    first_in_list (x ∷ xs) e lt =
+        let at : slice_get (channels_of d (next_job d p)) 0 ≡ Some x = ap (λ ys. slice_get ys 0) e in
+        let known = (fits.jobs (next_job d p) job.0 job.1).there x (get_contained (channels_of d (next_job d p)) 0 x at) in
+        (x, known.1, record { at = at; known = known.2 })
+
+pub first_placed : (d : SpiTable) (u : ℕ) (p : Pending) → is_for d u p ≡ true → (b : ℕ) → slice_get (channels_of d (next_job d p)) 0 ≡ Some b → channel_at_place d (next_job d p) 0 ≡ placed_of d b
+first_placed d u p for b at = let job = job_there d u p for in ap (placed_by d) (number_at d (next_job d p) job.0 job.1 0 ∙ at)
+
+-- ---- the banks
 
 whole_first : (xs : List ℕ) → first_items 0 (length xs) xs ≡ xs
 whole_first [] = refl
@@ -35,7 +86,7 @@ internal_values d s b k known internal = ap (λ o. part_by b o (channel_at s b))
 -- ---- which unit runs a channel's job
 
 module _ (t : ToBegin) where
-  open t use {d, fits, held, s, right, on, u, few, p, for, going, free, theirs, words, runs, banks, written}
+  open t use {d, fits, held, s, right, on, u, few, p, for, going, free, theirs, words, runs, some, inner, outer, banks, written}
 
   pub the_job : (k : Job) × (job_of d (next_job d p) ≡ Some k)
   the_job = job_there d u p for
@@ -221,3 +272,72 @@ module _ (t : ToBegin) where
       where
         at_place : (x : ℕ) × Contains cs x × ((x == b) ≡ true) → (n : ℕ) × (slice_get cs n ≡ Some b)
         at_place (x, (n, lt, at), is) = (n, at_contained cs n x lt at ∙ ap (λ z. Some z) (is_number x b is))
+
+  -- ---- the words of what the units run
+
+  module _ (m1 : Memory) (quiet : (i : ℕ) → IsQuiet d u (next_job d p) i → i ≢ NEXTS → m1 i ≡ words i) where
+    -- those of another unit
+    pub unit_words : (n : ℕ) → n < 2 → n ≢ u → (i : ℕ) → STATE + 8 + 8 * n ≤ i → i < STATE + 16 + 8 * n → m1 i ≡ words i
+    unit_words n lt ne i low high =
+        quiet i
+        (quiet_first d fits u few (next_job d p) the_job.0 the_job.1 i (omega (arith, high, lt)) (not_order u i (λ e. ne (omega (arith, low, high, e, lt, few))) (λ e. ne (omega (arith, low, high, e, lt, few))) (λ e. ne (omega (arith, low, high, e, lt, few))))
+        (λ e. omega (arith, low, e)) (λ e. ne (omega (arith, low, high, e, lt, few))) (λ e. ne (omega (arith, low, high, e, lt, few))))
+        (λ e. omega (arith, low, e))
+
+    pub source_same : (x : Placed) (i : ℕ) → m1 (source_word x i) ≡ words (source_word x i)
+    source_same x i = quiet (source_word x i) (quiet_users d fits u few (next_job d p) the_job.0 the_job.1 (source_word x i) (omega arith)) (λ e. omega (arith, e))
+
+    -- what is held of a job that another unit runs stays
+    pub held_else : (n : ℕ) (g : Going) (m : ℕ) (x : Part) (k : Channel) → n < 2 → going n ≡ Some g → slice_get g.parts m ≡ Some x → channel_of d x.channel ≡ Some k → m1 (held_word (placed_of d x.channel)) ≡ words (held_word (placed_of d x.channel))
+    held_else n g m x k lt e at known =
+        quiet (held_word (placed_of d x.channel)) (quiet_away d fits u few (next_job d p) the_job.0 the_job.1 x.channel k known away (held_word (placed_of d x.channel)) (of_held d fits x.channel k known))
+        (λ f. let le = past_the_first d x.channel k (held_word (placed_of d x.channel)) (fits.channels x.channel k known) (of_held d fits x.channel k known) in omega (arith, le, f))
+      where
+        away : uses_channel d x.channel (next_job d p) ≡ false
+        away = not_true (uses_channel d x.channel (next_job d p)) (λ uses. none_runs x.channel uses n g m x lt e (at, refl))
+
+    -- a job that another unit runs has no channel of this one
+    run_else : (n : ℕ) → n < 2 → n ≢ u → (g : Option Going) → going n ≡ g → RunAgrees d words n g → RunAgrees d m1 n g
+    run_else n lt ne None e a = unit_words n lt ne (running_word n) (omega arith) (omega arith) ∙ a
+    run_else n lt ne (Some g) e a =
+        going_words d fits n words m1 g (theirs n g lt e) (λ m x k at known outside. held_else n g m x k lt e at known) (λ m x k i at known less. source_same (placed_of d x.channel) i)
+        (unit_words n lt ne (running_word n) (omega arith) (omega arith)) (unit_words n lt ne (position_word n) (omega arith) (omega arith)) a
+
+    -- ---- the job that begins
+
+    module _ (holds : (n b : ℕ) (k : Channel) → slice_get (channels_of d (next_job d p)) n ≡ Some b → channel_of d b ≡ Some k → k.internal ≡ false → m1 (held_word (placed_of d b)) ≡ packed (as_read (set_up_or k (channel_at s b).set_up)))
+        (running : m1 (running_word u) ≡ packed_run (record { job = next_job d p; sequence = p.sequence })) (position : m1 (position_word u) ≡ 0) where
+      -- a part of it
+      part_now : (n b : ℕ) → slice_get (channels_of d (next_job d p)) n ≡ Some b → (0 < length (part_at d s b).values) × PartAgrees m1 (placed_of d (part_at d s b).channel) first_place n (part_at d s b)
+      part_now n b at = of (channel_there d fits u few (next_job d p) the_job.0 the_job.1 b (get_contained (channels_of d (next_job d p)) n b at))
+        where
+          of : (b < 16) × (k : Channel) × (channel_of d b ≡ Some k) → (0 < length (part_at d s b).values) × PartAgrees m1 (placed_of d (part_at d s b).channel) first_place n (part_at d s b)
+          of (lt, k, known) = (some b k known, subst (λ i. PartAgrees m1 (placed_of d i) first_place n (part_at d s b)) (sym (channel_is d s b)) (by k.internal refl))
+            where
+              same : (placed_of d b).channel.internal ≡ k.internal
+              same = ap (λ x. x.internal) (has_channel d fits b k known)
+
+              by : (i : Bool) → k.internal ≡ i → PartAgrees m1 (placed_of d b) first_place n (part_at d s b)
+              by true e = subst (λ i. PartBy i m1 (placed_of d b) first_place n (part_at d s b)) (sym (same ∙ e)) (inner b k known e)
+              by false e = subst (λ i. PartBy i m1 (placed_of d b) first_place n (part_at d s b)) (sym (same ∙ e)) (outer b k known e m1 n (λ i. source_same (placed_of d b) i) (holds n b k at known e))
+
+      parts_now : (n : ℕ) (x : Part) → slice_get (begun_going t).parts n ≡ Some x → (0 < length x.values) × PartAgrees m1 (placed_of d x.channel) first_place n x
+      parts_now n x at =
+          let (b, e, f) = get_back (part_at d s) (channels_of d (next_job d p)) n x at in
+          subst (λ z. (0 < length z.values) × PartAgrees m1 (placed_of d z.channel) first_place n z) (sym f) (part_now n b e)
+
+      run_now : GoingAgrees d m1 u (begun_going t)
+      run_now = record {
+        channels = channels_are d s (channels_of d (next_job d p));
+        running = running;
+        position = position;
+        place = subst (λ n. 0 < n) (sym (length-map (channels_of d (next_job d p)) (part_at d s))) (some_channels d fits (next_job d p) the_job.0 the_job.1);
+        inside = λ x at. (parts_now 0 x at).0;
+        count = refl;
+        parts = parts_now;
+      }
+
+      pub begun_runs : (n : ℕ) → n < 2 → RunAgrees d m1 n (going_begun t n)
+      begun_runs n lt = cases (same_or_other n u)
+          (λ e. subst (λ k. RunAgrees d m1 k (going_begun t k)) (sym e) (subst (λ g. RunAgrees d m1 u g) (sym (here_now)) run_now))
+          (λ ne. subst (λ g. RunAgrees d m1 n g) (sym (else_now n ne)) (run_else n lt ne (going n) refl (runs n lt ne)))
