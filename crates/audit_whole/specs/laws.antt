@@ -5,5 +5,6 @@ pub mod Lines
 pub mod Opening
 pub mod Places
 pub mod Services
+pub mod Units
 pub mod Untouched
 pub mod Waits

@@ -28,6 +28,7 @@ impl Whole for AllModules {
     ghost use Rattle.audit_whole.specs.laws.Places.{few_channels};
     ghost use Rattle.audit_whole.specs.laws.Lines.{due_asked, due_below, used_below};
     ghost use Rattle.audit_whole.specs.laws.Services.{serves};
+    ghost use Rattle.audit_whole.specs.laws.Units.{ticked};
     ghost use Rattle.audit_whole.specs.laws.Waits.{any_waits};
 
     ghost table_of = { λ c. all_tables c (serials_of c) };
@@ -87,6 +88,8 @@ impl Whole for AllModules {
     ghost used_lines = { λ m l used. used_below (Self.table m).0 l used };
 
     ghost asked_lines = { λ m w s l stands due. due_asked (Self.table m).0 w s l due };
+
+    ghost ticked = { λ t w s n u off. ticked t.0 w s n u off };
 
     ghost waits = { λ t origin unit may. any_waits t.0 origin unit may };
 

@@ -4,9 +4,11 @@ ghost use Rattle.bench_report.specs.Shown.{rows_text};
 ghost use Rattle.bench_report.specs.Showing.{Showing};
 ghost use Rattle.chip_model.specs.Chip.{Chip, chip_after, happened};
 ghost use Rattle.mcal_base.specs.declared.directive.Order.{Order};
+ghost use Rattle.mcal_base.specs.declared.directive.Order.TheVariants.{Tick};
 ghost use Rattle.mcal_base.specs.declared.directive.Request.{Request};
 ghost use Rattle.mcal_base.specs.declared.moves.Event.{Event};
 ghost use Rattle.mcal_base.specs.declared.moves.Move.{Move};
+ghost use Rattle.mcal_base.specs.declared.moves.Unit.{Unit};
 ghost use Rattle.mcal_base.specs.declared.service.Service.{Service};
 ghost use Rattle.mcal_base.specs.declared.moves.Move.TheVariants.{Read};
 ghost use Rattle.mcal_base.specs.declared.register.Reg.TheVariants.{SerialWait};
@@ -106,6 +108,10 @@ pub trait Whole: Subject + Drop {
 
     /// A line that is due is one that a configured object uses, or a serial unit's.
     ghost asked_lines: { (m : Self) (w : World) (s : Self.State) (l : ℕ) → Self.stands m s → (Self.member (Self.table m)).machine.due w s l ≡ true → ((Self.member (Self.table m)).lines l || is_serial_line l) ≡ true };
+
+    /// Ticks leave units so that may neither start nor abort.
+    ghost ticked: { (t : Self.Table) (w : World) (s : Self.State) (n : ℕ) (u : Unit) → (Self.setting t).machine.startable w s u ≡ false →
+        (Self.setting t).machine.startable (world_after w ((Self.setting t).machine.rate s) (Tick n)) (frame.state_by s ((Self.setting t).machine.happens w s (Moves (Tick n)))) u ≡ false };
 
     /// A frame waits for a serial unit that is there.
     ghost waits: { (t : Self.Table) (origin : frame.Origin Self.Call) (unit : ℕ) → (Self.setting t).may origin (Read (SerialWait unit)) ≡ true → unit < 2 };

@@ -3,7 +3,9 @@ use Rattle.std.proofs.Common.{◌≡◌, ℕ, Bool, true, false, [], ◌∷◌, 
 use Rattle.chip_model.specs.Chip.{Chip, happened, reset_chip}
 use Rattle.std.specs.Prelude.{IsSome}
 use Rattle.mcal_base.specs.declared.directive.Order.{Order}
+use Rattle.mcal_base.specs.declared.directive.Order.TheVariants.{Tick}
 use Rattle.mcal_base.specs.declared.directive.Reason.{Reason}
+use Rattle.mcal_base.specs.declared.moves.Unit.{Unit}
 use Rattle.run_model.specs.Frame.{Origin, Called, Entered, state_by}
 use Rattle.run_model.specs.Legal.{AreGoing, InTime, IsLegalDeed, IsServed, hardware_held}
 use Rattle.run_model.specs.Machine as machines
@@ -22,7 +24,7 @@ use Rattle.report_reading.specs.Blocks.{AuditState}
 use Rattle.report_reading.specs.Steps.{Comes}
 use Rattle.report_auditor.specs.Auditing.{Auditing, Stands, moved_to, purpose_by, purposes_by}
 use Rattle.report_auditor.specs.Deeds.{Judges, Moves, beginning, opening, restarted}
-use Rattle.report_auditor.specs.Seeing.{Agreeing, IsSeen, nothing, told_in}
+use Rattle.report_auditor.specs.Seeing.{Agreeing, IsSeen, moved_in, nothing}
 use Rattle.audit_whole.specs.Touching.{by_order, is_touched}
 use Rattle.audit_whole.specs.declared.aspects.Aspect.{Aspect}
 use Rattle.report_auditor.proofs.LeftLaws.{begins_in_time}
@@ -104,12 +106,14 @@ module _ {Parts Table State Call : Type 0} (agrees : Agreeing Table State) (sett
   -- after the hardware moved, which leaves what it doesn't touch
   pub moved : ((a : Aspect) (x : Table) (chip : Chip) (w : World) (s : State) (order : Order) → is_touched a (by_order order) ≡ false → agrees a x chip w s
       → agrees a x (happened chip order) (world_after w ((setting x).machine.rate s) order) (state_by s ((setting x).machine.happens w s (machines.Moves order))))
+      → ((x : Table) (w : World) (s : State) (n : ℕ) (u : Unit) → (setting x).machine.startable w s u ≡ false
+      → (setting x).machine.startable (world_after w ((setting x).machine.rate s) (Tick n)) (state_by s ((setting x).machine.happens w s (machines.Moves (Tick n)))) u ≡ false)
       → (a b : Auditing Parts Call) (p : AuditState State Call) (order : Order) → Stands agrees setting table stands t a p → Allowed p.moment (machines.Moves order) b
       → table b.parts ≡ table a.parts → b.chip ≡ happened a.chip order → IsWorld b.outside (world_after p.moment.world ((setting t).machine.rate p.moment.state) order)
       → (world_after p.moment.world ((setting t).machine.rate p.moment.state) order).devices ≡ b.chip.devices → b.chip.devices ≡ b.devices
-      → b.frames ≡ a.frames → b.origins ≡ a.origins → b.tally ≡ a.tally → b.seen ≡ told_in (by_order order) a.seen
+      → b.frames ≡ a.frames → b.origins ≡ a.origins → b.tally ≡ a.tally → b.seen ≡ moved_in order a.seen
       → Stands agrees setting table stands t b (moved_to (after (setting t) p.moment (Happens order)) p)
-  moved law a b p order s allowed same chip world devices hung frames origins tally seen = record {
+  moved law ticks a b p order s allowed same chip world devices hung frames origins tally seen = record {
     kept_of = same ∙ s.kept_of;
     chip = chip ∙ ap (λ c. happened c order) s.chip;
     world = world;
@@ -122,7 +126,7 @@ module _ {Parts Table State Call : Type 0} (agrees : Agreeing Table State) (sett
     purposes = s.purposes ∙ ap purposes_by (sym frames);
     tally = tally ∙ s.tally;
     seen = subst (λ x. IsSeen agrees setting t x (happened p.moment.chip order) (world_after p.moment.world ((setting t).machine.rate p.moment.state) order) (state_by p.moment.state ((setting t).machine.happens p.moment.world p.moment.state (machines.Moves order)))) (sym seen)
-        (seen_moved agrees setting t law a.seen p.moment.chip p.moment.world p.moment.state order s.seen);
+        (seen_moved agrees setting t law ticks a.seen p.moment.chip p.moment.world p.moment.state order s.seen);
   }
 
   -- after a reset

@@ -1,10 +1,12 @@
 -- Masks of lines are compared as lines are, one by one.
-use Rattle.std.proofs.Common.{◌≡◌, ◌⊎◌, inl, inr, ℕ, suc, ◌+◌, ◌*◌, ◌^◌, ◌<◌, nat_lt, ◌≤◌, Bool, true, false, ◌&&◌, ◌||◌, ◌==◌, refl, sym, ◌∙◌, ap, arith, add-one}
-use Rattle.std.specs.Prelude.{bit_or}
-use Rattle.std.proofs.lemmas.Nat.{one_shl}
+use Rattle.std.proofs.Common.{◌≡◌, ◌≢◌, ◌⊎◌, inl, inr, ℕ, suc, ◌+◌, ◌*◌, ◌%◌, ◌^◌, ◌<◌, nat_lt, ◌≤◌, Bool, true, false, not, ◌&&◌, ◌||◌, ◌==◌, refl, sym, ◌∙◌, ap, arith, add-one, w64}
+use Rattle.std.specs.Prelude.{bit_and, bit_or}
+use Rattle.std.specs.Int.{bit_not}
+use Rattle.std.proofs.lemmas.Nat.Bits.{bit_at_clear_same, bit_at_clear_other}
+use Rattle.std.proofs.lemmas.Nat.{and_le_l, one_shl}
 use Rattle.mcal_base.specs.Bits.{has_bit, bit_of, bits_of}
-use Rattle.mcal_base.proofs.BitLaws.{has_bit-bits_of, has_bit-bits_of_above, has_bit-or}
-use Rattle.mcal_base.specs.facts.Numbers.{eq_is, eq_from, lt_from}
+use Rattle.mcal_base.proofs.BitLaws.{has_bit-above, has_bit-bits_of, has_bit-bits_of_above, has_bit-or, has_bit-pow_other, has_bit-pow_same, has_bit-zero}
+use Rattle.mcal_base.specs.facts.Numbers.{eq_is, eq_from, lt_from, same_or_other}
 use Rattle.mcal_base.specs.facts.Truths.{if_true, off_on}
 use Rattle.audit_frames.specs.Decides.{Decides}
 use Rattle.audit_frames.specs.Masks.{includes, with_bit}
@@ -61,11 +63,83 @@ line_asked lines used small e l on =
     ∙ (ap (λ b. b || has_bit 201326592 l) (ap (λ m. has_bit m l) e ∙ bit_is lines small l)
     ∙ one_of (lines l) (is_serial_line l) (has_bit 201326592 l) (serial_by l (l == 26) (l == 27) refl refl) on)
 
--- and one that isn't asked, where those are asked of which a test holds, is none of these
-pub test_off : (asked test : Bool) → (test ≡ true → asked ≡ true) → asked && test ≡ false → test ≡ false
-test_off true test f off = off
-test_off false true f off = sym (f refl)
-test_off false false f off = refl
+-- ---- a mask of which one bit is cleared
+
+mask_or_above : (n : ℕ) → (n < 64) ⊎ (64 ≤ n)
+mask_or_above n = grind arith
+
+pub bit_cleared : (mask n : ℕ) → n < 64 → has_bit (bit_and mask (bit_not w64 (1 * 2 ^ n % 2 ^ 64))) n ≡ false
+bit_cleared mask n within = ap (λ b. b == 1) (bit_at_clear_same w64 mask n within)
+
+pub bits_kept : (mask n k : ℕ) → mask < 2 ^ 64 → n < 64 → k ≢ n → has_bit (bit_and mask (bit_not w64 (1 * 2 ^ n % 2 ^ 64))) k ≡ has_bit mask k
+bits_kept mask n k fits within apart = elim (mask_or_above k) [
+  | inl low ↦ ap (λ b. b == 1) (bit_at_clear_other w64 mask n within k low apart)
+  | inr high ↦
+      let less = and_le_l mask (bit_not w64 (1 * 2 ^ n % 2 ^ 64)) in
+      has_bit-above (bit_and mask (bit_not w64 (1 * 2 ^ n % 2 ^ 64))) 64 k (omega (arith, less, fits)) high ∙ sym (has_bit-above mask 64 k fits high)
+]
+
+less_or_same : (a b : ℕ) → a ≤ b → (a < b) ⊎ (a ≡ b)
+less_or_same a b le = grind (arith, le)
+
+pub less_without : (mask n : ℕ) → n < 64 → has_bit mask n ≡ true → bit_and mask (bit_not w64 (1 * 2 ^ n % 2 ^ 64)) < mask
+less_without mask n within on = elim (less_or_same (bit_and mask (bit_not w64 (1 * 2 ^ n % 2 ^ 64))) mask (and_le_l mask (bit_not w64 (1 * 2 ^ n % 2 ^ 64)))) [
+  | inl less ↦ less
+  | inr same ↦ off_on (sym (bit_cleared mask n within) ∙ (ap (λ m. has_bit m n) same ∙ on))
+]
+
+-- ---- lines of a test are found one by one, of a mask that has all of them
+
+off_unless : (x y : Bool) → (x ≡ true → y ≡ true) → x && not y ≡ false
+off_unless true y f = ap not (f refl)
+off_unless false y f = refl
+
+pub none_found : (test : ℕ → Bool) (asked k : ℕ) → (test k ≡ true → has_bit asked k ≡ true) → has_bit 0 k ≡ (test k && not (has_bit asked k))
+none_found test asked k f = has_bit-zero k ∙ sym (off_unless (test k) (has_bit asked k) f)
+
+and_off : (x y z : Bool) → x ≡ false → (x && not y) ≡ (x && not z)
+and_off false y z e = refl
+and_off true y z e = off_on (sym e)
+
+-- one that isn't so
+pub still_found : (test : ℕ → Bool) (left left2 n found : ℕ) → test n ≡ false → ((k : ℕ) → k ≢ n → has_bit left2 k ≡ has_bit left k)
+    → ((k : ℕ) → has_bit found k ≡ (test k && not (has_bit left k))) → (k : ℕ) → has_bit found k ≡ (test k && not (has_bit left2 k))
+still_found test left left2 n found off kept before k = elim (same_or_other k n) [
+  | inl is ↦ before k ∙ and_off (test k) (has_bit left k) (has_bit left2 k) (ap test is ∙ off)
+  | inr apart ↦ before k ∙ ap (λ b. test k && not b) (sym (kept k apart))
+]
+
+or_on : (x : Bool) → x || true ≡ true
+or_on true = refl
+or_on false = refl
+
+or_off : (x : Bool) → x || false ≡ x
+or_off true = refl
+or_off false = refl
+
+and_on : (x y : Bool) → x ≡ true → y ≡ false → x && not y ≡ true
+and_on true y e f = ap not f
+and_on false y e f = off_on e
+
+marked_bit : (found n k : ℕ) → n < 64 → has_bit (with_bit found n) k ≡ (has_bit found k || has_bit (2 ^ n) k)
+marked_bit found n k within = ap (λ m. has_bit m k) (if_true (nat_lt n 64) (bit_or found (2 ^ n)) found (lt_from n 64 within)) ∙ has_bit-or found (2 ^ n) k
+
+-- one that is
+pub line_found : (test : ℕ → Bool) (left left2 n found : ℕ) → test n ≡ true → n < 64 → has_bit left2 n ≡ false → ((k : ℕ) → k ≢ n → has_bit left2 k ≡ has_bit left k)
+    → ((k : ℕ) → has_bit found k ≡ (test k && not (has_bit left k))) → (k : ℕ) → has_bit (with_bit found n) k ≡ (test k && not (has_bit left2 k))
+line_found test left left2 n found on within clear kept before k = elim (same_or_other k n) [
+  | inl is ↦ marked_bit found n k within ∙ (ap (λ b. has_bit found k || b) (ap (has_bit (2 ^ n)) is ∙ has_bit-pow_same n) ∙ (or_on (has_bit found k) ∙ sym (and_on (test k) (has_bit left2 k) (ap test is ∙ on) (ap (has_bit left2) is ∙ clear))))
+  | inr apart ↦ marked_bit found n k within ∙ (ap (λ b. has_bit found k || b) (has_bit-pow_other n k apart) ∙ (or_off (has_bit found k) ∙ (before k ∙ ap (λ b. test k && not b) (sym (kept k apart)))))
+]
+
+and_all : (x y : Bool) → y ≡ false → x && not y ≡ x
+and_all true y e = ap not e
+and_all false y e = refl
+
+-- and all of them
+pub all_found : (test : ℕ → Bool) (left found : ℕ) → left ≡ 0 → ((l : ℕ) → test l ≡ true → l < 32) → ((k : ℕ) → has_bit found k ≡ (test k && not (has_bit left k))) → found ≡ bits_of test 32
+all_found test left found none small found_so =
+    same_bits found (bits_of test 32) (λ k. found_so k ∙ (and_all (test k) (has_bit left k) (ap (λ m. has_bit m k) none ∙ has_bit-zero k) ∙ sym (bit_is test small k)))
 
 -- ---- a mask of the lines so far
 

@@ -1,19 +1,22 @@
 -- What was seen and isn't touched is so after a move, an event, what the hardware does, and a reset.
-use Rattle.std.proofs.Common.{◌≡◌, ℕ, Bool, true, false, List, [], ◌∷◌, map, Option, Some, None, refl, sym, ◌∙◌, ap, subst, slice_get}
+use Rattle.std.proofs.Common.{◌≡◌, ℕ, Bool, true, false, ◌&&◌, List, [], ◌∷◌, map, Option, Some, None, refl, sym, ◌∙◌, ap, subst, slice_get}
 use Rattle.std.specs.Bool.{OnTrue}
 use Rattle.std.specs.Option.{IfSome}
 use Rattle.chip_model.specs.Chip.{Chip, chip_after, happened}
 use Rattle.mcal_base.specs.Bits.{bits_of}
 use Rattle.mcal_base.specs.declared.directive.Order.{Order}
+use Rattle.mcal_base.specs.declared.directive.Order.TheVariants.{Tick}
 use Rattle.mcal_base.specs.declared.moves.Event.{Event}
 use Rattle.mcal_base.specs.declared.moves.Move.{Move}
+use Rattle.mcal_base.specs.declared.moves.Unit.{Unit}
+use Rattle.mcal_base.specs.facts.Truths.{off_on}
 use Rattle.run_model.specs.Frame.{Open, state_after, state_by}
 use Rattle.run_model.specs.Machine.{Moves}
 use Rattle.run_model.specs.Moment.{Setting}
 use Rattle.run_model.specs.World.{World, world_after}
 use Rattle.report_reading.specs.Blocks.{AuditState}
 use Rattle.report_auditor.specs.Auditing.{Auditing, Stands, seeing}
-use Rattle.report_auditor.specs.Seeing.{Agreeing, IsSeen, nothing, saw, stepped_in, touched_if_told, told_in, touched_in}
+use Rattle.report_auditor.specs.Seeing.{Agreeing, IsSeen, keeps_units, moved_in, nothing, saw, stepped_in, told_in, touched_if_told, touched_in}
 use Rattle.audit_whole.specs.Touching.{by_event, by_move, by_order, is_touched}
 use Rattle.audit_whole.specs.declared.aspects.Aspect.{Aspect}
 use Rattle.audit_whole.specs.declared.aspects.Aspect.TheVariants.{Outputs, Pins, Ram, Stamps, Results, Arrays}
@@ -94,13 +97,13 @@ still Words Outputs seen h f = goes_on (saw seen Outputs) h (f refl)
 still Words Pins seen h f = goes_on (saw seen Pins) h (f refl)
 still Words Ram seen h f = goes_on (saw seen Ram) h (f refl)
 
-same_saw : (a : Aspect) (seen : Seen) → saw (record seen { due = None }) a ≡ saw seen a
-same_saw Outputs seen = refl
-same_saw Pins seen = refl
-same_saw Ram seen = refl
-same_saw Stamps seen = refl
-same_saw Results seen = refl
-same_saw Arrays seen = refl
+same_saw : (a : Aspect) (units : Bool) (seen : Seen) → saw (record seen { due = None; units = units }) a ≡ saw seen a
+same_saw Outputs units seen = refl
+same_saw Pins units seen = refl
+same_saw Ram units seen = refl
+same_saw Stamps units seen = refl
+same_saw Results units seen = refl
+same_saw Arrays units seen = refl
 
 none_seen : (P : Type 0) (used : ℕ) (a : Aspect) → OnTrue (saw (nothing used) a) P
 none_seen P used Outputs = tt
@@ -131,11 +134,27 @@ same_due (One Results) seen = refl
 same_due (One Arrays) seen = refl
 same_due Words seen = refl
 
+same_units : (x : Touched) (seen : Seen) → (touched_in x seen).units ≡ seen.units
+same_units Nothing seen = refl
+same_units (One Outputs) seen = refl
+same_units (One Pins) seen = refl
+same_units (One Ram) seen = refl
+same_units (One Stamps) seen = refl
+same_units (One Results) seen = refl
+same_units (One Arrays) seen = refl
+same_units Words seen = refl
+
+-- what is so where one is known stays so where both are
+both_on : {P Q : Type 0} (a b : Bool) → OnTrue a P → (b ≡ true → P → Q) → OnTrue (a && b) Q
+both_on true true h f = f refl h
+both_on true false h f = tt
+both_on false b h f = tt
+
 -- ---- all of it
 
 module _ {Table State Call : Type 0} (agrees : Agreeing Table State) (setting : Table → Setting State Call) (t : Table) where
   pub seen_nothing : (used : ℕ) (chip : Chip) (w : World) (s : State) → used ≡ bits_of (setting t).used 32 → IsSeen agrees setting t (nothing used) chip w s
-  seen_nothing used chip w s e = record { used = e; due = tt; each = λ a. none_seen (agrees a t chip w s) used a }
+  seen_nothing used chip w s e = record { used = e; due = tt; units = tt; each = λ a. none_seen (agrees a t chip w s) used a }
 
   each_of : (seen : Seen) (chip : Chip) (w : World) (s : State) → OnTrue seen.outputs (agrees Outputs t chip w s) → OnTrue seen.pins (agrees Pins t chip w s) → OnTrue seen.ram (agrees Ram t chip w s)
       → OnTrue seen.stamps (agrees Stamps t chip w s) → OnTrue seen.results (agrees Results t chip w s) → OnTrue seen.arrays (agrees Arrays t chip w s) → (a : Aspect) → OnTrue (saw seen a) (agrees a t chip w s)
@@ -147,25 +166,33 @@ module _ {Table State Call : Type 0} (agrees : Agreeing Table State) (setting : 
   each_of seen chip w s outputs pins ram stamps results arrays Arrays = arrays
 
   pub seen_all : (seen : Seen) (chip : Chip) (w : World) (s : State) → seen.used ≡ bits_of (setting t).used 32 → IfSome seen.due (λ mask. mask ≡ bits_of ((setting t).machine.due w s) 32)
+      → OnTrue seen.units ((u : Unit) → (setting t).machine.startable w s u ≡ false)
       → OnTrue seen.outputs (agrees Outputs t chip w s) → OnTrue seen.pins (agrees Pins t chip w s) → OnTrue seen.ram (agrees Ram t chip w s)
       → OnTrue seen.stamps (agrees Stamps t chip w s) → OnTrue seen.results (agrees Results t chip w s) → OnTrue seen.arrays (agrees Arrays t chip w s) → IsSeen agrees setting t seen chip w s
-  seen_all seen chip w s used due outputs pins ram stamps results arrays = record { used = used; due = due; each = each_of seen chip w s outputs pins ram stamps results arrays }
+  seen_all seen chip w s used due units outputs pins ram stamps results arrays = record { used = used; due = due; units = units; each = each_of seen chip w s outputs pins ram stamps results arrays }
 
   touched : (x : Touched) (seen : Seen) (chip after : Chip) (w : World) (s : State)
       → ((a : Aspect) → is_touched a x ≡ false → agrees a t chip w s → agrees a t after w s) → IsSeen agrees setting t seen chip w s → IsSeen agrees setting t (touched_in x seen) after w s
   touched x seen chip after w s kept h = record {
     used = same_used x seen ∙ h.used;
     due = subst (λ d. IfSome d (λ mask. mask ≡ bits_of ((setting t).machine.due w s) 32)) (sym (same_due x seen)) h.due;
+    units = subst (λ b. OnTrue b ((u : Unit) → (setting t).machine.startable w s u ≡ false)) (sym (same_units x seen)) h.units;
     each = λ a. still x a seen (h.each a) (kept a);
+  }
+
+  changed : (x : Touched) (units : Bool) (seen : Seen) (chip chip2 : Chip) (w w2 : World) (s s2 : State)
+      → OnTrue units ((u : Unit) → (setting t).machine.startable w2 s2 u ≡ false)
+      → ((a : Aspect) → is_touched a x ≡ false → agrees a t chip w s → agrees a t chip2 w2 s2) → IsSeen agrees setting t seen chip w s → IsSeen agrees setting t (touched_in x (record seen { due = None; units = units })) chip2 w2 s2
+  changed x units seen chip chip2 w w2 s s2 rest kept h = record {
+    used = same_used x (record seen { due = None; units = units }) ∙ h.used;
+    due = subst (λ d. IfSome d (λ mask. mask ≡ bits_of ((setting t).machine.due w2 s2) 32)) (sym (same_due x (record seen { due = None; units = units }))) tt;
+    units = subst (λ b. OnTrue b ((u : Unit) → (setting t).machine.startable w2 s2 u ≡ false)) (sym (same_units x (record seen { due = None; units = units }))) rest;
+    each = λ a. still x a (record seen { due = None; units = units }) (subst (λ b. OnTrue b (agrees a t chip w s)) (sym (same_saw a units seen)) (h.each a)) (kept a);
   }
 
   told : (x : Touched) (seen : Seen) (chip chip2 : Chip) (w w2 : World) (s s2 : State)
       → ((a : Aspect) → is_touched a x ≡ false → agrees a t chip w s → agrees a t chip2 w2 s2) → IsSeen agrees setting t seen chip w s → IsSeen agrees setting t (told_in x seen) chip2 w2 s2
-  told x seen chip chip2 w w2 s s2 kept h = record {
-    used = same_used x (record seen { due = None }) ∙ h.used;
-    due = subst (λ d. IfSome d (λ mask. mask ≡ bits_of ((setting t).machine.due w2 s2) 32)) (sym (same_due x (record seen { due = None }))) tt;
-    each = λ a. still x a (record seen { due = None }) (subst (λ b. OnTrue b (agrees a t chip w s)) (sym (same_saw a seen)) (h.each a)) (kept a);
-  }
+  told x seen chip chip2 w w2 s s2 kept h = changed x false seen chip chip2 w w2 s s2 tt kept h
 
   module _ (by_moves : (a : Aspect) (x : Table) (chip : Chip) (w : World) (s : State) (made : Move) (received : ℕ) → is_touched a (by_move made) ≡ false → agrees a x chip w s → agrees a x (chip_after chip made received) w s)
       (by_events : (a : Aspect) (x : Table) (chip : Chip) (w : World) (s : State) (o : Open Call) (made : Move) (received : ℕ) (e : Event) → is_touched a (by_event (setting x) o.origin e) ≡ false → agrees a x chip w s
@@ -178,12 +205,23 @@ module _ {Table State Call : Type 0} (agrees : Agreeing Table State) (setting : 
         (λ a. by_events a t (chip_after chip made received) w s o made received e)
         (touched (by_move made) seen chip (chip_after chip made received) w s (λ a. by_moves a t chip w s made received) h)
 
+  -- units after ticks, by the law of ticks, and after anything else
+  units_after : ((x : Table) (w : World) (s : State) (n : ℕ) (u : Unit) → (setting x).machine.startable w s u ≡ false
+      → (setting x).machine.startable (world_after w ((setting x).machine.rate s) (Tick n)) (state_by s ((setting x).machine.happens w s (Moves (Tick n)))) u ≡ false)
+      → (w : World) (s : State) (order : Order) → keeps_units order ≡ true → ((u : Unit) → (setting t).machine.startable w s u ≡ false)
+      → (u : Unit) → (setting t).machine.startable (world_after w ((setting t).machine.rate s) order) (state_by s ((setting t).machine.happens w s (Moves order))) u ≡ false
+  units_after law w s (Tick n) e h = λ u. law t w s n u (h u)
+  units_after law w s _ e h = off_on e
+
   pub seen_moved : ((a : Aspect) (x : Table) (chip : Chip) (w : World) (s : State) (order : Order) → is_touched a (by_order order) ≡ false → agrees a x chip w s
       → agrees a x (happened chip order) (world_after w ((setting x).machine.rate s) order) (state_by s ((setting x).machine.happens w s (Moves order))))
+      → ((x : Table) (w : World) (s : State) (n : ℕ) (u : Unit) → (setting x).machine.startable w s u ≡ false
+      → (setting x).machine.startable (world_after w ((setting x).machine.rate s) (Tick n)) (state_by s ((setting x).machine.happens w s (Moves (Tick n)))) u ≡ false)
       → (seen : Seen) (chip : Chip) (w : World) (s : State) (order : Order) → IsSeen agrees setting t seen chip w s
-      → IsSeen agrees setting t (told_in (by_order order) seen) (happened chip order) (world_after w ((setting t).machine.rate s) order) (state_by s ((setting t).machine.happens w s (Moves order)))
-  seen_moved law seen chip w s order h =
-      told (by_order order) seen chip (happened chip order) w (world_after w ((setting t).machine.rate s) order) s (state_by s ((setting t).machine.happens w s (Moves order))) (λ a. law a t chip w s order) h
+      → IsSeen agrees setting t (moved_in order seen) (happened chip order) (world_after w ((setting t).machine.rate s) order) (state_by s ((setting t).machine.happens w s (Moves order)))
+  seen_moved law ticks seen chip w s order h =
+      changed (by_order order) (seen.units && keeps_units order) seen chip (happened chip order) w (world_after w ((setting t).machine.rate s) order) s (state_by s ((setting t).machine.happens w s (Moves order)))
+      (both_on seen.units (keeps_units order) h.units (units_after ticks w s order)) (λ a. law a t chip w s order) h
 
 -- what is kept stands for the same place with what is seen anew
 pub stands_seeing : {Parts Table State Call : Type 0} (agrees : Agreeing Table State) (setting : Table → Setting State Call) (table : Parts → Table) (stands : Parts → State → Type 0) (t : Table) (seen : Seen) (a : Auditing Parts Call) (p : AuditState State Call)

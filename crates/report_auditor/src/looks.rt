@@ -1,13 +1,15 @@
-ghost use Rattle.std.specs.Prelude.{◌≡◌, ℕ};
+ghost use Rattle.std.specs.Prelude.{◌≡◌, ℕ, false};
 ghost use Rattle.std.specs.Bool.{OnTrue};
 ghost use Rattle.mcal_base.specs.Bits.{bits_of};
+ghost use Rattle.mcal_base.specs.declared.moves.Unit.{Unit};
+ghost use Rattle.audit_frames.specs.Decides.{Decides};
 ghost use Rattle.report_reading.specs.Blocks.{AuditState};
 ghost use Rattle.report_auditor.specs.Auditing.{IsSound, Stands, seeing};
 ghost use Rattle.report_auditor.specs.Seeing.{IsSeen};
 
 use crate::auditor::Auditor;
 use crate::seen::Seen;
-use crate::served::due_lines;
+use crate::served::{due_lines, units_rest};
 use audit_whole::{Aspect, Whole};
 
 /// The lines of serial units, as the bits of a mask: one that nothing configured uses may be due.
@@ -24,6 +26,19 @@ impl<P: Whole> Auditor<P> {
             Some(due) => due,
             None => due_lines(&self.parts, &self.outside, self.seen.used | SERIAL_LINES),
         }
+    }
+
+    /// Whether no unit may start or abort: they are asked where that isn't known.
+    pub(crate) fn units_rest(&self) -> bool
+        requires fits { P.fits self.now.parts self.now.outside }
+        ensures { (t : P.Table) (p : AuditState P.State P.Call) → Stands P.agrees P.setting P.table P.stands t self.now p →
+            Decides result ((u : Unit) → (P.setting t).machine.startable p.moment.world p.moment.state u ≡ false) }
+    {
+        let known = self.seen.units;
+        if known {
+            return true;
+        }
+        units_rest(&self.parts, &self.outside)
     }
 
     /// Whether chip and machines agree in an aspect: it is looked at where that isn't known.
@@ -54,6 +69,7 @@ impl<P: Whole> Auditor<P> {
         Seen {
             used: seen.used,
             due: Some(due),
+            units: seen.units,
             outputs,
             pins,
             ram: seen.ram,
@@ -72,6 +88,7 @@ impl<P: Whole> Auditor<P> {
     {
         let seen = self.seen;
         let due = self.due();
+        let units = self.units_rest();
         let outputs = self.is_seen(Aspect::Outputs);
         let pins = self.is_seen(Aspect::Pins);
         let ram = self.is_seen(Aspect::Ram);
@@ -81,6 +98,7 @@ impl<P: Whole> Auditor<P> {
         Seen {
             used: seen.used,
             due: Some(due),
+            units,
             outputs,
             pins,
             ram,

@@ -14,6 +14,8 @@ pub struct Seen {
     pub used: u64,
     /// The lines that are due, where they are known.
     pub due: Option<u64>,
+    /// No unit may start or abort.
+    pub units: bool,
     /// Chip and machines agree in the outputs, and so on.
     pub outputs: bool,
     pub pins: bool,
@@ -31,6 +33,7 @@ impl Seen {
         Seen {
             used,
             due: None,
+            units: false,
             outputs: false,
             pins: false,
             ram: false,
@@ -65,14 +68,18 @@ impl Seen {
         ensures { self.new ≡ spec.told_in touched self.old }
     {
         self.due = None;
+        self.units = false;
         self.touch(touched);
     }
 
     /// The hardware moved.
     pub(crate) fn happens(&mut self, order: &Order)
-        ensures { self.new ≡ spec.told_in (touching.by_order order.now) self.old }
+        ensures { self.new ≡ spec.moved_in order.now self.old }
     {
-        self.tell(by_order(order));
+        let kept = keeps_units(order);
+        self.due = None;
+        self.units = self.units && kept;
+        self.touch(by_order(order));
     }
 
     /// The chip made a move, at which an event may have stood that touched this.
@@ -173,6 +180,13 @@ fn by_order(order: &Order) -> Touched
         Order::Fill(_, _) => Touched::Words,
         _ => Touched::Nothing,
     }
+}
+
+/// Whether units are left so that may neither start nor abort: by ticks.
+fn keeps_units(order: &Order) -> bool
+    ensures { result ≡ spec.keeps_units order.now }
+{
+    matches!(order, Order::Tick(_))
 }
 
 /// What the state of a module has a part in.

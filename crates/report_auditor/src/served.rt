@@ -1,4 +1,4 @@
-ghost use Rattle.std.specs.Prelude.{◌≡◌, ◌&&◌, ◌||◌, ℕ, false, not, true};
+ghost use Rattle.std.specs.Prelude.{◌≡◌, ◌≢◌, ◌<◌, ◌||◌, ℕ, false, not, true};
 ghost use Rattle.chip_model.specs.Chip.{is_pending};
 ghost use Rattle.std.specs.Bool.{OnTrue};
 ghost use Rattle.mcal_base.specs.Bits.{bits_of, has_bit};
@@ -14,30 +14,48 @@ ghost use Rattle.report_auditor.specs.Serving.{KeepsTime, LinesAgree, OpenRight}
 
 use crate::auditor::{Auditor, same_left};
 use audit_base::{Outside, Part};
-use audit_frames::{has_bit, with_bit};
+use audit_frames::with_bit;
 use audit_whole::Whole;
 use mcal_base::Unit;
 
 /// How many lines there are.
 const LINES: u32 = 32;
 
-/// Whether a line is one of a mask and is due.
-fn is_due<P: Part>(part: &P, outside: &Outside, asked: u64, line: u32) -> bool
-    ensures { (w : World) (s : P.State) → P.fits part.now outside.now → IsWorld outside.now w → P.stands part.now s →
-        result ≡ (has_bit asked line && (P.member (P.table part.now)).machine.due w s line) }
+/// The lowest line of a mask.
+fn lowest(mask: u64) -> u32
+    requires some { 0 < mask }
+    ensures within { result < 64 }
+    ensures set { has_bit mask result ≡ true }
 {
-    has_bit(asked, line) && part.due(outside, line)
+    mask.trailing_zeros()
 }
 
-/// The lines that are due, as the bits of a mask, where no others are than those of a mask: these are asked one by one.
+/// A mask without a line that it has.
+fn without_bit(mask: u64, line: u32) -> u64
+    requires within { line < 64 }
+    requires set { has_bit mask line ≡ true }
+    ensures smaller { result < mask }
+    ensures clear { has_bit result line ≡ false }
+    ensures kept { (k : ℕ) → k ≢ line → has_bit result k ≡ has_bit mask k }
+{
+    mask & !(1 << line)
+}
+
+/// The lines that are due, as the bits of a mask, where no others are than those of a mask, below 32: these are asked one by
+/// one. It isn't inlined, so that whoever knows the lines makes no room for it.
+#[inline(never)]
 pub(crate) fn due_lines<P: Part>(part: &P, outside: &Outside, asked: u64) -> u64
     ensures { (w : World) (s : P.State) → P.fits part.now outside.now → IsWorld outside.now w → P.stands part.now s →
         ((l : ℕ) → (P.member (P.table part.now)).machine.due w s l ≡ true → has_bit asked l ≡ true) →
+        ((l : ℕ) → (P.member (P.table part.now)).machine.due w s l ≡ true → l < 32) →
         result ≡ bits_of ((P.member (P.table part.now)).machine.due w s) 32 }
 {
+    let mut left = asked;
     let mut found = 0;
-    for line in 0..LINES {
-        if is_due(part, outside, asked, line) {
+    while left != 0 {
+        let line = lowest(left);
+        left = without_bit(left, line);
+        if part.due(outside, line) {
             found = with_bit(found, line);
         }
     }
@@ -72,7 +90,7 @@ fn none_is(one: bool, two: bool, three: bool, four: bool) -> bool
 }
 
 /// Whether no unit may start or abort.
-fn units_rest<P: Part>(part: &P, outside: &Outside) -> bool
+pub(crate) fn units_rest<P: Part>(part: &P, outside: &Outside) -> bool
     requires fits { P.fits part.now outside.now }
     ensures { (w : World) (s : P.State) → IsWorld outside.now w → P.stands part.now s →
         Decides result ((u : units.Unit) → (P.member (P.table part.now)).machine.startable w s u ≡ false) }
@@ -160,7 +178,7 @@ impl<P: Whole> Auditor<P> {
         ensures { (t : P.Table) (p : AuditState P.State P.Call) → Stands P.agrees P.setting P.table P.stands t self.now p →
             Decides result (IsQuiet (P.setting t) p.moment) }
     {
-        if !units_rest(&self.parts, &self.outside) {
+        if !self.units_rest() {
             return false;
         }
         if !self.has_due_lines(pending) {

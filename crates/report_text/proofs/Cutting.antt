@@ -110,6 +110,19 @@ own_begins number text line lines h = (own_case number text line lines h (cut te
 pub own_took : (number : ℕ) (text line : List ℕ) (lines : List (List ℕ)) → own_lines number (parts_of text) ≡ line ∷ lines → Took number text (line ∷ []) (drop (length line + 1) text)
 own_took number text line lines h = (own_case number text line lines h (cut text)).took
 
+-- ---- a text whose first line doesn't begin with the number has no line of the block
+
+unnumbered_cut : (number : ℕ) (text : List ℕ) → ((line rest : List ℕ) → text ≡ line ++ 10 ∷ rest → begins_with number line ≡ true → ⊥) → (c : IsCut text) (b : Bool) → begins_with number c.line ≡ b → own_lines number (parts_of text) ≡ []
+unnumbered_cut number text none c true b = absurd (none c.line c.rest c.is b)
+unnumbered_cut number text none c false b = own_first number text c.line c.rest c.parts ∙ unless (begins_with number c.line) (c.line ∷ own_lines number (parts_of c.rest)) [] b
+
+unnumbered_case : (number : ℕ) (text : List ℕ) → ((line rest : List ℕ) → text ≡ line ++ 10 ∷ rest → begins_with number line ≡ true → ⊥) → (parts_of text ≡ text ∷ []) ⊎ IsCut text → own_lines number (parts_of text) ≡ []
+unnumbered_case number text none (inl e) = ap (own_lines number) e
+unnumbered_case number text none (inr c) = unnumbered_cut number text none c (begins_with number c.line) refl
+
+pub own_unnumbered : (number : ℕ) (text : List ℕ) → ((line rest : List ℕ) → text ≡ line ++ 10 ∷ rest → begins_with number line ≡ true → ⊥) → own_lines number (parts_of text) ≡ []
+own_unnumbered number text none = unnumbered_case number text none (cut text)
+
 -- ---- where the block is over
 
 past_case : (number : ℕ) (part next : List ℕ) (parts : List (List ℕ)) (b : Bool) → begins_with number part ≡ b → own_lines number (part ∷ next ∷ parts) ≡ [] → behind number (part ∷ next ∷ parts) ≡ part ∷ next ∷ parts

@@ -1,6 +1,7 @@
 -- The next line of the block, by the first line of what is left: w is what is kept, and v what it stands for.
-use Rattle.std.proofs.Common.{◌≡◌, ℕ, ◌+◌, ◌<◌, ◌≤◌, List, [], ◌∷◌, ◌++◌, length, take, drop, Option, Some, None, Bool, true, false, refl, ◌∙◌, ap, sym, subst, arith, length-append}
+use Rattle.std.proofs.Common.{◌≡◌, ℕ, ◌+◌, ◌<◌, ◌≤◌, List, [], ◌∷◌, ◌++◌, length, take, drop, Option, Some, None, Bool, true, false, refl, ◌∙◌, ap, sym, subst, append_assoc, arith, length-append}
 use Rattle.std.specs.Prelude.{codes, decimal, nat_le, option_map}
+use Rattle.std.proofs.lemmas.Bool.{false≢true}
 use Rattle.std.proofs.lemmas.Bool.Decides.{nat_tests}
 use Rattle.std.proofs.lemmas.List.{append-nil, length-take-le}
 use Rattle.bench_report.specs.Lines.{Line, line_text, numbered, end_text}
@@ -12,8 +13,8 @@ use Rattle.trace_reader.specs.declared.told.Told.{Told}
 use Rattle.trace_reader.specs.declared.told.TraceLine.{TraceLine}
 use Rattle.report_text.specs.Unread.{Unread, comes, own, passed, taken, told_first, told_next, past_first, after_told, Ends}
 use Rattle.report_text.specs.declared.ending.Ending.TheVariants.{Alone, Followed, Missing}
-use Rattle.report_text.proofs.Cutting.{own_first, when, unless}
-use Rattle.report_text.proofs.Taking.{comes_is}
+use Rattle.report_text.proofs.Cutting.{own_first, own_unnumbered, when, unless}
+use Rattle.report_text.proofs.Taking.{comes_again, comes_is}
 
 -- no whole line is left
 pub next_none : (w v : Unread) → w ≡ v → parts_of w.left ≡ w.left ∷ [] → own v ≡ []
@@ -29,6 +30,21 @@ next_other w v mark end e m p c =
     let rest = drop (end + 1) w.left in
     subst (λ (u : Unread). own u ≡ []) e
     (own_first w.number w.left line rest p ∙ unless (begins_with w.number line) (line ∷ own_lines w.number (parts_of rest)) [] (mark_is w mark line false m c))
+
+-- the mark of the block isn't there
+goes_on : (mark line rest : List ℕ) → comes mark line ≡ true → comes mark (line ++ rest) ≡ true
+goes_on mark line rest here =
+    let end = drop (length mark) line in
+    let stands : line ++ rest ≡ mark ++ (end ++ rest) = ap (λ (bs : List ℕ). bs ++ rest) (comes_is mark line here) ∙ append_assoc mark end rest in
+    subst (λ (bs : List ℕ). comes mark bs ≡ true) (sym stands) (comes_again mark (end ++ rest))
+
+own_unmarked : (number : ℕ) (text : List ℕ) → comes (decimal number ++ codes " ") text ≡ false → own_lines number (parts_of text) ≡ []
+own_unmarked number text off =
+    let mark = decimal number ++ codes " " in
+    own_unnumbered number text (λ line rest is begins. false≢true (sym off ∙ subst (λ (bs : List ℕ). comes mark bs ≡ true) (sym is) (goes_on mark line (10 ∷ rest) begins)))
+
+pub next_unmarked : (w v : Unread) (mark : List ℕ) → w ≡ v → mark ≡ decimal w.number ++ codes " " → comes mark w.left ≡ false → own v ≡ []
+next_unmarked w v mark e m off = subst (λ (u : Unread). own u ≡ []) e (own_unmarked w.number w.left (subst (λ (m : List ℕ). comes m w.left ≡ false) m off))
 
 -- it is the block's
 pub next_own : (w v : Unread) (mark : List ℕ) (end : ℕ) → w ≡ v → mark ≡ decimal w.number ++ codes " " → parts_of w.left ≡ take end w.left ∷ parts_of (drop (end + 1) w.left) → comes mark (take end w.left) ≡ true → own v ≡ take end v.left ∷ own_lines v.number (parts_of (drop (end + 1) v.left))

@@ -1,6 +1,6 @@
 -- A line with its number comes where the number does, and the line behind it.
 use Rattle.std.proofs.Common.{◌≡◌, ℕ, ◌+◌, ◌-◌, ◌≤◌, List, ◌∷◌, ◌++◌, length, get_or, take, drop, Bool, true, false, not, ◌&&◌, Option, Some, None, ◌==◌, refl, sym, ◌∙◌, ap, subst, arith, append_assoc, length-append}
-use Rattle.std.specs.Prelude.{MatchOption, codes, decimal}
+use Rattle.std.specs.Prelude.{IfOk, MatchOption, Result, Ok, Err, codes, decimal}
 use Rattle.std.proofs.lemmas.List.{drop-drop, drop_at}
 use Rattle.bench_report.specs.Lines.{Line, line_text, numbered}
 use Rattle.trace_reader.proofs.Fronts.{first_byte}
@@ -71,17 +71,25 @@ left_length number line mark left text end is first second =
     let long : length (numbered number line) ≡ length mark + length (line_text line ++ codes "\n") = ap length (whole number line mark is) ∙ length-append mark (line_text line ++ codes "\n") in
     omega (arith, first, second, long)
 
--- what is behind the line as it is printed is what is left
-pub found : {T : Type 0} (now : T → List ℕ) (number : ℕ) (line : Line) (mark left text printed : List ℕ) (end : Option T) → mark ≡ decimal number ++ codes " " → comes mark left ≡ true → text ≡ drop (length mark) left
-    → length text + length mark ≡ length left → printed ≡ line_text line ++ codes "\n"
-    → MatchOption end (comes printed text ≡ false) (λ e. (comes printed text ≡ true) × (now e ≡ drop (length printed) text) × (length (now e) + length printed ≡ length text))
+-- what is behind the line is what is left
+found : {T : Type 0} (now : T → List ℕ) (number : ℕ) (line : Line) (mark left text : List ℕ) (end : Option T) → mark ≡ decimal number ++ codes " " → comes mark left ≡ true → text ≡ drop (length mark) left
+    → length text + length mark ≡ length left
+    → MatchOption end (comes (line_text line ++ codes "\n") text ≡ false)
+    (λ e. (comes (line_text line ++ codes "\n") text ≡ true) × (now e ≡ drop (length (line_text line ++ codes "\n")) text) × (length (now e) + length (line_text line ++ codes "\n") ≡ length text))
     → MatchOption end (comes (numbered number line) left ≡ false)
     (λ e. (comes (numbered number line) left ≡ true) × (now e ≡ drop (length (numbered number line)) left) × (length (now e) + length (numbered number line) ≡ length left))
-found now number line mark left text printed None is here rest long same differs =
-    behind_number number line mark left text false is here rest (subst (λ (bs : List ℕ). comes bs text ≡ false) same differs)
-found now number line mark left text printed (Some end) is here rest long same stands =
-    let all = subst (λ (bs : List ℕ). (comes bs text ≡ true) × (now end ≡ drop (length bs) text) × (length (now end) + length bs ≡ length text)) same stands in
-    (behind_number number line mark left text true is here rest all.0, left_behind number line mark left text (now end) is rest all.1, left_length number line mark left text (now end) is long all.2)
+found now number line mark left text None is here rest long differs = behind_number number line mark left text false is here rest differs
+found now number line mark left text (Some end) is here rest long stands =
+    (behind_number number line mark left text true is here rest stands.0, left_behind number line mark left text (now end) is rest stands.1, left_length number line mark left text (now end) is long stands.2)
+
+pub found_ok : {T E : Type 0} (now : T → List ℕ) (number : ℕ) (line : Line) (mark left text : List ℕ) (end : Result (Option T) E) → mark ≡ decimal number ++ codes " " → comes mark left ≡ true → text ≡ drop (length mark) left
+    → length text + length mark ≡ length left
+    → IfOk end (λ end. MatchOption end (comes (line_text line ++ codes "\n") text ≡ false)
+    (λ e. (comes (line_text line ++ codes "\n") text ≡ true) × (now e ≡ drop (length (line_text line ++ codes "\n")) text) × (length (now e) + length (line_text line ++ codes "\n") ≡ length text)))
+    → IfOk end (λ end. MatchOption end (comes (numbered number line) left ≡ false)
+    (λ e. (comes (numbered number line) left ≡ true) × (now e ≡ drop (length (numbered number line)) left) × (length (now e) + length (numbered number line) ≡ length left)))
+found_ok now number line mark left text (Ok end) is here rest long stands = found now number line mark left text end is here rest long stands
+found_ok now number line mark left text (Err e) is here rest long stands = tt
 
 -- ---- its first letter
 

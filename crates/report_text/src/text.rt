@@ -7,11 +7,15 @@ ghost use Rattle.report_text.specs.Unread as spec;
 
 use crate::ending::Ending;
 use bench_report::{Line, Tally};
+use itoa::Buffer;
 use memchr::memchr;
 use std::alloc::{AllocError, Global};
 use std::marker::Model;
 use std::mem::swap;
 use trace_reader::{MOST_MOVING, Told, read_line};
+
+/// The line of a directive that makes no step, behind its number.
+const DONE: &[u8] = b"ok\n";
 
 /// A report as far as it isn't read yet, with the number of the script line whose block is read.
 #[derive(Drop)]
@@ -111,8 +115,10 @@ impl<'a> Report<'a> {
     pub fn begin(&mut self, number: u32) -> Result<(), AllocError>
         ensures { OnOk result (self.new ≡ spec.begun number self.old) }
     {
+        let mut digits = Buffer::new();
         self.printed.clear();
-        write!(self.printed, "{number} ")?;
+        self.printed.push_str(digits.format(number))?;
+        self.printed.push(' ')?;
         swap(&mut self.mark, &mut self.printed);
         self.number = number;
         Ok(())
@@ -128,10 +134,13 @@ impl<'a> Report<'a> {
         Some(end)
     }
 
-    /// Whether no more line of the block comes.
+    /// Whether no more line of the block comes. Where something else follows, its end isn't looked for.
     pub fn block_is_over(&self) -> bool
         ensures { result ≡ spec.is_empty (spec.own self.now) }
     {
+        let Some(_text) = behind(self.mark.as_bytes(), self.left) else {
+            return true;
+        };
         match self.own_end() {
             Some(_) => false,
             None => true,
@@ -161,6 +170,41 @@ impl<'a> Report<'a> {
         }
     }
 
+    /// What is behind a line at the front of a text, where it stands there as it is printed; none where another does. It isn't
+    /// inlined, so that the line that isn't printed makes no room for what printing needs.
+    #[inline(never)]
+    fn behind_printed(
+        &mut self,
+        line: Line<'_>,
+        text: &'a [u8],
+    ) -> Result<Option<&'a [u8]>, AllocError>
+        ensures left { IfOk result (λ left. MatchOption left (spec.comes (line_text (line_of line.entry) ++ codes "\n") text.now ≡ false)
+            (λ rest. (spec.comes (line_text (line_of line.entry) ++ codes "\n") text.now ≡ true) × (rest.now ≡ drop (length (line_text (line_of line.entry) ++ codes "\n")) text.now)
+            × (length rest.now + length (line_text (line_of line.entry) ++ codes "\n") ≡ length text.now))) }
+        ensures same { self.new ≡ self.old }
+    {
+        self.printed.clear();
+        write!(self.printed, "{line}\n")?;
+        Ok(behind(self.printed.as_bytes(), text))
+    }
+
+    /// The same. The line of a directive that makes no step is the same everywhere, and isn't printed.
+    fn behind_text(
+        &mut self,
+        line: Line<'_>,
+        text: &'a [u8],
+    ) -> Result<Option<&'a [u8]>, AllocError>
+        ensures left { IfOk result (λ left. MatchOption left (spec.comes (line_text (line_of line.entry) ++ codes "\n") text.now ≡ false)
+            (λ rest. (spec.comes (line_text (line_of line.entry) ++ codes "\n") text.now ≡ true) × (rest.now ≡ drop (length (line_text (line_of line.entry) ++ codes "\n")) text.now)
+            × (length rest.now + length (line_text (line_of line.entry) ++ codes "\n") ≡ length text.now))) }
+        ensures same { self.new ≡ self.old }
+    {
+        match line {
+            Line::Done => Ok(behind(DONE, text)),
+            _ => self.behind_printed(line, text),
+        }
+    }
+
     /// What is left behind the next line, where it is this one, with the number of the block; none where it is another.
     fn behind_line(&mut self, line: Line<'_>) -> Result<Option<&'a [u8]>, AllocError>
         ensures left { IfOk result (λ left. MatchOption left (spec.comes (numbered self.old.number (line_of line.entry)) self.old.left ≡ false)
@@ -174,9 +218,7 @@ impl<'a> Report<'a> {
         if is_other(line, text) {
             return Ok(None);
         }
-        self.printed.clear();
-        write!(self.printed, "{line}\n")?;
-        Ok(behind(self.printed.as_bytes(), text))
+        self.behind_text(line, text)
     }
 
     /// Whether the next line is this one, with the number of the block; then it is taken.

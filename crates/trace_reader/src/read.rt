@@ -49,11 +49,14 @@ fn cut_at(mark: u8, text: &[u8]) -> Option<(&[u8], &[u8])>
     }
 }
 
+/// How many words most lines have at most.
+const FEW_WORDS: usize = 8;
+
 /// The words of a line, between its spaces.
 fn words<'a>(alloc: Global, line: &'a [u8]) -> Result<Vec<&'a [u8]>, AllocError>
     ensures { IfOk result (λ v. map (λ w. w.now) v.items ≡ words_of line.now) }
 {
-    let mut words = Vec::new(alloc);
+    let mut words = Vec::with_capacity(alloc, FEW_WORDS)?;
     let mut rest = line;
     while let Some((word, behind)) = cut_at(b' ', rest) {
         words.push(word)?;
@@ -67,7 +70,8 @@ fn words<'a>(alloc: Global, line: &'a [u8]) -> Result<Vec<&'a [u8]>, AllocError>
 fn prints(alloc: Global, number: u32, line: &Read, text: &[u8]) -> Result<bool, AllocError>
     ensures { IfOk result (λ b. b ≡ bytes_eq (spec.line_with number (line_of line.now)) text.now) }
 {
-    let printed = format!(in alloc; "{number} {line}")?;
+    let mut printed = String::with_capacity(alloc, text.len())?;
+    write!(printed, "{number} {line}")?;
     Ok(printed.as_bytes() == text)
 }
 

@@ -17,4 +17,5 @@ returns-in-None g c t p stands =
     let i = c.self.inside in
     let all = due_asked g.P.Whole.agrees g.P.Subject.setting g.P.Part.table g.P.Part.stands g.P.Part.member g.met.P.Subject.member_is t _ p s
     (λ l on. g.met.P.Whole.used_lines i.parts l on) (λ l on. g.met.P.Whole.asked_lines i.parts p.moment.world p.moment.state l s.state on) in
-    due_is g.P.Whole.agrees g.P.Subject.setting g.P.Part.table g.P.Part.stands g.P.Part.member g.met.P.Subject.member_is t _ p s c.due_lines.result (c.due_lines.ensures p.moment.world p.moment.state fits s.world s.state all)
+    due_is g.P.Whole.agrees g.P.Subject.setting g.P.Part.table g.P.Part.stands g.P.Part.member g.met.P.Subject.member_is t _ p s c.due_lines.result (c.due_lines.ensures p.moment.world p.moment.state fits s.world s.state all
+    (λ l on. g.met.P.Whole.due_bounded i.parts p.moment.world p.moment.state l s.state on))

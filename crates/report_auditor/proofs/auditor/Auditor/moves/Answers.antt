@@ -5,8 +5,7 @@ use Rattle.run_model.specs.Machine as machines
 use Rattle.run_model.specs.World.{world_after}
 use Rattle.audit_base.specs.Outside.{IsWorld}
 use Rattle.report_auditor.specs.Deeds.{devices_after}
-use Rattle.report_auditor.specs.Seeing.{told_in}
-use Rattle.audit_whole.specs.Touching.{by_order}
+use Rattle.report_auditor.specs.Seeing.{moved_in}
 use Rattle.report_auditor.proofs.DeedLaws.{comes_allowed, moved}
 use Rattle.report_auditor.proofs.ServedParts.{as_run, machine_is}
 use Rattle.report_auditor.proofs.SoundLaws.{can_happen, can_move, chip_devices, moved_sound, there_is, world_devices}
@@ -54,11 +53,11 @@ returns-clause-moved g c t p stands =
     let world = subst (λ n. IsWorld c.move_by.new.self (world_after m.world n order)) rate (c.in_ok-move_by.ensures.world m.world s.world) in
     let chip = c.hardware.ensures ∙ ap (λ v. happened v.chip order) c.self.view_is in (
       allowed.is,
-      moved g.P.Whole.agrees g.P.Subject.setting g.P.Part.table g.P.Part.stands t g.met.P.Whole.kept_by_order c.args.self.now _ p order stands allowed (c.in_ok-moved.ensures.table ∙ ap (λ v. g.P.Part.table v.parts) c.self.view_is) chip world
+      moved g.P.Whole.agrees g.P.Subject.setting g.P.Part.table g.P.Part.stands t g.met.P.Whole.kept_by_order g.met.P.Whole.ticked c.args.self.now _ p order stands allowed (c.in_ok-moved.ensures.table ∙ ap (λ v. g.P.Part.table v.parts) c.self.view_is) chip world
           (world_devices m.world (own.machine.rate m.state) order ∙ (ap (λ n. devices_after n order) s.devices ∙ (sym (chip_devices c.self.inside.bus order) ∙ sym (ap (λ x. x.devices) c.hardware.ensures))))
           (ap (λ x. x.devices) c.hardware.ensures ∙ (chip_devices c.self.inside.bus order ∙ (ap (λ n. devices_after n order) s.hung ∙ sym c.devices_after-self-inside.ensures)))
           (ap (λ v. v.frames) c.self.view_is) (ap (λ v. v.origins) c.self.view_is) (ap (λ v. v.tally) c.self.view_is)
-          (c.happens.ensures ∙ ap (λ v. told_in (by_order order) v.seen) c.self.view_is),
+          (c.happens.ensures ∙ ap (λ v. moved_in order v.seen) c.self.view_is),
     )
 
 pub returns-clause-sound : goal.returns-clause-sound
