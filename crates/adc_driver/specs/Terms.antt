@@ -33,8 +33,8 @@ pub use Rattle.mcal_base.specs.{declared.register.Reg.TheVariants.{ConverterList
 pub use Rattle.mcal_base.specs.{declared.register.Reg.TheVariants.{EnableClear, EnableSet, PulseCommit, PulseIdle}}
 pub use Rattle.mcal_base.specs.{declared.register.Reg.TheVariants.{TimerHigh, TriggerClear, TriggerFlags, TriggerSet}}
 pub use Rattle.mcal_base.specs.There.{names_there}
-pub use Rattle.det_errors.specs.Rows.{first_error}
-pub use Rattle.chip_converter.specs.{Converters.{Converters}, declared.converter.Converter.{Converter}}
+pub use Rattle.mcal_base.specs.det_errors.Rows.{first_error}
+pub use Rattle.chip_blocks.specs.{converter.Converters.{Converters}, declared.converter.converter.Converter.{Converter}}
 pub use Rattle.chip_model.proofs.HistoryLaws.{level_leaves}
 pub use Rattle.chip_model.specs.Chip.{Chip, chip_after, happened, is_masked, value_of, word_of}
 pub use Rattle.run_model.proofs.OutsideLaws.{stands-move}
@@ -83,12 +83,12 @@ pub use Rattle.service_outline.specs.laws.{ShortServices.{plain_turns}, SimpleMo
 pub use Rattle.service_outline.specs.laws.{StepKinds.{asks_no}, SweepRight.{sweep_right}, Words.{stored_other}}
 pub use Rattle.service_outline.specs.laws.{Words.{stored_same}}
 pub use Rattle.shapes_on_chip.specs.OnChip.{HasWords}
-pub use Rattle.adc_stream.specs.{Copying.{after_by, copy_move, copying, count_of, has_read, move_by, place_sum}}
-pub use Rattle.adc_stream.specs.{Copying.{read_more}, Rounds.{bank_number, bank_word, column_word, kept_word, trio_of}}
-pub use Rattle.adc_stream.specs.{Stream.{limited, one_more}, declared.column.Column.{Column}}
-pub use Rattle.adc_stream.specs.{declared.copying.Copying.{Copying}, declared.reading.Reading.{Reading}}
-pub use Rattle.adc_stream.specs.{declared.rounds.Bank.{Bank}, declared.rounds.Bank.TheVariants.{Zero}}
-pub use Rattle.adc_stream.specs.{declared.rounds.Rounds.{Rounds}}
+pub use Rattle.word_shapes.specs.streams.{Copying.{after_by, copy_move, copying, count_of, has_read, move_by, place_sum}}
+pub use Rattle.word_shapes.specs.streams.{Copying.{read_more}, Rounds.{bank_number, bank_word, column_word, kept_word, trio_of}}
+pub use Rattle.word_shapes.specs.{streams.Stream.{limited, one_more}, declared.streams.column.Column.{Column}}
+pub use Rattle.word_shapes.specs.declared.streams.{copying.Copying.{Copying}, reading.Reading.{Reading}}
+pub use Rattle.word_shapes.specs.declared.streams.{rounds.Bank.{Bank}, rounds.Bank.TheVariants.{Zero}}
+pub use Rattle.word_shapes.specs.declared.streams.{rounds.Rounds.{Rounds}}
 pub use Rattle.adc_machine.specs.{Bounds.{adc_setting, class_of, first_on_input, group_of_input, group_steps}}
 pub use Rattle.adc_machine.specs.{Bounds.{inputs_on, is_used, level_of, most_inputs, most_inputs_in, request_steps}}
 pub use Rattle.adc_machine.specs.{Bounds.{steps_of}, Checks.{answer_refused, Circumstances, error_by, has_notification}}
@@ -209,21 +209,21 @@ pub use Rattle.adc_groups.specs.laws.words.Cases.{cases, some_or_none, whether, 
 pub use Rattle.adc_groups.specs.laws.words.StructureParts.{order_within}
 pub use Rattle.adc_groups.specs.laws.words.WordsChange.{all_stay, AllStay, BankStays, CoreStays, HoldStays, KeptStays}
 pub use Rattle.adc_groups.specs.laws.words.WordsChange.{ranges_apart, stays_agree, trio_place}
-pub use Rattle.adc_turns.specs.laws.services.ClaimEndRight.{quit_right}
-pub use Rattle.adc_turns.specs.laws.services.KeepRight.{keep_looks, leave_seeks}
-pub use Rattle.adc_turns.specs.laws.services.StartRight.{asks_for, convert_looks, starting_right}
-pub use Rattle.adc_turns.specs.laws.services.WriteBatchRight.{claim_at, deed_takes, deed_work, go_at, last_takes}
-pub use Rattle.adc_turns.specs.laws.services.WriteBatchRight.{len_start, list_at, order_takes, order_work, running_at, some_ahead}
-pub use Rattle.adc_turns.specs.laws.services.AbortRight.{abort_right, suspend_looks}
-pub use Rattle.adc_turns.specs.laws.words.BegunWords.{none_aborts, none_starts}
-pub use Rattle.adc_serving.specs.laws.{services.ReadRight.{only_reader}, services.GiveUpRight.{serve_looks}}
-pub use Rattle.adc_serving.specs.laws.{services.ClaimRight.{claim_looks}, services.CopyRight.{got}}
-pub use Rattle.adc_serving.specs.laws.{services.TellRight.{notes_step}, services.TellRight.{serves_step}}
-pub use Rattle.adc_serving.specs.laws.{services.TellRight.{tells_step_any}, services.PinRight.{pin_makes}}
-pub use Rattle.adc_serving.specs.laws.{services.PinRight.{pins_from}, services.ReadRight.{read_step, reads_begin}}
-pub use Rattle.adc_serving.specs.laws.{services.ServeRight.{serve_makes}, services.ClaimRight.{chooses_step}}
-pub use Rattle.adc_serving.specs.laws.{services.ClaimRight.{take_flag, take_looks}, services.TellRight.{column_is}}
-pub use Rattle.adc_serving.specs.laws.services.TellRight.{place_within, places_few}
+pub use Rattle.adc_laws.specs.turns.laws.services.ClaimEndRight.{quit_right}
+pub use Rattle.adc_laws.specs.turns.laws.services.KeepRight.{keep_looks, leave_seeks}
+pub use Rattle.adc_laws.specs.turns.laws.services.StartRight.{asks_for, convert_looks, starting_right}
+pub use Rattle.adc_laws.specs.turns.laws.services.WriteBatchRight.{claim_at, deed_takes, deed_work, go_at, last_takes}
+pub use Rattle.adc_laws.specs.turns.laws.services.WriteBatchRight.{len_start, list_at, order_takes, order_work, running_at, some_ahead}
+pub use Rattle.adc_laws.specs.turns.laws.services.AbortRight.{abort_right, suspend_looks}
+pub use Rattle.adc_laws.specs.turns.laws.words.BegunWords.{none_aborts, none_starts}
+pub use Rattle.adc_laws.specs.serving.laws.{services.ReadRight.{only_reader}, services.GiveUpRight.{serve_looks}}
+pub use Rattle.adc_laws.specs.serving.laws.{services.ClaimRight.{claim_looks}, services.CopyRight.{got}}
+pub use Rattle.adc_laws.specs.serving.laws.{services.TellRight.{notes_step}, services.TellRight.{serves_step}}
+pub use Rattle.adc_laws.specs.serving.laws.{services.TellRight.{tells_step_any}, services.PinRight.{pin_makes}}
+pub use Rattle.adc_laws.specs.serving.laws.{services.PinRight.{pins_from}, services.ReadRight.{read_step, reads_begin}}
+pub use Rattle.adc_laws.specs.serving.laws.{services.ServeRight.{serve_makes}, services.ClaimRight.{chooses_step}}
+pub use Rattle.adc_laws.specs.serving.laws.{services.ClaimRight.{take_flag, take_looks}, services.TellRight.{column_is}}
+pub use Rattle.adc_laws.specs.serving.laws.services.TellRight.{place_within, places_few}
 pub use Rattle.adc_driver.specs.Handlers.{first_on, group_on, handled_body, handled_by}
 pub use Rattle.word_shapes.specs.declared.put.PutPart.{PutPart}
 pub use Rattle.mcal_base.specs.declared.service.Service.{Service}

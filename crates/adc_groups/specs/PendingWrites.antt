@@ -1,9 +1,9 @@
 -- What a window still makes after its event: the rest of a change of an order, of one of banks, and deeds; and then it goes on.
 use Rattle.std.specs.Prelude.{◌≡◌, ◌≢◌, ℕ, ◌+◌, ◌-◌, ◌^◌, ◌<◌, ◌==◌, Bool, true, false, ◌&&◌, List, [], ◌∷◌, Option, Some, None, length}
 use Rattle.std.specs.List.{list_any}
-use Rattle.chip_converter.specs.Converters as chips
-use Rattle.chip_converter.specs.Rounds as rounds
-use Rattle.chip_converter.specs.declared.converter.Converter.{Converter}
+use Rattle.chip_blocks.specs.converter.Converters as chips
+use Rattle.chip_blocks.specs.converter.Rounds as rounds
+use Rattle.chip_blocks.specs.declared.converter.converter.Converter.{Converter}
 use Rattle.chip_model.specs.Chip.{Chip, word_of, chip_after}
 use Rattle.mcal_base.specs.Bits.{has_bit}
 use Rattle.mcal_base.specs.declared.moves.Move.{Move}

@@ -23,13 +23,13 @@ use Rattle.word_shapes.specs.declared.take.Take.{Take}
 use Rattle.word_shapes.specs.declared.take.Take.TheVariants as takes
 use Rattle.word_shapes.specs.declared.choosing.Next.{Next}
 use Rattle.word_shapes.specs.declared.put.PutPart.TheVariants as puts
-use Rattle.adc_stream.specs.Copying.{count_of}
-use Rattle.adc_stream.specs.Rounds.{bank_number, bank_of, trio_of}
-use Rattle.adc_stream.specs.Stream.{one_more}
-use Rattle.adc_stream.specs.declared.copying.Copied as streams
-use Rattle.adc_stream.specs.declared.copying.Copied.TheVariants as copied
-use Rattle.adc_stream.specs.declared.copying.Copying.{Copying}
-use Rattle.adc_stream.specs.declared.rounds.Bank.TheVariants.{Zero}
+use Rattle.word_shapes.specs.streams.Copying.{count_of}
+use Rattle.word_shapes.specs.streams.Rounds.{bank_number, bank_of, trio_of}
+use Rattle.word_shapes.specs.streams.Stream.{one_more}
+use Rattle.word_shapes.specs.declared.streams.copying.Copied as streams
+use Rattle.word_shapes.specs.declared.streams.copying.Copied.TheVariants as copied
+use Rattle.word_shapes.specs.declared.streams.copying.Copying.{Copying}
+use Rattle.word_shapes.specs.declared.streams.rounds.Bank.TheVariants.{Zero}
 use Rattle.adc_groups.specs.Refinement.{Reservation, Starts, Yields, Fills, Full, Keeps, Whole, Claims, Copies, Reads, Reservations, Footprint, bare, some_hold, claims_on, phase_of, kept_in, take_of, first_held, IsOrder}
 use Rattle.adc_machine.specs.Groups.{Status, Idle, Busy, Completed, StreamCompleted, Round, inputs_of, samples_of, is_finished, is_full, status_read, ends_with_stream, place_in}
 use Rattle.adc_machine.specs.Machine.{is_done, is_under_way, is_start_busy, is_busy, takes_one, is_unit_line}

@@ -2,10 +2,10 @@
 use Rattle.std.specs.Prelude.{◌≡◌, ◌≢◌, ℕ, ◌+◌, ◌*◌, ◌/◌, ◌%◌, ◌^◌, ◌<◌, ◌≤◌, ◌==◌, nat_lt, nat_le, if◌then◌else◌, Bool, true, false, ◌&&◌, ◌||◌, not, min, List, [], ◌∷◌, Option, Some, None, is_some, length, map, take, slice_get, slice_index}
 use Rattle.std.specs.List.{list_any, AllByRecursion}
 use Rattle.std.specs.Option.{option_map}
-use Rattle.chip_converter.specs.Converters as chips
-use Rattle.chip_converter.specs.Converters.{Converters}
-use Rattle.chip_converter.specs.Rounds as rounds
-use Rattle.chip_converter.specs.declared.converter.Converter.{Converter}
+use Rattle.chip_blocks.specs.converter.Converters as chips
+use Rattle.chip_blocks.specs.converter.Converters.{Converters}
+use Rattle.chip_blocks.specs.converter.Rounds as rounds
+use Rattle.chip_blocks.specs.declared.converter.converter.Converter.{Converter}
 use Rattle.chip_model.specs.Chip.{Chip, word_of}
 use Rattle.mcal_base.specs.Bits.{has_bit, bit_of}
 use Rattle.mcal_base.specs.declared.answer_name.AnswerName.TheVariants.{EOk}
@@ -22,9 +22,9 @@ use Rattle.word_shapes.specs.Banks.{Banks, Putting, Taking}
 use Rattle.word_shapes.specs.Order.{Entry, is_there}
 use Rattle.word_shapes.specs.PriorityQueue.{Holds as HoldsOrder, own_of}
 use Rattle.word_shapes.specs.TripleBuffer.{Stands, IsBank}
-use Rattle.adc_stream.specs.Rounds.{trio_of, bank_number, bank_word, kept_word}
-use Rattle.adc_stream.specs.declared.column.Column.{Column}
-use Rattle.adc_stream.specs.declared.rounds.Bank.{Bank}
+use Rattle.word_shapes.specs.streams.Rounds.{trio_of, bank_number, bank_word, kept_word}
+use Rattle.word_shapes.specs.declared.streams.column.Column.{Column}
+use Rattle.word_shapes.specs.declared.streams.rounds.Bank.{Bank}
 use Rattle.adc_machine.specs.Bounds.{adc_setting}
 use Rattle.adc_machine.specs.Groups.{Status, Idle, Busy, Completed, StreamCompleted, GroupState, Request, Round, inputs_of, samples_of, inputs_left, is_linear_stream, ends_with_stream, is_finished, is_full, is_same, newest, untouched, trigger_input, suspends, values_of}
 use Rattle.adc_machine.specs.Machine.{is_unit_line, is_trigger_line, place_value, moved}

@@ -14,7 +14,7 @@ pub use Rattle.mcal_base.specs.{declared.register.Reg.TheVariants.{ConverterGo, 
 pub use Rattle.mcal_base.specs.{declared.register.Reg.TheVariants.{EnableClear, EnableSet, TriggerClear}}
 pub use Rattle.mcal_base.specs.{declared.register.Reg.TheVariants.{TriggerFlags, TriggerSet}}
 pub use Rattle.mcal_base.specs.{declared.service.Service.{Service}}
-pub use Rattle.det_errors.specs.{Rows.{first_error}}
+pub use Rattle.mcal_base.specs.det_errors.{Rows.{first_error}}
 pub use Rattle.run_model.specs.{Machine.{named, named_with, no_answer, numbers}}
 pub use Rattle.word_shapes.specs.{PriorityQueue.{add_gave, add_left, add_move, add_start, again_gave, again_left}}
 pub use Rattle.word_shapes.specs.{PriorityQueue.{again_move, again_start, drop_gave, drop_left, drop_move}}
@@ -29,11 +29,11 @@ pub use Rattle.service_outline.specs.{declared.body.Or.{Or}, declared.body.Or.Th
 pub use Rattle.service_outline.specs.{declared.done.BodyTaken.{BodyTaken}, declared.done.Done.{Done}}
 pub use Rattle.service_outline.specs.{declared.done.Epilogue.{Epilogue}, declared.done.Epilogue.TheVariants.{Nothing}}
 pub use Rattle.service_outline.specs.{declared.sweep.Sweep.{Sweep}}
-pub use Rattle.adc_stream.specs.{Copying.{copy_after, copy_move, copying, has_read, read_more, read_move}}
-pub use Rattle.adc_stream.specs.{Rounds.{bank_number, bank_of, trio_of}, Stream.{following, limited, one_more}}
-pub use Rattle.adc_stream.specs.{Stream.{preceding}, declared.column.Column.{Column}}
-pub use Rattle.adc_stream.specs.{declared.copying.Copying.{Copying}, declared.reading.Reading.{Reading}}
-pub use Rattle.adc_stream.specs.{declared.rounds.Bank.{Bank}}
+pub use Rattle.word_shapes.specs.streams.{Copying.{copy_after, copy_move, copying, has_read, read_more, read_move}}
+pub use Rattle.word_shapes.specs.streams.{Rounds.{bank_number, bank_of, trio_of}, Stream.{following, limited, one_more}}
+pub use Rattle.word_shapes.specs.{streams.Stream.{preceding}, declared.streams.column.Column.{Column}}
+pub use Rattle.word_shapes.specs.declared.streams.{copying.Copying.{Copying}, reading.Reading.{Reading}}
+pub use Rattle.word_shapes.specs.declared.streams.{rounds.Bank.{Bank}}
 pub use Rattle.adc_machine.specs.{Checks.{answer_refused, Circumstances, facts_by, has_notification, is_triggered}}
 pub use Rattle.adc_machine.specs.{Checks.{service_of, zero_null}, Configured.{four_from, next_of, ranks_of, unit_of}}
 pub use Rattle.adc_machine.specs.{Groups.{inputs_of, is_continuous, is_full, samples_of, suspends, trigger_input}}

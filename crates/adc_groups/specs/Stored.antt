@@ -1,7 +1,7 @@
 -- The driver's words by number, and the numbers that they have for phases, groups and bits.
 use Rattle.std.specs.Prelude.{ℕ, ◌+◌, ◌-◌, ◌*◌, ◌%◌, ◌^◌, ◌==◌, ◌&&◌, nat_lt, nat_le, Bool, true, false, if◌then◌else◌, Option, Some, None, length}
 use Rattle.word_shapes.specs.declared.priority_queue.PriorityQueue.{PriorityQueue}
-use Rattle.adc_stream.specs.declared.rounds.Rounds.{Rounds}
+use Rattle.word_shapes.specs.declared.streams.rounds.Rounds.{Rounds}
 use Rattle.adc_machine.specs.Groups.{inputs_of}
 use Rattle.adc_machine.specs.Table.{group_of}
 use Rattle.adc_machine.specs.declared.table.AdcTable.{AdcTable}

@@ -32,13 +32,13 @@ pub use Rattle.mcal_base.specs.{declared.register.Reg.TheVariants.{PinFlip, Rese
 pub use Rattle.mcal_base.specs.{declared.register.Reg.TheVariants.{TriggerClear, TriggerFlags, TriggerSet}}
 pub use Rattle.mcal_base.specs.There.{names_there}
 pub use Rattle.mcal_base.specs.laws.There.{move_there}
-pub use Rattle.det_errors.specs.Rows.{first_error}
-pub use Rattle.chip_converter.proofs.HistoryLaws.{ended-later, ended-open, has_ended-not_yet, has_ended-open}
-pub use Rattle.chip_converter.proofs.HistoryLaws.{result-settled, unit_at-analog}
-pub use Rattle.chip_converter.proofs.StateLaws.{finished-later, finished_not_running}
-pub use Rattle.chip_converter.specs.{Accesses.{HasUnit}, Converters.{Converters, unit_at}}
-pub use Rattle.chip_converter.specs.{declared.converter.Converter.{Converter}, declared.converter.Levels.{Levels}}
-unfoldable pub use Rattle.chip_converter.specs.Converters.{unused}
+pub use Rattle.mcal_base.specs.det_errors.Rows.{first_error}
+pub use Rattle.chip_blocks.proofs.of_converter.HistoryLaws.{ended-later, ended-open, has_ended-not_yet, has_ended-open}
+pub use Rattle.chip_blocks.proofs.of_converter.HistoryLaws.{result-settled, unit_at-analog}
+pub use Rattle.chip_blocks.proofs.of_converter.StateLaws.{finished-later, finished_not_running}
+pub use Rattle.chip_blocks.specs.converter.{Accesses.{HasUnit}, Converters.{Converters, unit_at}}
+pub use Rattle.chip_blocks.specs.declared.converter.{converter.Converter.{Converter}, converter.Levels.{Levels}}
+unfoldable pub use Rattle.chip_blocks.specs.converter.Converters.{unused}
 pub use Rattle.chip_model.proofs.{HistoryLaws.{edged, level_leaves, rate-left, words-read, words-write}}
 pub use Rattle.chip_model.proofs.{PinLaws.{line-converter, line-trigger}, WordLaws.{slice_index-blank}}
 pub use Rattle.chip_model.specs.Chip.{after_read, Chip, chip_after, expiry_of, happened, is_masked, is_other}
@@ -81,9 +81,9 @@ pub use Rattle.service_outline.specs.laws.{Words.{word_later}}
 pub use Rattle.shapes_on_chip.proofs.PartLaws.{settles_list, settles_part}
 pub use Rattle.shapes_on_chip.specs.OnChip.{HasWords}
 pub use Rattle.shapes_on_chip.specs.Parts.{after_list, AllMay, AreListed, CommitsAfter, DiffersIn, IsPart, PartTo}
-pub use Rattle.adc_stream.specs.{Rounds.{bank_number, bank_word, kept_word, trio_of}, Stream.{preceding}}
-pub use Rattle.adc_stream.specs.{declared.column.Column.{Column}, declared.rounds.Bank.{Bank}}
-pub use Rattle.adc_stream.specs.{declared.rounds.Bank.TheVariants.{One, Two, Zero}, declared.rounds.Rounds.{Rounds}}
+pub use Rattle.word_shapes.specs.streams.{Rounds.{bank_number, bank_word, kept_word, trio_of}, Stream.{preceding}}
+pub use Rattle.word_shapes.specs.declared.streams.{column.Column.{Column}, rounds.Bank.{Bank}}
+pub use Rattle.word_shapes.specs.declared.streams.{rounds.Bank.TheVariants.{One, Two, Zero}, rounds.Rounds.{Rounds}}
 pub use Rattle.adc_machine.proofs.{Next.{listed, next_is, none_is}, Numbers.{allowed, came}, Parts.{either}}
 pub use Rattle.adc_machine.proofs.{Parts.{group_other, group_same, of_group}, Rounds.{whole_values}, Stopped.{idle}}
 pub use Rattle.adc_machine.proofs.{Stopped.{off, quiet, unmarked_group, unmarked_round}}

@@ -11,7 +11,7 @@ use crate::service::{ask, looking, request};
 use crate::window::Window;
 use crate::words::STATE;
 use adc_machine::{AdcTable, Call, GroupCall};
-use det_errors::{Facts, first_error};
+use mcal_base::det_errors::{Facts, first_error};
 use mcal_base::{Answer, AnswerName, ErrorName};
 use service_outline::{
     Done, Epilogue, Looked, Or, Reply, Sweep, SweepStage, named, nothing, zero_null,

@@ -8,9 +8,9 @@ use crate::service::{self, read, request, serve, turn};
 use crate::window::Window;
 use crate::words::{Phase, Word, rounds_of, word_number};
 use adc_machine::AdcTable;
-use adc_stream::Bank;
 use mcal_base::{Answer, Event, Move, Reg, Routine, Short};
 use service_outline::{Body, BodyTaken, Epilogue, ends, goes, nothing};
+use word_shapes::streams::Bank;
 use word_shapes::{Front, Put, Take, TakePart};
 
 /// What a window has seen of its words.

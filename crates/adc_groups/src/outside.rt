@@ -7,8 +7,8 @@ use crate::service::read::reading;
 use crate::window::Window;
 use crate::words::{STATE, rounds_of};
 use adc_machine::AdcTable;
-use adc_stream::{Bank, Copying, limited};
 use mcal_base::{Move, Notice, NoticeKind, Reg};
+use word_shapes::streams::{Bank, Copying, limited};
 
 /// A round that is taken from a unit.
 #[derive(Clone, Copy)]
@@ -113,7 +113,7 @@ fn keeps(table: &AdcTable, round: Suspended, ended: u32) -> Outside
     let rounds = rounds_of(table, round.group);
     let inputs = table.input_count(round.group);
     let count = limited(ended, inputs - limited(u32::from(round.kept), inputs));
-    let what = adc_stream::Copied::Ended(rounds, round.unit, count, round.kept);
+    let what = word_shapes::streams::Copied::Ended(rounds, round.unit, count, round.kept);
     let all = Suspended {
         kept: limited(u32::from(round.kept) + u32::from(count), 32),
         ..round

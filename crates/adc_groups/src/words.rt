@@ -3,8 +3,8 @@ ghost use Rattle.mcal_base.specs.Bits.{has_bit, bit_of};
 ghost use Rattle.adc_groups.specs.Stored as spec;
 
 use adc_machine::AdcTable;
-use adc_stream::{FIRST, Rounds};
 use word_shapes::PriorityQueue;
+use word_shapes::streams::{FIRST, Rounds};
 
 /// The module's first word, which tells whether it is initialised.
 pub const STATE: u32 = FIRST;

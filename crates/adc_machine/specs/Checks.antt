@@ -6,7 +6,7 @@ use Rattle.mcal_base.specs.declared.answer_name.AnswerName.TheVariants.{ENotOk, 
 use Rattle.mcal_base.specs.declared.error_name.ErrorName.{ErrorName}
 use Rattle.mcal_base.specs.declared.service.Service.{Service}
 use Rattle.mcal_base.specs.declared.service.Service.TheVariants as services
-use Rattle.det_errors.specs.Rows.{first_error}
+use Rattle.mcal_base.specs.det_errors.Rows.{first_error}
 use Rattle.run_model.specs.Machine.{no_answer, named}
 use Rattle.adc_machine.specs.declared.call.Call as calls
 use Rattle.adc_machine.specs.declared.call.Call.TheVariants.{Init, DeInit, Group}

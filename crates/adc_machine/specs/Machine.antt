@@ -1,7 +1,7 @@
 -- The converter groups as the standard has them: what each call and each serving does.
 use Rattle.std.specs.Prelude.{ℕ, ◌+◌, ◌-◌, ◌==◌, nat_lt, Bool, true, false, ◌&&◌, ◌||◌, not, cond, List, [], ◌∷◌, ◌++◌, length, min, Option, Some, None, is_some}
 use Rattle.std.specs.List.{list_any}
-use Rattle.det_errors.specs.Reports.{Reporting}
+use Rattle.mcal_base.specs.det_errors.Reports.{Reporting}
 use Rattle.mcal_base.specs.declared.answer_name.AnswerName.TheVariants.{EOk, ENotOk}
 use Rattle.mcal_base.specs.declared.directive.Order.{Order}
 use Rattle.mcal_base.specs.declared.directive.Order.TheVariants as orders

@@ -1,5 +1,5 @@
 ghost use Rattle.std.specs.Prelude.{◌≡◌, ◌<◌, ◌+◌, ◌^◌, ℕ, IfOk, option_copied};
-ghost use Rattle.det_errors.specs.Reports as errors;
+ghost use Rattle.mcal_base.specs.det_errors.Reports as errors;
 ghost use Rattle.run_model.specs.Machine.{Acts, Serves, Starts, Aborts, Moves, Restarts, tells_nothing};
 ghost use Rattle.run_model.specs.World.{World};
 ghost use Rattle.audit_base.specs.Comes.{Comes};

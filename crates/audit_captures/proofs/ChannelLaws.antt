@@ -7,12 +7,12 @@ use Rattle.std.proofs.lemmas.Bool.Decides.{nat_tests}
 use Rattle.std.proofs.lemmas.List.Elements.{filter_map-append}
 use Rattle.mcal_base.specs.declared.config.icu.IcuSignalMeasurementProperty.{IcuSignalMeasurementProperty}
 use Rattle.mcal_base.specs.declared.config.icu.IcuSignalMeasurementProperty.TheVariants.{HighTime, LowTime, PeriodTime, DutyCycle}
-use Rattle.icu_machine.specs.Edges as edges
-use Rattle.icu_machine.specs.Edges.{begins_rising, ends_rising, measures, newest, value_of, values_by}
-use Rattle.icu_machine.specs.Machine as machine
-use Rattle.icu_machine.specs.Table.{channel_of}
-use Rattle.icu_machine.specs.declared.table.Channel.{Channel}
-use Rattle.icu_machine.specs.declared.table.IcuTable.{IcuTable}
+use Rattle.module_machines.specs.icu.Edges as edges
+use Rattle.module_machines.specs.icu.Edges.{begins_rising, ends_rising, measures, newest, value_of, values_by}
+use Rattle.module_machines.specs.icu.Machine as machine
+use Rattle.module_machines.specs.icu.Table.{channel_of}
+use Rattle.module_machines.specs.declared.icu.table.Channel.{Channel}
+use Rattle.module_machines.specs.declared.icu.table.IcuTable.{IcuTable}
 use Rattle.audit_captures.specs.Measures.{waiting, ended, seen_of, Nothing_seen, told_with}
 use Rattle.audit_captures.specs.Stands.{seen_as, value_as, seen_by, seen_after, told_after, capture_of, Follows, FollowsIf, SameMeasures, NoMeasures, LeavesMeasures, left_served, ChannelStands, ServedWithin}
 use Rattle.audit_captures.specs.declared.capture.Capture as kept

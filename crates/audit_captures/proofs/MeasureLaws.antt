@@ -6,7 +6,7 @@ use Rattle.std.proofs.lemmas.Bool.Decides.{nat_tests}
 use Rattle.std.proofs.lemmas.List.{append-nil}
 use Rattle.std.specs.Option.{option_map, option_or}
 use Rattle.mcal_base.specs.facts.Truths.{and_second}
-use Rattle.icu_machine.specs.Edges.{Edge, is_same, time_between, last_of, value_of, up_to, beginning_at, measures, newest}
+use Rattle.module_machines.specs.icu.Edges.{Edge, is_same, time_between, last_of, value_of, up_to, beginning_at, measures, newest}
 use Rattle.mcal_base.specs.declared.config.icu.IcuSignalMeasurementProperty.{IcuSignalMeasurementProperty as Property}
 use Rattle.mcal_base.specs.declared.config.icu.IcuSignalMeasurementProperty.TheVariants.{HighTime, LowTime, PeriodTime, DutyCycle}
 use Rattle.audit_captures.specs.Measures.{Begun, fresh, goes_on, ends, all_go_on, waiting, longer, whole, ended, seen_of, seen_behind, followed, seen_with, Nothing_seen, Start_seen, time_told, duty_told, values_told, told_with}

@@ -5,13 +5,13 @@ use Rattle.std.proofs.lemmas.List.{get_or_past, get_or-set_same, get_or-set_othe
 use Rattle.std.proofs.lemmas.Grind.{get_or-set_at, common_steps}
 use Rattle.std.proofs.lemmas.Bool.Decides.{nat_tests}
 use Rattle.mcal_base.specs.facts.Numbers.{lt_is, lt_isnt, same_or_other}
-use Rattle.icu_machine.specs.Edges as edges
-use Rattle.icu_machine.specs.Machine as machine
-use Rattle.icu_machine.specs.Machine.{IcuState, capture_at, with_capture, by_channel, stamp_in}
-use Rattle.icu_machine.specs.Table.{channel_of}
-use Rattle.icu_machine.specs.laws.Channels.{with_same, with_other, by_eight, by_channel_at}
+use Rattle.module_machines.specs.icu.Edges as edges
+use Rattle.module_machines.specs.icu.Machine as machine
+use Rattle.module_machines.specs.icu.Machine.{IcuState, capture_at, with_capture, by_channel, stamp_in}
+use Rattle.module_machines.specs.icu.Table.{channel_of}
+use Rattle.module_machines.specs.icu.laws.Channels.{with_same, with_other, by_eight, by_channel_at}
 use Rattle.audit_captures.specs.Stands.{CapturesKept, ChannelStands, blank, more_stored, stored_at, stored_if}
-use Rattle.icu_machine.specs.declared.table.Channel.{Channel}
+use Rattle.module_machines.specs.declared.icu.table.Channel.{Channel}
 use Rattle.audit_captures.specs.declared.capture.Capture as kept
 use Rattle.audit_captures.proofs.ChannelLaws.{no-follows}
 

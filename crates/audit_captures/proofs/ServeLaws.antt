@@ -1,11 +1,11 @@
 -- What a serving is: the oldest edge of the line's channel, where one waits.
 use Rattle.std.proofs.Common.{◌≡◌, ℕ, nat_lt, Bool, true, false, ◌&&◌, Option, Some, None, List, [], ◌∷◌, ◌∙◌, refl, sym, ap}
 use Rattle.std.specs.Prelude.{if◌then◌else◌}
-use Rattle.icu_machine.specs.Edges.{Edge}
-use Rattle.icu_machine.specs.Machine.{IcuState, capture_at, served_edge, waits}
-use Rattle.icu_machine.specs.Table.{channel_of, channel_of_line, channel_number}
-use Rattle.icu_machine.specs.declared.table.Channel.{Channel}
-use Rattle.icu_machine.specs.declared.table.IcuTable.{IcuTable}
+use Rattle.module_machines.specs.icu.Edges.{Edge}
+use Rattle.module_machines.specs.icu.Machine.{IcuState, capture_at, served_edge, waits}
+use Rattle.module_machines.specs.icu.Table.{channel_of, channel_of_line, channel_number}
+use Rattle.module_machines.specs.declared.icu.table.Channel.{Channel}
+use Rattle.module_machines.specs.declared.icu.table.IcuTable.{IcuTable}
 use Rattle.audit_captures.specs.Stands.{served_if, served_on, split}
 
 -- ---- a list and its parts

@@ -1,14 +1,14 @@
 -- How what the program keeps stands for the machine's state, which keeps all edges that were served and all times that were stored.
 use Rattle.std.specs.Prelude.{◌≡◌, ℕ, ◌+◌, ◌*◌, ◌<◌, ◌≤◌, Bool, true, false, List, [], ◌∷◌, ◌++◌, Option, Some, None, length, option_map, nat_lt, if◌then◌else◌, slice_index_or, slice_set}
-use Rattle.icu_machine.specs.Edges as edges
-use Rattle.icu_machine.specs.Edges.{begins_rising, ends_rising, values, newest}
-use Rattle.icu_machine.specs.Machine as machine
-use Rattle.icu_machine.specs.Machine.{IcuState, capture_at, stamp_in}
-use Rattle.icu_machine.specs.Table.{channel_of}
-use Rattle.icu_machine.specs.declared.call.ChannelCall.{ChannelCall}
-use Rattle.icu_machine.specs.declared.call.ChannelCall.TheVariants.{StartTimestamp, StartSignalMeasurement}
-use Rattle.icu_machine.specs.declared.table.Channel.{Channel}
-use Rattle.icu_machine.specs.declared.table.IcuTable.{IcuTable}
+use Rattle.module_machines.specs.icu.Edges as edges
+use Rattle.module_machines.specs.icu.Edges.{begins_rising, ends_rising, values, newest}
+use Rattle.module_machines.specs.icu.Machine as machine
+use Rattle.module_machines.specs.icu.Machine.{IcuState, capture_at, stamp_in}
+use Rattle.module_machines.specs.icu.Table.{channel_of}
+use Rattle.module_machines.specs.declared.icu.call.ChannelCall.{ChannelCall}
+use Rattle.module_machines.specs.declared.icu.call.ChannelCall.TheVariants.{StartTimestamp, StartSignalMeasurement}
+use Rattle.module_machines.specs.declared.icu.table.Channel.{Channel}
+use Rattle.module_machines.specs.declared.icu.table.IcuTable.{IcuTable}
 use Rattle.mcal_base.specs.declared.config.icu.IcuMeasurementMode.{IcuMeasurementMode}
 use Rattle.mcal_base.specs.declared.config.icu.IcuMeasurementMode.TheVariants.{Timestamp, SignalMeasurement}
 use Rattle.mcal_base.specs.declared.config.icu.IcuSignalMeasurementProperty.{IcuSignalMeasurementProperty}

@@ -1,16 +1,16 @@
 ghost use Rattle.std.specs.Prelude.{◌≡◌, ◌<◌, ◌≤◌, ◌+◌, ◌%◌, ◌^◌, ◌++◌, [], ◌∷◌, true, false, List, Some, option_map, option_to_list, length, if◌then◌else◌};
 ghost use Rattle.std.specs.Option.{option_or};
-ghost use Rattle.icu_machine.specs.Edges as edges;
-ghost use Rattle.icu_machine.specs.Machine as spec;
-ghost use Rattle.icu_machine.specs.Machine.{Stamp};
-ghost use Rattle.icu_machine.specs.Table as table;
+ghost use Rattle.module_machines.specs.icu.Edges as edges;
+ghost use Rattle.module_machines.specs.icu.Machine as spec;
+ghost use Rattle.module_machines.specs.icu.Machine.{Stamp};
+ghost use Rattle.module_machines.specs.icu.Table as table;
 ghost use Rattle.audit_captures.specs.Stands.{capture_of, edge_of, start_of, seen_as, value_as, seen_after, told_after, restarts, left_served, keeps_edge, more_served, more_stored, FollowsIf, SameMeasures, NoMeasures, LeavesMeasures};
-ghost use Rattle.icu_machine.specs.Table.{is_timestamp};
+ghost use Rattle.module_machines.specs.icu.Table.{is_timestamp};
 
 use crate::measure::{OpenMeasure, Value, begins_rising, ends_rising};
 use crate::queue::{Edge, Queue};
-use icu_machine::{Channel, ChannelCall};
 use mcal_base::{IcuMeasurementMode, IcuStartEdge, IcuTimestampMeasurementProperty, NoticeKind};
+use module_machines::icu::{Channel, ChannelCall};
 
 /// A start of timestamps.
 #[derive(Clone, Copy)]

@@ -1,14 +1,14 @@
 ghost use Rattle.std.specs.Prelude.{◌≡◌, ◌<◌, ◌≤◌, ◌+◌, ◌^◌, ◌&&◌, ℕ, Some, None, is_some, length, not, option_to_list, slice_index_or};
-ghost use Rattle.det_errors.specs.Reports as errors;
+ghost use Rattle.mcal_base.specs.det_errors.Reports as errors;
 ghost use Rattle.mcal_base.specs.declared.directive.Order.TheVariants.{Level};
 ghost use Rattle.run_model.specs.Machine.{Acts, Serves, Moves, outcome, tells_nothing};
 ghost use Rattle.run_model.specs.World.{World};
-ghost use Rattle.icu_machine.specs.Checks as checks;
-ghost use Rattle.icu_machine.specs.Edges as edges;
-ghost use Rattle.icu_machine.specs.Machine as spec;
-ghost use Rattle.icu_machine.specs.Machine.{IcuState, capture_at, stamp_in};
-ghost use Rattle.icu_machine.specs.Shown.{size_of};
-ghost use Rattle.icu_machine.specs.Table.{channel_of, channel_of_line, is_timestamp};
+ghost use Rattle.module_machines.specs.icu.Checks as checks;
+ghost use Rattle.module_machines.specs.icu.Edges as edges;
+ghost use Rattle.module_machines.specs.icu.Machine as spec;
+ghost use Rattle.module_machines.specs.icu.Machine.{IcuState, capture_at, stamp_in};
+ghost use Rattle.module_machines.specs.icu.Shown.{size_of};
+ghost use Rattle.module_machines.specs.icu.Table.{channel_of, channel_of_line, is_timestamp};
 ghost use Rattle.audit_base.specs.Comes.{Comes, ComesIf, Gives};
 ghost use Rattle.audit_base.specs.Tells.{listed, gives};
 ghost use Rattle.audit_captures.specs.Stands.{StandsFor, ChannelStands, ServedWithin, blank, edge_of, served_if, served_on, with_kept, stored_if};
@@ -17,9 +17,9 @@ use crate::capture::{BLANK, Capture};
 use crate::checks::{answer, facts, refused};
 use crate::queue::Edge;
 use audit_base::{Notices, Told};
-use det_errors::first_error;
-use icu_machine::{Call, Channel, ChannelCall, IcuTable};
+use mcal_base::det_errors::first_error;
 use mcal_base::{ErrorName, IcuMeasurementMode, Notice, NoticeKind};
+use module_machines::icu::{Call, Channel, ChannelCall, IcuTable};
 use std::marker::Model;
 
 /// The machine of the capture channels under a configuration. Times are in peripheral ticks.
@@ -392,7 +392,7 @@ impl Captures {
     pub fn report(&self, error: ErrorName) -> Option<bool>
         ensures { result ≡ errors.reported (checks.reporting self.now.driver) error }
     {
-        det_errors::reported(self.driver.detect, self.driver.classification, error)
+        mcal_base::det_errors::reported(self.driver.detect, self.driver.classification, error)
     }
 
     /// The chip is reset.

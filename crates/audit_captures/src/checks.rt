@@ -1,18 +1,18 @@
 ghost use Rattle.std.specs.Prelude.{◌≡◌, [], ◌∷◌, false, List, Some, option_map};
 ghost use Rattle.run_model.specs.Machine as done;
-ghost use Rattle.icu_machine.specs.Checks as checks;
-ghost use Rattle.icu_machine.specs.Edges as edges;
-ghost use Rattle.icu_machine.specs.Machine as spec;
-ghost use Rattle.icu_machine.specs.Machine.{Stamp};
-ghost use Rattle.icu_machine.specs.Table as table;
+ghost use Rattle.module_machines.specs.icu.Checks as checks;
+ghost use Rattle.module_machines.specs.icu.Edges as edges;
+ghost use Rattle.module_machines.specs.icu.Machine as spec;
+ghost use Rattle.module_machines.specs.icu.Machine.{Stamp};
+ghost use Rattle.module_machines.specs.icu.Table as table;
 ghost use Rattle.audit_captures.specs.Stands.{capture_of, value_as, FollowsIf};
 
 use crate::capture::Capture;
 use crate::measure::Value;
 use audit_base::{named, nothing, number, numbers};
-use det_errors::Facts;
-use icu_machine::{Call, Channel, ChannelCall, IcuTable};
+use mcal_base::det_errors::Facts;
 use mcal_base::{Answer, AnswerName, IcuMeasurementMode, IcuSignalMeasurementProperty};
+use module_machines::icu::{Call, Channel, ChannelCall, IcuTable};
 
 /// Whether the errors of a call hold, in their order: the module is uninitialised, or the channel is stamping or isn't.
 pub(crate) fn facts(driver: &IcuTable, call: Call, off: bool, stamping: bool) -> Facts

@@ -1,10 +1,10 @@
 //! What frames of the capture module may name.
 
 ghost use Rattle.std.specs.Prelude.{◌≡◌, ◌≤◌, ◌||◌};
-ghost use Rattle.icu_machine.specs.Bounds as spec;
+ghost use Rattle.module_machines.specs.icu.Bounds as spec;
 
-use icu_machine::IcuTable;
 use mcal_base::{Move, Reg, STAMPS};
+use module_machines::icu::IcuTable;
 
 /// The first of the module's own words.
 const OWN: u32 = 32_768;

@@ -1,12 +1,12 @@
 ghost use Rattle.std.specs.Prelude.{◌≡◌, Some, option_map};
-ghost use Rattle.icu_machine.specs.Edges as edges;
-ghost use Rattle.icu_machine.specs.Table as table;
+ghost use Rattle.module_machines.specs.icu.Edges as edges;
+ghost use Rattle.module_machines.specs.icu.Table as table;
 ghost use Rattle.audit_captures.specs.Measures as spec;
 ghost use Rattle.audit_captures.specs.Stands.{edge_of, seen_as, value_as};
 
 use crate::queue::Edge;
-use icu_machine::Channel;
 use mcal_base::{IcuSignalMeasurementProperty, IcuStartEdge};
+use module_machines::icu::Channel;
 
 /// What was seen of the newest measure that waits for its end. Times are in peripheral ticks, modulo 2^32.
 #[derive(Clone, Copy)]

@@ -1,7 +1,7 @@
 use crate::captures::Captures;
 use audit_base::{Done, Outside, Part, Polled};
-use icu_machine::{Call, IcuTable};
 use mcal_base::{ErrorName, Order, Reason, Service, Unit};
+use module_machines::icu::{Call, IcuTable};
 use std::alloc::AllocError;
 use std::marker::Model;
 
@@ -9,7 +9,7 @@ use std::marker::Model;
 pub struct CapturesState;
 
 impl Model for CapturesState {
-    ghost use Rattle.icu_machine.specs.Machine.{IcuState, first_state};
+    ghost use Rattle.module_machines.specs.icu.Machine.{IcuState, first_state};
 
     ghost Value = { IcuState };
 

@@ -1,5 +1,5 @@
 ghost use Rattle.std.specs.Prelude.{◌≡◌, ◌++◌, [], ◌∷◌, Some, None, length, nat_lt, option_map, if◌then◌else◌};
-ghost use Rattle.icu_machine.specs.Machine as spec;
+ghost use Rattle.module_machines.specs.icu.Machine as spec;
 ghost use Rattle.audit_captures.specs.Stands.{edge_of, edges_of, split_of, split};
 
 /// An edge that was kept.

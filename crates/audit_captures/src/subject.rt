@@ -3,8 +3,8 @@ use crate::may::{channel_count, may};
 use audit_base::Outside;
 use audit_frames::Counter;
 use audit_subject::Subject;
-use icu_machine::{Call, ChannelCall};
 use mcal_base::{ModuleName, Move, Unit};
+use module_machines::icu::{Call, ChannelCall};
 use run_model::Class;
 
 /// The most steps of a call about a channel, and of a handler.
@@ -12,7 +12,7 @@ const MOST_STEPS: u32 = 64;
 
 impl Subject for Captures {
     ghost use Rattle.std.proofs.Common.{refl};
-    ghost use Rattle.icu_machine.specs.Bounds.{icu_setting};
+    ghost use Rattle.module_machines.specs.icu.Bounds.{icu_setting};
 
     ghost setting = { icu_setting };
 

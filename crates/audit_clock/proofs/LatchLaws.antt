@@ -2,10 +2,10 @@
 use Rattle.std.proofs.Common.{◌≡◌, ℕ, zero, suc, ◌+◌, ◌*◌, ◌^◌, ◌<◌, ◌≤◌, Bool, List, [], ◌++◌, length, map, refl, sym, ◌∙◌, ap, arith, Option, Some, None}
 use Rattle.std.proofs.lemmas.List.{length-map}
 use Rattle.mcal_base.specs.declared.moves.Move.{Move}
-use Rattle.port_machine.specs.Bounds.{latch_duties, latch_duty}
-use Rattle.port_machine.specs.Table.{pin_of}
-use Rattle.port_machine.specs.declared.table.Pin.{Pin}
-use Rattle.port_machine.specs.declared.table.PortTable.{PortTable}
+use Rattle.module_machines.specs.port.Bounds.{latch_duties, latch_duty}
+use Rattle.module_machines.specs.port.Table.{pin_of}
+use Rattle.module_machines.specs.declared.port.table.Pin.{Pin}
+use Rattle.module_machines.specs.declared.port.table.PortTable.{PortTable}
 use Rattle.audit_subject.specs.Marks.{is_met, marks, with_marks}
 use Rattle.audit_subject.proofs.Masks.{room}
 

@@ -1,8 +1,8 @@
 -- The levels that are kept are the machine's.
 use Rattle.std.proofs.Common.{◌≡◌, ℕ, ◌+◌, ◌*◌, ◌<◌, Bool, Option, ap, sym, ◌∙◌, arith}
 use Rattle.std.specs.Prelude.{slice_index_or, None, false}
-use Rattle.dio_machine.specs.Machine.{port_value}
-use Rattle.port_machine.specs.Machine.{PinState, PortState, level_at, level_of, pin_at}
+use Rattle.module_machines.specs.dio.Machine.{port_value}
+use Rattle.module_machines.specs.port.Machine.{PinState, PortState, level_at, level_of, pin_at}
 use Rattle.run_model.specs.World.{World}
 use Rattle.audit_clock.specs.PinStands.{PinsKept, StandsFor}
 use Rattle.audit_clock.specs.PortPins.{IsAround, kept_level, kept_value, pins_seeing}

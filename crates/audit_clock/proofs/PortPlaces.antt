@@ -4,12 +4,12 @@ use Rattle.std.specs.Prelude.{if◌then◌else◌, bit_and, not, slice_index_or}
 use Rattle.std.proofs.lemmas.Bool.Decides.{nat_tests}
 use Rattle.mcal_base.specs.facts.Truths.{and_first}
 use Rattle.mcal_base.specs.Bits.{bit_of, bits_of, has_bit}
-use Rattle.port_machine.specs.Machine.{PinState, with_latch}
-use Rattle.dio_machine.specs.Table.{FitsDio, channel_of, channel_pins, configured, has_pin, pins_of, some_pins, those_configured}
-use Rattle.dio_machine.specs.declared.table.PortPins.{PortPins}
-use Rattle.dio_machine.specs.declared.call.Call.{Call}
-use Rattle.dio_machine.specs.declared.call.Call.TheVariants.{ReadChannel, WriteChannel, FlipChannel, ReadPort, WritePort, ReadChannelGroup, WriteChannelGroup}
-use Rattle.dio_machine.specs.declared.table.DioTable.{DioTable}
+use Rattle.module_machines.specs.port.Machine.{PinState, with_latch}
+use Rattle.module_machines.specs.dio.Table.{FitsDio, channel_of, channel_pins, configured, has_pin, pins_of, some_pins, those_configured}
+use Rattle.module_machines.specs.declared.dio.table.PortPins.{PortPins}
+use Rattle.module_machines.specs.declared.dio.call.Call.{Call}
+use Rattle.module_machines.specs.declared.dio.call.Call.TheVariants.{ReadChannel, WriteChannel, FlipChannel, ReadPort, WritePort, ReadChannelGroup, WriteChannelGroup}
+use Rattle.module_machines.specs.declared.dio.table.DioTable.{DioTable}
 use Rattle.audit_clock.specs.PinStands.{latched}
 
 -- ---- a word that is put to port q: its pin of place n is 8q + n

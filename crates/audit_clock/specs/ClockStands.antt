@@ -1,9 +1,9 @@
 -- How what the program keeps stands for the machine of clock, RAM and resets, which keeps what was filled.
 use Rattle.std.specs.Prelude.{◌≡◌, ℕ, ◌<◌, ◌&&◌, not, nat_lt, List, Bool, Option, slice_index_or}
 use Rattle.mcal_base.specs.declared.directive.Reason.{Reason}
-use Rattle.mcu_machine.specs.Machine as machine
-use Rattle.mcu_machine.specs.Machine.{McuState, ram_at}
-use Rattle.mcu_machine.specs.declared.table.McuTable.{McuTable}
+use Rattle.module_machines.specs.mcu.Machine as machine
+use Rattle.module_machines.specs.mcu.Machine.{McuState, ram_at}
+use Rattle.module_machines.specs.declared.mcu.table.McuTable.{McuTable}
 use Rattle.audit_clock.specs.declared.clock.Pll as code
 
 -- What is kept: the table, the module's state, and each RAM word as it is.

@@ -1,12 +1,12 @@
 -- How the pins that the program keeps stand for the machine's state, which keeps what was done to them.
 use Rattle.std.specs.Prelude.{◌≡◌, ℕ, ◌+◌, ◌<◌, List, Bool, Option, slice_index_or, if◌then◌else◌}
 use Rattle.mcal_base.specs.Bits.{has_bit}
-use Rattle.port_machine.specs.Machine.{PinState, PortState, untouched, pin_at, initial, refreshed, with_latch}
+use Rattle.module_machines.specs.port.Machine.{PinState, PortState, untouched, pin_at, initial, refreshed, with_latch}
 use Rattle.audit_clock.specs.declared.pin_state.PinState as code
 use Rattle.audit_clock.specs.declared.pin_state.Whole.{Whole}
 use Rattle.audit_clock.specs.declared.pin_state.Whole.TheVariants.{Configured, Refreshed}
-use Rattle.port_machine.specs.declared.table.Pin.{Pin}
-use Rattle.port_machine.specs.declared.table.PortTable.{PortTable}
+use Rattle.module_machines.specs.declared.port.table.Pin.{Pin}
+use Rattle.module_machines.specs.declared.port.table.PortTable.{PortTable}
 
 -- What is kept: the table, whether the module is initialised, and each pin as it is.
 pub record PinsKept : Type 0 where

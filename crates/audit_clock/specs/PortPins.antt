@@ -1,8 +1,8 @@
 -- What stands around the pins, and how channels, ports and groups see the pins by it.
 use Rattle.std.specs.Prelude.{◌≡◌, ℕ, ◌+◌, ◌*◌, ◌<◌, Bool, false, Option, None, slice_index_or}
 use Rattle.mcal_base.specs.Bits.{bits_of}
-use Rattle.dio_machine.specs.Machine.{HostPins}
-use Rattle.port_machine.specs.Machine.{PortState, Put, Inverted, level_at, level_of, untouched, with_change}
+use Rattle.module_machines.specs.dio.Machine.{HostPins}
+use Rattle.module_machines.specs.port.Machine.{PortState, Put, Inverted, level_at, level_of, untouched, with_change}
 use Rattle.run_model.specs.World.{World}
 use Rattle.audit_clock.specs.PinStands.{PinsKept}
 use Rattle.audit_clock.specs.declared.around.Around.{Around}

@@ -1,8 +1,8 @@
 -- What is asked of a configuration.
 use Rattle.std.specs.Prelude.{◌≡◌, ◌≤◌, ℕ, Some}
-use Rattle.mcu_machine.specs.Table.{section_of}
-use Rattle.mcu_machine.specs.declared.table.McuTable.{McuTable}
-use Rattle.mcu_machine.specs.declared.table.Section.{Section}
+use Rattle.module_machines.specs.mcu.Table.{section_of}
+use Rattle.module_machines.specs.declared.mcu.table.McuTable.{McuTable}
+use Rattle.module_machines.specs.declared.mcu.table.Section.{Section}
 
 -- no RAM section has more than 64 words
 abbrev pub AreShort : McuTable → Type 0

@@ -1,6 +1,6 @@
 -- What the program of the watchdog keeps.
-use Rattle.wdg_machine.specs.Machine.{WdgState}
-use Rattle.wdg_machine.specs.declared.table.WdgTable.{WdgTable}
+use Rattle.module_machines.specs.wdg.Machine.{WdgState}
+use Rattle.module_machines.specs.declared.wdg.table.WdgTable.{WdgTable}
 
 -- The watchdog's machine under a configuration.
 pub record WatchdogKept : Type 0 where

@@ -1,13 +1,13 @@
 ghost use Rattle.std.specs.Prelude.{◌≡◌, ◌==◌, ◌<◌, ◌+◌, ℕ, min, not, Some, option_map, slice_index_or, if◌then◌else◌};
-ghost use Rattle.det_errors.specs.Reports as errors;
+ghost use Rattle.mcal_base.specs.det_errors.Reports as errors;
 ghost use Rattle.mcal_base.specs.declared.answer_name.AnswerName.TheVariants.{EOk};
 ghost use Rattle.run_model.specs.Machine as done;
 ghost use Rattle.run_model.specs.Machine.{Acts};
 ghost use Rattle.run_model.specs.World.{World};
-ghost use Rattle.mcu_machine.specs.Checks as checks;
-ghost use Rattle.mcu_machine.specs.Machine as spec;
-ghost use Rattle.mcu_machine.specs.Machine.{McuState, ram_at};
-ghost use Rattle.mcu_machine.specs.Table.{section_of};
+ghost use Rattle.module_machines.specs.mcu.Checks as checks;
+ghost use Rattle.module_machines.specs.mcu.Machine as spec;
+ghost use Rattle.module_machines.specs.mcu.Machine.{McuState, ram_at};
+ghost use Rattle.module_machines.specs.mcu.Table.{section_of};
 ghost use Rattle.audit_base.specs.Comes.{Comes, Gives};
 ghost use Rattle.audit_clock.specs.ClockStands.{StandsFor, is_between, pll_of};
 ghost use Rattle.audit_clock.specs.Sections.{AreShort};
@@ -15,9 +15,9 @@ ghost use Rattle.audit_clock.specs.Sections.{AreShort};
 use crate::clock_checks::{facts, reason_name, refused, status_name};
 use crate::configured::Configured;
 use audit_base::{Told, named};
-use det_errors::first_error;
+use mcal_base::det_errors::first_error;
 use mcal_base::{AnswerName, ErrorName, Reason};
-use mcu_machine::{Call, ClockCall, McuTable, Section};
+use module_machines::mcu::{Call, ClockCall, McuTable, Section};
 use std::marker::Model;
 
 /// A PLL that was started.
@@ -217,7 +217,7 @@ impl Clock {
     pub fn report(&self, error: ErrorName) -> Option<bool>
         ensures { result ≡ errors.reported (checks.reporting self.now.driver) error }
     {
-        det_errors::reported(self.driver.table.detect, 1, error)
+        mcal_base::det_errors::reported(self.driver.table.detect, 1, error)
     }
 
     /// The chip is reset for this reason.

@@ -1,11 +1,11 @@
 ghost use Rattle.std.specs.Prelude.{◌≡◌, false, [], ◌∷◌};
-ghost use Rattle.mcu_machine.specs.Checks as checks;
-ghost use Rattle.mcu_machine.specs.Machine as spec;
+ghost use Rattle.module_machines.specs.mcu.Checks as checks;
+ghost use Rattle.module_machines.specs.mcu.Machine as spec;
 
 use audit_base::{named, nothing};
-use det_errors::Facts;
+use mcal_base::det_errors::Facts;
 use mcal_base::{Answer, AnswerName, Reason};
-use mcu_machine::{Call, ClockCall, McuTable};
+use module_machines::mcu::{Call, ClockCall, McuTable};
 
 /// Whether the errors of a call hold, in their order: the module is uninitialised, the PLL isn't locked.
 pub(crate) fn facts(driver: &McuTable, call: Call, off: bool, unlocked: bool) -> Facts

@@ -1,7 +1,7 @@
 use crate::clock::Clock;
 use audit_base::{Done, Outside, Part, Polled};
 use mcal_base::{ErrorName, Order, Reason, Service, Unit};
-use mcu_machine::{Call, McuTable};
+use module_machines::mcu::{Call, McuTable};
 use std::alloc::AllocError;
 use std::marker::Model;
 
@@ -9,7 +9,7 @@ use std::marker::Model;
 pub struct ClockState;
 
 impl Model for ClockState {
-    ghost use Rattle.mcu_machine.specs.Machine.{McuState, first_state};
+    ghost use Rattle.module_machines.specs.mcu.Machine.{McuState, first_state};
 
     ghost Value = { McuState };
 

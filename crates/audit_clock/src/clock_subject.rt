@@ -1,6 +1,6 @@
 ghost use Rattle.std.specs.Prelude.{◌≡◌, ◌≤◌};
-ghost use Rattle.mcu_machine.specs.Bounds as spec;
-ghost use Rattle.mcu_machine.specs.Table.{section_of};
+ghost use Rattle.module_machines.specs.mcu.Bounds as spec;
+ghost use Rattle.module_machines.specs.mcu.Table.{section_of};
 ghost use Rattle.audit_clock.specs.Sections.{AreShort};
 
 use crate::clock::Clock;
@@ -9,7 +9,7 @@ use audit_base::Outside;
 use audit_frames::Counter;
 use audit_subject::Subject;
 use mcal_base::{ModuleName, Move, Unit};
-use mcu_machine::{Call, McuTable};
+use module_machines::mcu::{Call, McuTable};
 use run_model::Class;
 
 /// The most steps of a call's frame, but of `Mcu_Init` and of a section's.
@@ -70,7 +70,7 @@ fn most_steps(table: &McuTable, call: Call) -> u32
 
 impl Subject for Clock {
     ghost use Rattle.std.proofs.Common.{refl};
-    ghost use Rattle.mcu_machine.specs.Bounds.{mcu_setting};
+    ghost use Rattle.module_machines.specs.mcu.Bounds.{mcu_setting};
 
     ghost setting = { mcu_setting };
 

@@ -1,7 +1,7 @@
 ghost use Rattle.std.specs.Prelude.{◌≡◌};
 ghost use Rattle.audit_clock.specs.Sections.{AreShort};
 
-use mcu_machine::McuTable;
+use module_machines::mcu::McuTable;
 
 /// What is configured of clock, resets and RAM: no section has more than 64 words.
 #[derive(Drop)]

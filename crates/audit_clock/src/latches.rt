@@ -3,12 +3,12 @@
 ghost use Rattle.std.specs.Prelude.{◌≡◌, ◌<◌, ◌+◌, ◌*◌, ◌/◌, ◌%◌, ◌^◌, ◌==◌, ◌&&◌};
 ghost use Rattle.mcal_base.specs.Bits.{has_bit};
 ghost use Rattle.audit_frames.specs.Told.{is_of_kind};
-ghost use Rattle.port_machine.specs.Bounds as bounds;
+ghost use Rattle.module_machines.specs.port.Bounds as bounds;
 ghost use Rattle.audit_subject.specs.Marks as spec;
 
 use crate::pin_state::has_bit;
 use mcal_base::{Move, Reg};
-use port_machine::{Call, Pin, PortTable};
+use module_machines::port::{Call, Pin, PortTable};
 
 /// Whether bits that are written to a half name a pin.
 fn names_pin(pin: u32, half: u32, bits: u32) -> bool

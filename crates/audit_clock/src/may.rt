@@ -1,9 +1,9 @@
 //! What frames of the three modules may name. They name no enabled lines.
 
 ghost use Rattle.std.specs.Prelude.{◌≡◌, ◌&&◌, ◌||◌, not};
-ghost use Rattle.mcu_machine.specs.Bounds as clock;
-ghost use Rattle.port_machine.specs.Bounds as pins;
-ghost use Rattle.wdg_machine.specs.Bounds as watchdog;
+ghost use Rattle.module_machines.specs.mcu.Bounds as clock;
+ghost use Rattle.module_machines.specs.port.Bounds as pins;
+ghost use Rattle.module_machines.specs.wdg.Bounds as watchdog;
 
 use mcal_base::{Move, Reg};
 

@@ -1,11 +1,11 @@
 ghost use Rattle.std.specs.Prelude.{◌≡◌, ◌<◌};
 ghost use Rattle.mcal_base.specs.Bits.{has_bit};
-ghost use Rattle.port_machine.specs.Checks as checks;
-ghost use Rattle.port_machine.specs.Machine as spec;
+ghost use Rattle.module_machines.specs.port.Checks as checks;
+ghost use Rattle.module_machines.specs.port.Machine as spec;
 ghost use Rattle.audit_clock.specs.PinStands.{latched, state_of, turned};
 
 use mcal_base::{PortPinDirection, PortPinMode};
-use port_machine::{Pin, PinCall};
+use module_machines::port::{Pin, PinCall};
 
 /// A pin.
 #[derive(Clone, Copy)]

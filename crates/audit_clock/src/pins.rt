@@ -1,11 +1,11 @@
 ghost use Rattle.std.specs.Prelude.{◌≡◌, ◌==◌, ◌<◌, ℕ, not, slice_index_or, if◌then◌else◌};
-ghost use Rattle.det_errors.specs.Reports as errors;
+ghost use Rattle.mcal_base.specs.det_errors.Reports as errors;
 ghost use Rattle.run_model.specs.Machine.{Acts};
 ghost use Rattle.run_model.specs.World.{World};
-ghost use Rattle.port_machine.specs.Checks as checks;
-ghost use Rattle.port_machine.specs.Machine as spec;
-ghost use Rattle.port_machine.specs.Machine.{PortState};
-ghost use Rattle.port_machine.specs.Table.{pin_of};
+ghost use Rattle.module_machines.specs.port.Checks as checks;
+ghost use Rattle.module_machines.specs.port.Machine as spec;
+ghost use Rattle.module_machines.specs.port.Machine.{PortState};
+ghost use Rattle.module_machines.specs.port.Table.{pin_of};
 ghost use Rattle.audit_base.specs.Comes.{Comes};
 ghost use Rattle.audit_clock.specs.PinStands.{StandsFor, state_of, turned};
 
@@ -13,9 +13,9 @@ use crate::pin_state::{
     PinState, UNTOUCHED, Whole, changed, latched, level_of, pin_facts, turned, with_latch,
 };
 use audit_base::{Told, nothing};
-use det_errors::{Facts, first_error};
 use mcal_base::ErrorName;
-use port_machine::{Call, PortTable};
+use mcal_base::det_errors::{Facts, first_error};
+use module_machines::port::{Call, PortTable};
 use std::marker::Model;
 
 /// The machine of the pins under a configuration.
@@ -159,7 +159,7 @@ impl Pins {
     pub fn report(&self, error: ErrorName) -> Option<bool>
         ensures { result ≡ errors.reported (checks.reporting self.now.driver) error }
     {
-        det_errors::reported(self.driver.detect, 1, error)
+        mcal_base::det_errors::reported(self.driver.detect, 1, error)
     }
 
     /// The chip is reset.

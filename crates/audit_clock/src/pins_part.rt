@@ -1,7 +1,7 @@
 use crate::pins::Pins;
 use audit_base::{Done, Outside, Part, Polled};
 use mcal_base::{ErrorName, Order, Reason, Service, Unit};
-use port_machine::{Call, PortTable};
+use module_machines::port::{Call, PortTable};
 use std::alloc::AllocError;
 use std::marker::Model;
 
@@ -9,7 +9,7 @@ use std::marker::Model;
 pub struct PinsState;
 
 impl Model for PinsState {
-    ghost use Rattle.port_machine.specs.Machine.{PortState, first_state};
+    ghost use Rattle.module_machines.specs.port.Machine.{PortState, first_state};
 
     ghost Value = { PortState };
 

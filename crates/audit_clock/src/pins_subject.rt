@@ -1,6 +1,6 @@
 ghost use Rattle.std.specs.Prelude.{◌≡◌, ◌≤◌, sum_by};
 ghost use Rattle.run_model.specs.Frame.{Called};
-ghost use Rattle.port_machine.specs.Bounds as spec;
+ghost use Rattle.module_machines.specs.port.Bounds as spec;
 
 use crate::latches::owed;
 use crate::may::pins_may;
@@ -9,7 +9,7 @@ use audit_base::Outside;
 use audit_frames::Counter;
 use audit_subject::Subject;
 use mcal_base::{ModuleName, Move, Unit};
-use port_machine::{Call, Pin};
+use module_machines::port::{Call, Pin};
 use run_model::Class;
 
 /// The most steps of a frame but of `Port_Init`.
@@ -43,7 +43,7 @@ fn is_init(call: &Call) -> bool
 
 impl Subject for Pins {
     ghost use Rattle.std.proofs.Common.{refl};
-    ghost use Rattle.port_machine.specs.Bounds.{port_setting};
+    ghost use Rattle.module_machines.specs.port.Bounds.{port_setting};
 
     ghost setting = { port_setting };
 

@@ -1,11 +1,11 @@
 ghost use Rattle.std.specs.Prelude.{◌≡◌, ◌<◌, ◌≤◌};
 ghost use Rattle.mcal_base.specs.Bits.{bit_of};
-ghost use Rattle.dio_machine.specs.Values as spec;
-ghost use Rattle.dio_machine.specs.Checks as checks;
+ghost use Rattle.module_machines.specs.dio.Values as spec;
+ghost use Rattle.module_machines.specs.dio.Checks as checks;
 
 use audit_base::{named, nothing, number};
-use dio_machine::{Call, PortPins};
 use mcal_base::{Answer, AnswerName};
+use module_machines::dio::{Call, PortPins};
 
 /// What the bit of the first of these pins counts in their port.
 fn weight(pins: PortPins) -> u32

@@ -1,12 +1,12 @@
 ghost use Rattle.std.specs.Prelude.{◌≡◌, ◌<◌, ℕ, Bool, [], Some, Option};
-ghost use Rattle.det_errors.specs.Reports as errors;
+ghost use Rattle.mcal_base.specs.det_errors.Reports as errors;
 ghost use Rattle.run_model.specs.Machine as done;
-ghost use Rattle.dio_machine.specs.Values as accesses;
-ghost use Rattle.dio_machine.specs.Checks as checks;
-ghost use Rattle.dio_machine.specs.Machine as spec;
-ghost use Rattle.dio_machine.specs.Table as table;
-ghost use Rattle.dio_machine.specs.declared.table.PortPins as tables;
-ghost use Rattle.port_machine.specs.Machine.{PortState, level_at};
+ghost use Rattle.module_machines.specs.dio.Values as accesses;
+ghost use Rattle.module_machines.specs.dio.Checks as checks;
+ghost use Rattle.module_machines.specs.dio.Machine as spec;
+ghost use Rattle.module_machines.specs.dio.Table as table;
+ghost use Rattle.module_machines.specs.declared.dio.table.PortPins as tables;
+ghost use Rattle.module_machines.specs.port.Machine.{PortState, level_at};
 ghost use Rattle.run_model.specs.World.{World};
 ghost use Rattle.audit_base.specs.Comes.{Gives};
 ghost use Rattle.audit_clock.specs.PinStands.{StandsFor};
@@ -17,9 +17,9 @@ use crate::pin_state::has_bit;
 use crate::pins::Pins;
 use crate::port_values::{bit, level_answer, moved_down, refused, word_of};
 use audit_base::{Told, number};
-use det_errors::{Facts, first_error};
-use dio_machine::{Call, DioTable, PortPins};
 use mcal_base::ErrorName;
+use mcal_base::det_errors::{Facts, first_error};
+use module_machines::dio::{Call, DioTable, PortPins};
 use std::marker::Model;
 
 /// Channels, ports and groups under a configuration. They have no state: their calls read the levels of pins and change their
@@ -30,8 +30,8 @@ pub struct Ports {
 }
 
 impl Model for Ports {
-    ghost use Rattle.dio_machine.specs.Table.{FitsDio};
-    ghost use Rattle.dio_machine.specs.declared.table.DioTable.{DioTable};
+    ghost use Rattle.module_machines.specs.dio.Table.{FitsDio};
+    ghost use Rattle.module_machines.specs.declared.dio.table.DioTable.{DioTable};
 
     ghost Value = { DioTable };
 
@@ -253,7 +253,7 @@ impl Ports {
     pub fn report(&self, error: ErrorName) -> Option<bool>
         ensures { result ≡ errors.reported (checks.reporting self.now) error }
     {
-        det_errors::reported(self.driver.detect, 1, error)
+        mcal_base::det_errors::reported(self.driver.detect, 1, error)
     }
 
     /// A call acts on the pins, with this around them.

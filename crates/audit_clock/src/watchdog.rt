@@ -1,15 +1,15 @@
 ghost use Rattle.std.specs.Prelude.{◌≡◌, ◌<◌, ◌^◌, ℕ, not, Some, is_some};
-ghost use Rattle.det_errors.specs.Reports as errors;
+ghost use Rattle.mcal_base.specs.det_errors.Reports as errors;
 ghost use Rattle.run_model.specs.Machine.{Acts, outcome};
 ghost use Rattle.run_model.specs.World.{World};
-ghost use Rattle.wdg_machine.specs.Checks as checks;
-ghost use Rattle.wdg_machine.specs.Machine as spec;
+ghost use Rattle.module_machines.specs.wdg.Checks as checks;
+ghost use Rattle.module_machines.specs.wdg.Machine as spec;
 
 use audit_base::{Told, named, nothing};
-use det_errors::{Facts, first_error};
+use mcal_base::det_errors::{Facts, first_error};
 use mcal_base::{Answer, AnswerName, ErrorName, WdgMode};
+use module_machines::wdg::{Call, WdgTable};
 use std::marker::Model;
-use wdg_machine::{Call, WdgTable};
 
 /// The watchdog's machine under a configuration. Times are in ticks of the oscillator.
 #[derive(Drop)]
@@ -178,7 +178,7 @@ impl Watchdog {
     pub fn report(&self, error: ErrorName) -> Option<bool>
         ensures { result ≡ errors.reported (checks.reporting self.now.driver) error }
     {
-        det_errors::reported(self.driver.detect, 1, error)
+        mcal_base::det_errors::reported(self.driver.detect, 1, error)
     }
 
     /// The chip is reset.

@@ -1,15 +1,15 @@
 use crate::watchdog::Watchdog;
 use audit_base::{Done, Outside, Part, Polled};
 use mcal_base::{ErrorName, Order, Reason, Service, Unit};
+use module_machines::wdg::{Call, WdgTable};
 use std::alloc::AllocError;
 use std::marker::Model;
-use wdg_machine::{Call, WdgTable};
 
 /// The state of the watchdog's machine, which contracts alone name.
 pub struct WatchdogState;
 
 impl Model for WatchdogState {
-    ghost use Rattle.wdg_machine.specs.Machine.{WdgState, first_state};
+    ghost use Rattle.module_machines.specs.wdg.Machine.{WdgState, first_state};
 
     ghost Value = { WdgState };
 

@@ -4,15 +4,15 @@ use audit_base::Outside;
 use audit_frames::Counter;
 use audit_subject::Subject;
 use mcal_base::{ModuleName, Move, Unit};
+use module_machines::wdg::Call;
 use run_model::Class;
-use wdg_machine::Call;
 
 /// The most steps of a frame.
 const MOST_STEPS: u32 = 64;
 
 impl Subject for Watchdog {
     ghost use Rattle.std.proofs.Common.{refl};
-    ghost use Rattle.wdg_machine.specs.Bounds.{wdg_setting};
+    ghost use Rattle.module_machines.specs.wdg.Bounds.{wdg_setting};
 
     ghost setting = { wdg_setting };
 

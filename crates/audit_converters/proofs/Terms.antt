@@ -15,7 +15,7 @@ pub use Rattle.adc_machine.specs.Turns.{aborts_by, AdcState, begun, first_of, gr
 pub use Rattle.adc_machine.specs.declared.call.ResultBuffer.{ResultBuffer}
 pub use Rattle.audit_base.specs.Comes.{ComesIf, Gives}
 pub use Rattle.audit_base.specs.Tells.{gives}
-pub use Rattle.det_errors.specs.Rows.{first_error}
+pub use Rattle.mcal_base.specs.det_errors.Rows.{first_error}
 pub use Rattle.mcal_base.specs.declared.answer_name.AnswerName.TheVariants.{EOk}
 pub use Rattle.mcal_base.specs.declared.directive.Order.TheVariants.{Trigger}
 pub use Rattle.mcal_base.specs.facts.Numbers.{lt_from, lt_since}

@@ -17,7 +17,7 @@ use crate::truths::{both, either};
 use crate::values::NO_VALUES;
 use adc_machine::{AdcTable, Call, GroupCall, ResultBuffer};
 use audit_base::{Told, named, numbers};
-use det_errors::first_error;
+use mcal_base::det_errors::first_error;
 use mcal_base::{AnswerName, ErrorName};
 
 /// Whether a unit takes one group at a time.

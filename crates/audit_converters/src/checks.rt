@@ -7,7 +7,7 @@ ghost use Rattle.audit_converters.specs.Stands.{circumstances_as, sets_up};
 
 use adc_machine::{AdcTable, Call, GroupCall};
 use audit_base::{named, nothing};
-use det_errors::Facts;
+use mcal_base::det_errors::Facts;
 use mcal_base::{Answer, AnswerName, Head, Words};
 
 /// What the state says of a call.

@@ -7,7 +7,7 @@ ghost use Rattle.adc_machine.specs.Triggers.{served_trigger};
 ghost use Rattle.adc_machine.specs.Turns as turns;
 ghost use Rattle.adc_machine.specs.Turns.{AdcState, first_state};
 ghost use Rattle.adc_machine.specs.declared.call.Call as call;
-ghost use Rattle.det_errors.specs.Reports as errors;
+ghost use Rattle.mcal_base.specs.det_errors.Reports as errors;
 ghost use Rattle.mcal_base.specs.declared.directive.Order.TheVariants.{Trigger};
 ghost use Rattle.mcal_base.specs.declared.directive.Reason.{Reason};
 ghost use Rattle.run_model.specs.Machine.{Aborts, Acts, Moves, Restarts, Serves, Starts, outcome, tells_nothing};
@@ -277,7 +277,7 @@ impl Converters {
     pub fn report(&self, error: ErrorName) -> Option<bool>
         ensures { result ≡ errors.reported (spec.reporting self.now.table) error }
     {
-        det_errors::reported(self.table.detect, self.table.classification, error)
+        mcal_base::det_errors::reported(self.table.detect, self.table.classification, error)
     }
 
     /// The chip is reset.

@@ -1,6 +1,6 @@
 -- What is told of a step beside its line, and that it is what machine and module say.
 use Rattle.std.specs.Prelude.{◌≡◌, ℕ, ◌<◌, Bool, true, false, not, List, length, Option, Some, None, is_some}
-use Rattle.det_errors.specs.Reports as errors
+use Rattle.mcal_base.specs.det_errors.Reports as errors
 use Rattle.mcal_base.specs.Bits.{has_bit}
 use Rattle.mcal_base.specs.declared.answer.Answer.{Answer}
 use Rattle.mcal_base.specs.declared.error_name.ErrorName.{ErrorName}

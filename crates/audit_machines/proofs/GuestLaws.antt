@@ -1,13 +1,13 @@
 -- What channels and ports do over the states of all modules is what they do to the pins.
 use Rattle.std.proofs.Common.{◌≡◌, ℕ, refl, sym, subst, Option, Some, None, List}
-use Rattle.dio_machine.specs.Machine.{does, does_by}
-use Rattle.dio_machine.specs.Table.{pins_of}
-use Rattle.dio_machine.specs.declared.call.Call.{Call}
-use Rattle.dio_machine.specs.declared.call.Call.TheVariants.{ReadChannel, WriteChannel, FlipChannel, ReadPort, WritePort, ReadChannelGroup, WriteChannelGroup}
-use Rattle.dio_machine.specs.declared.table.DioTable.{DioTable}
-use Rattle.dio_machine.specs.declared.table.PortPins.{PortPins}
-use Rattle.port_machine.specs.Machine.{PortState}
-use Rattle.pwm_machine.specs.declared.table.PwmTable.{PwmTable}
+use Rattle.module_machines.specs.dio.Machine.{does, does_by}
+use Rattle.module_machines.specs.dio.Table.{pins_of}
+use Rattle.module_machines.specs.declared.dio.call.Call.{Call}
+use Rattle.module_machines.specs.declared.dio.call.Call.TheVariants.{ReadChannel, WriteChannel, FlipChannel, ReadPort, WritePort, ReadChannelGroup, WriteChannelGroup}
+use Rattle.module_machines.specs.declared.dio.table.DioTable.{DioTable}
+use Rattle.module_machines.specs.declared.dio.table.PortPins.{PortPins}
+use Rattle.module_machines.specs.port.Machine.{PortState}
+use Rattle.module_machines.specs.declared.pwm.table.PwmTable.{PwmTable}
 use Rattle.run_model.specs.Machine.{Outcome, Told, outcome_with}
 use Rattle.run_model.specs.World.{World}
 use Rattle.audit_base.specs.Comes.{Gives}

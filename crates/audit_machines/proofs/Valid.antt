@@ -15,13 +15,13 @@ use Rattle.mcal_base.specs.declared.config.spi.SpiChannelType.{SpiChannelType}
 use Rattle.mcal_base.specs.declared.config.spi.SpiChannelType.TheVariants.{Internal, External}
 use Rattle.mcal_base.specs.declared.config.whole.Config.{Config}
 use Rattle.adc_machine.specs.Table.{AreSmall, IsSmall, IsSmallInput}
-use Rattle.dio_machine.specs.Table as ports
-use Rattle.dio_machine.specs.Table.{FitsDio, group_in}
-use Rattle.dio_machine.specs.declared.table.PortPins.{PortPins}
-use Rattle.mcu_machine.specs.Table as sections
-use Rattle.mcu_machine.specs.Table.{section_in, taken_if}
-use Rattle.mcu_machine.specs.declared.table.Section.{Section}
-use Rattle.spi_jobs.specs.declared.channel.Channel.{Channel}
+use Rattle.module_machines.specs.dio.Table as ports
+use Rattle.module_machines.specs.dio.Table.{FitsDio, group_in}
+use Rattle.module_machines.specs.declared.dio.table.PortPins.{PortPins}
+use Rattle.module_machines.specs.mcu.Table as sections
+use Rattle.module_machines.specs.mcu.Table.{section_in, taken_if}
+use Rattle.module_machines.specs.declared.mcu.table.Section.{Section}
+use Rattle.word_shapes.specs.declared.jobs.channel.Channel.{Channel}
 use Rattle.spi_machine.specs.Table as serial
 use Rattle.spi_machine.specs.Table.{channel_in, taken_channel}
 use Rattle.audit_clock.specs.Sections.{AreShort}

@@ -1,14 +1,14 @@
 -- Channels and ports as the guest of a machine that has the pins: their calls act on its states.
 use Rattle.std.specs.Prelude.{ℕ, Bool, List, [], Option, Some, option_map}
 use Rattle.chip_model.specs.Chip.{channel_from}
-use Rattle.dio_machine.specs.Checks.{service_of, reporting}
-use Rattle.dio_machine.specs.Machine.{HostPins, does}
-use Rattle.dio_machine.specs.declared.call.Call.{Call}
-use Rattle.dio_machine.specs.declared.table.DioTable.{DioTable}
-use Rattle.port_machine.specs.Machine.{PortState, Put, Inverted, level_at, with_change}
-use Rattle.pwm_machine.specs.Machine as pulses
-use Rattle.pwm_machine.specs.Machine.{PwmState}
-use Rattle.pwm_machine.specs.declared.table.PwmTable.{PwmTable}
+use Rattle.module_machines.specs.dio.Checks.{service_of, reporting}
+use Rattle.module_machines.specs.dio.Machine.{HostPins, does}
+use Rattle.module_machines.specs.declared.dio.call.Call.{Call}
+use Rattle.module_machines.specs.declared.dio.table.DioTable.{DioTable}
+use Rattle.module_machines.specs.port.Machine.{PortState, Put, Inverted, level_at, with_change}
+use Rattle.module_machines.specs.pwm.Machine as pulses
+use Rattle.module_machines.specs.pwm.Machine.{PwmState}
+use Rattle.module_machines.specs.declared.pwm.table.PwmTable.{PwmTable}
 use Rattle.run_model.specs.Machine.{Happening, Acts, Serves, Starts, Aborts, Moves, Restarts, Machine, Outcome}
 use Rattle.run_model.specs.World.{World}
 use Rattle.audit_base.specs.Deeds.{Member}

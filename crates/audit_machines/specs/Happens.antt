@@ -9,8 +9,8 @@ use Rattle.mcal_base.specs.declared.directive.Order.TheVariants as orders
 use Rattle.mcal_base.specs.declared.directive.Request.{Request}
 use Rattle.mcal_base.specs.declared.error_name.ErrorName.{ErrorName}
 use Rattle.mcal_base.specs.declared.moves.DevError.{DevError}
-use Rattle.pwm_machine.specs.Table.{channel_of}
-use Rattle.pwm_machine.specs.declared.table.PwmTable.{PwmTable}
+use Rattle.module_machines.specs.pwm.Table.{channel_of}
+use Rattle.module_machines.specs.declared.pwm.table.PwmTable.{PwmTable}
 use Rattle.run_model.specs.Frame.{report_of}
 use Rattle.run_model.specs.Machine.{Acts, Serves, Starts, Aborts, Moves, Restarts, Machine, Outcome}
 use Rattle.run_model.specs.Machine as machines

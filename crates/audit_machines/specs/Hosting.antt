@@ -1,9 +1,9 @@
 -- Channels and ports as the guest of a module in a run: what their frames are judged by.
 use Rattle.std.specs.Prelude.{◌≡◌, ◌==◌, nat_lt, Bool, false}
 use Rattle.std.proofs.Common.{ap}
-use Rattle.dio_machine.specs.Machine.{HostPins}
-use Rattle.dio_machine.specs.declared.call.Call.{Call}
-use Rattle.dio_machine.specs.declared.table.DioTable.{DioTable}
+use Rattle.module_machines.specs.dio.Machine.{HostPins}
+use Rattle.module_machines.specs.declared.dio.call.Call.{Call}
+use Rattle.module_machines.specs.declared.dio.table.DioTable.{DioTable}
 use Rattle.mcal_base.specs.declared.module_name.ModuleName.TheVariants.{Port}
 use Rattle.mcal_base.specs.declared.moves.Move.{Move}
 use Rattle.mcal_base.specs.declared.moves.Move.TheVariants.{Read, Write, Load}

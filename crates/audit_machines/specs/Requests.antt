@@ -3,20 +3,20 @@ use Rattle.std.specs.Prelude.{cond, Bool, ◌||◌}
 use Rattle.mcal_base.specs.declared.directive.Request.{Request}
 use Rattle.mcal_base.specs.declared.service.Service.{Service}
 use Rattle.std.specs.Prelude.{Option, Some, None}
-use Rattle.mcu_machine.specs.Requests as clock_requests
-use Rattle.mcu_machine.specs.declared.call.Call as clock_calls
-use Rattle.wdg_machine.specs.Requests as watchdog_requests
-use Rattle.wdg_machine.specs.declared.call.Call as watchdog_calls
-use Rattle.port_machine.specs.Requests as pin_requests
-use Rattle.port_machine.specs.declared.call.Call as pin_calls
-use Rattle.dio_machine.specs.Requests as port_requests
-use Rattle.dio_machine.specs.declared.call.Call as port_calls
-use Rattle.gpt_machine.specs.Requests as timer_requests
-use Rattle.gpt_machine.specs.declared.call.Call as timer_calls
-use Rattle.pwm_machine.specs.Requests as pulse_requests
-use Rattle.pwm_machine.specs.declared.call.Call as pulse_calls
-use Rattle.icu_machine.specs.Requests as capture_requests
-use Rattle.icu_machine.specs.declared.call.Call as capture_calls
+use Rattle.module_machines.specs.mcu.Requests as clock_requests
+use Rattle.module_machines.specs.declared.mcu.call.Call as clock_calls
+use Rattle.module_machines.specs.wdg.Requests as watchdog_requests
+use Rattle.module_machines.specs.declared.wdg.call.Call as watchdog_calls
+use Rattle.module_machines.specs.port.Requests as pin_requests
+use Rattle.module_machines.specs.declared.port.call.Call as pin_calls
+use Rattle.module_machines.specs.dio.Requests as port_requests
+use Rattle.module_machines.specs.declared.dio.call.Call as port_calls
+use Rattle.module_machines.specs.gpt.Requests as timer_requests
+use Rattle.module_machines.specs.declared.gpt.call.Call as timer_calls
+use Rattle.module_machines.specs.pwm.Requests as pulse_requests
+use Rattle.module_machines.specs.declared.pwm.call.Call as pulse_calls
+use Rattle.module_machines.specs.icu.Requests as capture_requests
+use Rattle.module_machines.specs.declared.icu.call.Call as capture_calls
 use Rattle.adc_machine.specs.Requests as converter_requests
 use Rattle.adc_machine.specs.declared.call.Call as converter_calls
 use Rattle.adc_machine.specs.declared.call.Call.TheVariants as converter_variants

@@ -5,33 +5,33 @@ use Rattle.adc_machine.specs.Turns as converters
 use Rattle.adc_machine.specs.Turns.{AdcState}
 use Rattle.adc_machine.specs.declared.table.AdcTable.{AdcTable}
 use Rattle.chip_model.specs.Wiring.{wiring_of}
-use Rattle.dio_machine.specs.Table as port_table
-use Rattle.dio_machine.specs.declared.table.DioTable.{DioTable}
-use Rattle.gpt_machine.specs.Machine as timers
-use Rattle.gpt_machine.specs.Machine.{GptState}
-use Rattle.gpt_machine.specs.Table as timer_table
-use Rattle.gpt_machine.specs.declared.table.GptTable.{GptTable}
-use Rattle.icu_machine.specs.Machine as captures
-use Rattle.icu_machine.specs.Machine.{IcuState}
-use Rattle.icu_machine.specs.Table as capture_table
-use Rattle.icu_machine.specs.declared.table.IcuTable.{IcuTable}
+use Rattle.module_machines.specs.dio.Table as port_table
+use Rattle.module_machines.specs.declared.dio.table.DioTable.{DioTable}
+use Rattle.module_machines.specs.gpt.Machine as timers
+use Rattle.module_machines.specs.gpt.Machine.{GptState}
+use Rattle.module_machines.specs.gpt.Table as timer_table
+use Rattle.module_machines.specs.declared.gpt.table.GptTable.{GptTable}
+use Rattle.module_machines.specs.icu.Machine as captures
+use Rattle.module_machines.specs.icu.Machine.{IcuState}
+use Rattle.module_machines.specs.icu.Table as capture_table
+use Rattle.module_machines.specs.declared.icu.table.IcuTable.{IcuTable}
 use Rattle.mcal_base.specs.declared.config.whole.Config.{Config}
-use Rattle.mcu_machine.specs.Machine as clock
-use Rattle.mcu_machine.specs.Machine.{McuState}
-use Rattle.mcu_machine.specs.Table as clock_table
-use Rattle.mcu_machine.specs.declared.table.McuTable.{McuTable}
-use Rattle.port_machine.specs.Machine as pins
-use Rattle.port_machine.specs.Machine.{PortState}
-use Rattle.port_machine.specs.Table as pin_table
-use Rattle.port_machine.specs.declared.table.PortTable.{PortTable}
-use Rattle.pwm_machine.specs.Machine as pulses
-use Rattle.pwm_machine.specs.Machine.{PwmState}
-use Rattle.pwm_machine.specs.Table as pulse_table
-use Rattle.pwm_machine.specs.declared.table.PwmTable.{PwmTable}
-use Rattle.wdg_machine.specs.Machine as watchdog
-use Rattle.wdg_machine.specs.Machine.{WdgState}
-use Rattle.wdg_machine.specs.Table as watchdog_table
-use Rattle.wdg_machine.specs.declared.table.WdgTable.{WdgTable}
+use Rattle.module_machines.specs.mcu.Machine as clock
+use Rattle.module_machines.specs.mcu.Machine.{McuState}
+use Rattle.module_machines.specs.mcu.Table as clock_table
+use Rattle.module_machines.specs.declared.mcu.table.McuTable.{McuTable}
+use Rattle.module_machines.specs.port.Machine as pins
+use Rattle.module_machines.specs.port.Machine.{PortState}
+use Rattle.module_machines.specs.port.Table as pin_table
+use Rattle.module_machines.specs.declared.port.table.PortTable.{PortTable}
+use Rattle.module_machines.specs.pwm.Machine as pulses
+use Rattle.module_machines.specs.pwm.Machine.{PwmState}
+use Rattle.module_machines.specs.pwm.Table as pulse_table
+use Rattle.module_machines.specs.declared.pwm.table.PwmTable.{PwmTable}
+use Rattle.module_machines.specs.wdg.Machine as watchdog
+use Rattle.module_machines.specs.wdg.Machine.{WdgState}
+use Rattle.module_machines.specs.wdg.Table as watchdog_table
+use Rattle.module_machines.specs.declared.wdg.table.WdgTable.{WdgTable}
 
 -- the states of the modules that have one, in the order of the parts, with that of the serial units
 abbrev pub SystemState : Type 0 → Type 0

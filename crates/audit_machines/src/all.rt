@@ -1,6 +1,6 @@
 ghost use Rattle.std.specs.Prelude.{◌≡◌, ℕ, IfOk};
 ghost use Rattle.config_facts.specs.Valid.{IsValid};
-ghost use Rattle.pwm_machine.specs.Table as pulses;
+ghost use Rattle.module_machines.specs.pwm.Table as pulses;
 ghost use Rattle.run_model.specs.World.{world_start};
 ghost use Rattle.spi_machine.specs.State.{first_state};
 ghost use Rattle.spi_machine.specs.Table as serial;

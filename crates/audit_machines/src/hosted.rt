@@ -1,5 +1,5 @@
 ghost use Rattle.std.specs.Prelude.{◌≡◌, ◌<◌, ℕ, List, Option, option_copied};
-ghost use Rattle.dio_machine.specs.Machine.{HostPins, does};
+ghost use Rattle.module_machines.specs.dio.Machine.{HostPins, does};
 ghost use Rattle.run_model.specs.World.{World};
 ghost use Rattle.audit_base.specs.Comes.{Gives};
 ghost use Rattle.audit_base.specs.Outside.{IsWorld, IsAfter};
@@ -9,8 +9,8 @@ use crate::pin_calls::{act_on, pin_of};
 use audit_base::{Both, Done, Either, Outside, Part, Polled, Told};
 use audit_clock::{Pins, Ports};
 use audit_pulses::Pulses;
-use dio_machine::{Call, DioTable};
 use mcal_base::{ErrorName, Order, Reason, Service, Unit};
+use module_machines::dio::{Call, DioTable};
 use std::alloc::AllocError;
 
 /// A part that has the pins, which channels and ports see and change. The outputs of pulse channels are seen at the pins

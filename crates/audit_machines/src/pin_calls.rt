@@ -1,5 +1,5 @@
 ghost use Rattle.std.specs.Prelude.{◌≡◌, ◌<◌};
-ghost use Rattle.dio_machine.specs.Machine.{does};
+ghost use Rattle.module_machines.specs.dio.Machine.{does};
 ghost use Rattle.run_model.specs.World.{World};
 ghost use Rattle.audit_base.specs.Comes.{Gives};
 ghost use Rattle.audit_base.specs.Outside.{IsWorld, IsAfter};
@@ -10,7 +10,7 @@ use crate::around_pins::{around, output};
 use audit_base::{Both, Outside, Part, Told};
 use audit_clock::{Pins, Ports};
 use audit_pulses::Pulses;
-use dio_machine::Call;
+use module_machines::dio::Call;
 
 /// The modules that have a state, as one: some, the pins, some, the pulse outputs, and some.
 pub type Modules<C, T, K, R> = Both<Both<C, Both<Pins, T>>, Both<Both<Pulses, K>, R>>;

@@ -3,7 +3,7 @@ ghost use Rattle.audit_base.specs.Outside.{AreTimes, ArePast};
 ghost use Rattle.audit_machines.specs.Happens as spec;
 ghost use Rattle.audit_machines.specs.Happens.{AreBefore, times_by};
 
-use pwm_machine::PwmTable;
+use module_machines::pwm::PwmTable;
 
 /// One for a configured channel.
 fn counted(table: &PwmTable, channel: u32) -> u32

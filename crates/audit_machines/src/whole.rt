@@ -1,10 +1,10 @@
 ghost use Rattle.std.specs.Prelude.{◌≡◌, ℕ, IfOk};
 ghost use Rattle.adc_machine.specs.Table.{AreSmall};
 ghost use Rattle.chip_model.specs.Wiring.{wiring_of, output_in};
-ghost use Rattle.dio_machine.specs.Table as ports;
-ghost use Rattle.mcu_machine.specs.Machine as clock;
-ghost use Rattle.mcu_machine.specs.Table as sections;
-ghost use Rattle.pwm_machine.specs.Table as pwm;
+ghost use Rattle.module_machines.specs.dio.Table as ports;
+ghost use Rattle.module_machines.specs.mcu.Machine as clock;
+ghost use Rattle.module_machines.specs.mcu.Table as sections;
+ghost use Rattle.module_machines.specs.pwm.Table as pwm;
 ghost use Rattle.run_model.specs.World.{world_start};
 ghost use Rattle.audit_base.specs.Outside.{IsWorld};
 ghost use Rattle.audit_base.specs.declared.outside.Outside as outside;
@@ -24,15 +24,15 @@ use audit_clock::{Clock, Pins, Ports, Watchdog};
 use audit_converters::Converters;
 use audit_pulses::Pulses;
 use audit_timers::Timers;
-use dio_machine::DioTable;
-use gpt_machine::GptTable;
-use icu_machine::IcuTable;
 use mcal_base::{Config, PwmChannel};
-use mcu_machine::McuTable;
-use port_machine::PortTable;
-use pwm_machine::PwmTable;
+use module_machines::dio::DioTable;
+use module_machines::gpt::GptTable;
+use module_machines::icu::IcuTable;
+use module_machines::mcu::McuTable;
+use module_machines::port::PortTable;
+use module_machines::pwm::PwmTable;
+use module_machines::wdg::WdgTable;
 use std::alloc::{AllocError, Global};
-use wdg_machine::WdgTable;
 
 /// The modules that have a state, in their order, with the serial one.
 pub type StateParts<S> = Modules<Both<Clock, Watchdog>, Timers, Captures, Both<Converters, S>>;

@@ -12,13 +12,13 @@ use Rattle.adc_machine.specs.declared.call.ResultBuffer.{ResultBuffer}
 use Rattle.adc_machine.specs.declared.call.ResultBuffer.TheVariants.{Zero, One}
 use Rattle.adc_machine.specs.declared.table.AdcTable.{AdcTable}
 use Rattle.chip_model.specs.Chip.{Chip, word_of}
-use Rattle.chip_units.specs.Pins as pins
-use Rattle.chip_units.specs.Pins.{mode_named}
+use Rattle.chip_blocks.specs.units.Pins as pins
+use Rattle.chip_blocks.specs.units.Pins.{mode_named}
 use Rattle.mcal_base.specs.declared.config.port.PortPinMode.{PortPinMode}
 use Rattle.mcal_base.specs.declared.config.port.PortPinMode.TheVariants as modes
-use Rattle.icu_machine.specs.Machine.{IcuState}
-use Rattle.icu_machine.specs.Table.{channel_of}
-use Rattle.icu_machine.specs.declared.table.IcuTable.{IcuTable}
+use Rattle.module_machines.specs.icu.Machine.{IcuState}
+use Rattle.module_machines.specs.icu.Table.{channel_of}
+use Rattle.module_machines.specs.declared.icu.table.IcuTable.{IcuTable}
 use Rattle.mcal_base.specs.declared.module_name.ModuleName.{ModuleName}
 use Rattle.mcal_base.specs.declared.module_name.ModuleName.TheVariants.{Icu, Adc, Spi}
 use Rattle.mcal_base.specs.declared.notice.Notice.{Notice}
@@ -26,9 +26,9 @@ use Rattle.mcal_base.specs.declared.notice.NoticeKind.{NoticeKind}
 use Rattle.mcal_base.specs.declared.notice.NoticeKind.TheVariants.{SpiJobEndNotification, SpiSeqEndNotification}
 use Rattle.mcal_base.specs.facts.Numbers.{lt_is, lt_isnt}
 use Rattle.mcal_base.specs.facts.Truths.{off_on}
-use Rattle.port_machine.specs.Bounds.{PinsAgree}
-use Rattle.port_machine.specs.Machine.{PortState}
-use Rattle.spi_jobs.specs.declared.channel.Channel.{Channel}
+use Rattle.module_machines.specs.port.Bounds.{PinsAgree}
+use Rattle.module_machines.specs.port.Machine.{PortState}
+use Rattle.word_shapes.specs.declared.jobs.channel.Channel.{Channel}
 use Rattle.spi_machine.specs.Bounds.{HoldsArrays, channels_by_kind}
 use Rattle.spi_machine.specs.State.{SpiState}
 use Rattle.spi_machine.specs.Table as serial

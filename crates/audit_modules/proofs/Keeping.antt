@@ -3,18 +3,18 @@ use Rattle.std.proofs.Common.{◌≡◌, ℕ, ◌+◌, ◌*◌, ◌≤◌, ◌�
 use Rattle.std.specs.Prelude.{slice_index, slice_set}
 use Rattle.adc_machine.specs.Words.{buffer_number}
 use Rattle.chip_model.specs.Chip.{Chip, after_read, chip_after, word_of}
-use Rattle.chip_pulses.specs.Pulses as pulses
-use Rattle.chip_units.specs.Pins as pins
+use Rattle.chip_blocks.specs.pulses.Pulses as pulses
+use Rattle.chip_blocks.specs.units.Pins as pins
 use Rattle.mcal_base.specs.declared.layout.TheConstants.{USERS}
 use Rattle.mcal_base.specs.declared.moves.Move.{Move}
 use Rattle.mcal_base.specs.declared.moves.Move.TheVariants.{Read, Write, Load, Store, Mask, Unmask, Note, Report}
 use Rattle.mcal_base.specs.declared.register.Reg.{Reg}
 use Rattle.mcal_base.specs.declared.register.Reg.TheVariants.{TimerLow, CaptureCountLow, CaptureTimeLow, ConverterAbort, PinFlip, EnableSet, EnableClear, SerialData}
-use Rattle.mcu_machine.specs.Bounds.{RamAgrees}
+use Rattle.module_machines.specs.mcu.Bounds.{RamAgrees}
 use Rattle.mcal_base.specs.facts.Numbers.{lt_is}
 use Rattle.mcal_base.specs.facts.Truths.{off_on}
-use Rattle.port_machine.specs.Bounds.{PinsAgree}
-use Rattle.pwm_machine.specs.Bounds.{OutputsAgree}
+use Rattle.module_machines.specs.port.Bounds.{PinsAgree}
+use Rattle.module_machines.specs.pwm.Bounds.{OutputsAgree}
 use Rattle.run_model.specs.World.{World}
 use Rattle.spi_machine.specs.State.{SpiState}
 use Rattle.spi_machine.specs.declared.table.SpiTable.{SpiTable}

@@ -6,11 +6,11 @@ use Rattle.adc_machine.specs.Words.{HoldsResults, place_count, result_word}
 use Rattle.adc_machine.specs.declared.call.ResultBuffer.{ResultBuffer}
 use Rattle.adc_machine.specs.declared.table.AdcTable.{AdcTable}
 use Rattle.chip_model.specs.Chip.{Chip, word_of}
-use Rattle.chip_units.specs.Pins as pins
-use Rattle.icu_machine.specs.Bounds.{HasStamps}
-use Rattle.icu_machine.specs.Machine.{IcuState}
-use Rattle.icu_machine.specs.Table.{channel_of}
-use Rattle.icu_machine.specs.declared.table.IcuTable.{IcuTable}
+use Rattle.chip_blocks.specs.units.Pins as pins
+use Rattle.module_machines.specs.icu.Bounds.{HasStamps}
+use Rattle.module_machines.specs.icu.Machine.{IcuState}
+use Rattle.module_machines.specs.icu.Table.{channel_of}
+use Rattle.module_machines.specs.declared.icu.table.IcuTable.{IcuTable}
 use Rattle.mcal_base.specs.Layout.{place_of}
 use Rattle.mcal_base.specs.declared.config.port.PortPinMode.{PortPinMode}
 use Rattle.mcal_base.specs.declared.config.port.PortPinMode.TheVariants as modes
@@ -18,10 +18,10 @@ use Rattle.mcal_base.specs.declared.layout.Array.TheVariants.{Source, Destinatio
 use Rattle.mcal_base.specs.declared.module_name.ModuleName.{ModuleName}
 use Rattle.mcal_base.specs.declared.module_name.ModuleName.TheVariants.{Icu, Adc, Spi}
 use Rattle.mcal_base.specs.declared.notice.Notice.{Notice}
-use Rattle.mcu_machine.specs.Bounds.{RamAgrees}
-use Rattle.port_machine.specs.Bounds.{PinsAgree}
-use Rattle.port_machine.specs.Machine.{PortState}
-use Rattle.pwm_machine.specs.Bounds.{OutputsAgree}
+use Rattle.module_machines.specs.mcu.Bounds.{RamAgrees}
+use Rattle.module_machines.specs.port.Bounds.{PinsAgree}
+use Rattle.module_machines.specs.port.Machine.{PortState}
+use Rattle.module_machines.specs.pwm.Bounds.{OutputsAgree}
 use Rattle.run_model.specs.World.{World}
 use Rattle.spi_machine.specs.Bounds.{HoldsArrays, channels_named}
 use Rattle.spi_machine.specs.Numbered.{word_at}

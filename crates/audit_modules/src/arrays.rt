@@ -9,8 +9,8 @@ ghost use Rattle.audit_serial.specs.Stands.{state_of};
 use audit_serial::Serials;
 use chip_model::Bus;
 use mcal_base::{DESTINATIONS, Notice, NoticeKind, SOURCES};
-use spi_jobs::Channel;
 use spi_machine::{ChannelList, JobList};
+use word_shapes::jobs::Channel;
 
 /// How many words an array of a channel has room for.
 const ROOM: u32 = 64;

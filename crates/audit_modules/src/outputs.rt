@@ -1,7 +1,7 @@
 ghost use Rattle.std.specs.Prelude.{◌≡◌};
-ghost use Rattle.chip_pulses.specs.Pulses as chip;
-ghost use Rattle.pwm_machine.specs.Bounds.{OutputsAgree};
-ghost use Rattle.pwm_machine.specs.Machine as machine;
+ghost use Rattle.chip_blocks.specs.pulses.Pulses as chip;
+ghost use Rattle.module_machines.specs.pwm.Bounds.{OutputsAgree};
+ghost use Rattle.module_machines.specs.pwm.Machine as machine;
 ghost use Rattle.run_model.specs.World.{World};
 ghost use Rattle.audit_frames.specs.Decides.{Decides};
 

@@ -1,15 +1,15 @@
 ghost use Rattle.std.specs.Prelude.{◌≡◌, ◌<◌, length};
 ghost use Rattle.std.specs.Bool.{OnTrue};
-ghost use Rattle.port_machine.specs.Bounds.{PinAgrees, PinsAgree};
-ghost use Rattle.port_machine.specs.Machine as spec;
-ghost use Rattle.port_machine.specs.Machine.{PortState, pin_at};
+ghost use Rattle.module_machines.specs.port.Bounds.{PinAgrees, PinsAgree};
+ghost use Rattle.module_machines.specs.port.Machine as spec;
+ghost use Rattle.module_machines.specs.port.Machine.{PortState, pin_at};
 ghost use Rattle.audit_clock.specs.PinStands.{StandsFor};
 ghost use Rattle.audit_frames.specs.Decides.{Decides};
 ghost use Rattle.audit_modules.specs.Agrees.{PinsUnless, mode_number};
 
 use crate::outputs::is_same;
 use audit_clock::Pins;
-use chip_units::PinBlock;
+use chip_blocks::units::PinBlock;
 use mcal_base::{PortPinDirection, PortPinMode};
 
 /// How many pins there are.

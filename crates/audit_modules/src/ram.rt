@@ -1,6 +1,6 @@
 ghost use Rattle.std.specs.Prelude.{◌≡◌, ◌<◌, slice_index};
-ghost use Rattle.mcu_machine.specs.Bounds.{RamAgrees};
-ghost use Rattle.mcu_machine.specs.Machine.{McuState, ram_at};
+ghost use Rattle.module_machines.specs.mcu.Bounds.{RamAgrees};
+ghost use Rattle.module_machines.specs.mcu.Machine.{McuState, ram_at};
 ghost use Rattle.audit_clock.specs.ClockStands.{StandsFor};
 ghost use Rattle.audit_frames.specs.Decides.{Decides};
 

@@ -1,10 +1,10 @@
 ghost use Rattle.std.specs.Prelude.{◌≡◌, ◌<◌, ℕ, is_some};
 ghost use Rattle.std.specs.Bool.{OnTrue};
 ghost use Rattle.chip_model.specs.Chip.{word_of};
-ghost use Rattle.icu_machine.specs.Bounds.{HasStamps};
-ghost use Rattle.icu_machine.specs.Machine.{IcuState};
-ghost use Rattle.icu_machine.specs.Shown.{stamp_at};
-ghost use Rattle.icu_machine.specs.Table.{channel_of};
+ghost use Rattle.module_machines.specs.icu.Bounds.{HasStamps};
+ghost use Rattle.module_machines.specs.icu.Machine.{IcuState};
+ghost use Rattle.module_machines.specs.icu.Shown.{stamp_at};
+ghost use Rattle.module_machines.specs.icu.Table.{channel_of};
 ghost use Rattle.mcal_base.specs.Layout.{place_of};
 ghost use Rattle.mcal_base.specs.declared.layout.Array.TheVariants.{Stamps};
 ghost use Rattle.audit_captures.specs.Stands.{StandsFor};
@@ -13,8 +13,8 @@ ghost use Rattle.audit_modules.specs.Agrees.{StampsIf};
 
 use audit_captures::Captures;
 use chip_model::Bus;
-use icu_machine::IcuTable;
 use mcal_base::STAMPS;
+use module_machines::icu::IcuTable;
 
 /// How many capture channels there may be.
 const CHANNELS: u32 = 8;

@@ -1,8 +1,8 @@
 -- A channel that fits one time fits each later one.
 use Rattle.std.proofs.Common.{ℕ, ◌≤◌, List, [], ◌∷◌, arith}
 use Rattle.std.specs.List.{AllByRecursion}
-use Rattle.pwm_machine.specs.Output.{Output, Idle, Runs, GivesWay}
-use Rattle.pwm_machine.specs.Units.{IsBegun}
+use Rattle.module_machines.specs.pwm.Output.{Output, Idle, Runs, GivesWay}
+use Rattle.module_machines.specs.pwm.Units.{IsBegun}
 use Rattle.audit_pulses.specs.Stands.{PulseFits}
 use Rattle.audit_pulses.specs.declared.pulse.Pulse.{Pulse}
 

@@ -2,10 +2,10 @@
 use Rattle.std.proofs.Common.{◌≡◌, ℕ, zero, suc, ◌+◌, ◌*◌, ◌^◌, ◌<◌, ◌≤◌, Bool, List, [], ◌++◌, length, map, refl, sym, ◌∙◌, ap, arith, Option, Some, None}
 use Rattle.std.proofs.lemmas.List.{length-map}
 use Rattle.mcal_base.specs.declared.moves.Move.{Move}
-use Rattle.pwm_machine.specs.Bounds.{duties, duty_of}
-use Rattle.pwm_machine.specs.Table.{channel_of}
-use Rattle.pwm_machine.specs.declared.table.Channel.{Channel}
-use Rattle.pwm_machine.specs.declared.table.PwmTable.{PwmTable}
+use Rattle.module_machines.specs.pwm.Bounds.{duties, duty_of}
+use Rattle.module_machines.specs.pwm.Table.{channel_of}
+use Rattle.module_machines.specs.declared.pwm.table.Channel.{Channel}
+use Rattle.module_machines.specs.declared.pwm.table.PwmTable.{PwmTable}
 use Rattle.audit_subject.specs.Marks.{is_met, marks, with_marks}
 use Rattle.audit_subject.proofs.Masks.{room}
 

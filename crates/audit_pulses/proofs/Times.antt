@@ -3,13 +3,13 @@ use Rattle.std.proofs.Common.{◌≡◌, ℕ, ◌<◌, ap, arith, refl, Option, 
 use Rattle.mcal_base.specs.declared.error_name.ErrorName.{ErrorName}
 use Rattle.run_model.specs.World.{World}
 use Rattle.run_model.specs.Machine.{Acts, outcome, tells_nothing}
-use Rattle.pwm_machine.specs.Machine.{Pulse, PwmState, acts, acts_by, happens, pulse_at, started, table, work}
-use Rattle.pwm_machine.specs.Checks.{error_by}
+use Rattle.module_machines.specs.pwm.Machine.{Pulse, PwmState, acts, acts_by, happens, pulse_at, started, table, work}
+use Rattle.module_machines.specs.pwm.Checks.{error_by}
 use Rattle.std.specs.Prelude.{true, not}
-use Rattle.pwm_machine.specs.Table.{channel_of}
-use Rattle.pwm_machine.specs.declared.call.Call.{Call}
-use Rattle.pwm_machine.specs.declared.call.Call.TheVariants.{Init, DeInit, GetOutputState, Channel}
-use Rattle.pwm_machine.specs.declared.table.PwmTable.{PwmTable}
+use Rattle.module_machines.specs.pwm.Table.{channel_of}
+use Rattle.module_machines.specs.declared.pwm.call.Call.{Call}
+use Rattle.module_machines.specs.declared.pwm.call.Call.TheVariants.{Init, DeInit, GetOutputState, Channel}
+use Rattle.module_machines.specs.declared.pwm.table.PwmTable.{PwmTable}
 
 abbrev AreSame : (ℕ → ℕ) → (ℕ → ℕ) → Type 0
 AreSame f g = (c : ℕ) → c < 8 → f c ≡ g c

@@ -1,7 +1,7 @@
 -- What a call about all channels writes to the output of each.
 use Rattle.std.specs.Prelude.{ℕ, Bool}
 use Rattle.mcal_base.specs.declared.moves.Move.{Move}
-use Rattle.pwm_machine.specs.Bounds.{commits_at, idles_at}
+use Rattle.module_machines.specs.pwm.Bounds.{commits_at, idles_at}
 use Rattle.audit_pulses.specs.declared.duties.Duty.{Duty}
 use Rattle.audit_pulses.specs.declared.duties.Duty.TheVariants.{Commit, Idle}
 

@@ -1,10 +1,10 @@
 -- How what the program keeps stands for the machine's state.
 use Rattle.std.specs.Prelude.{◌+◌, ◌<◌, ◌≤◌, ℕ, List, [], Bool, map, slice_index_or, if◌then◌else◌}
-use Rattle.chip_pulses.specs.declared.regime.Commit.{Commit}
-use Rattle.pwm_machine.specs.Machine as machine
-use Rattle.pwm_machine.specs.Output as outputs
-use Rattle.pwm_machine.specs.Units.{IsBegun}
-use Rattle.pwm_machine.specs.declared.table.PwmTable.{PwmTable}
+use Rattle.chip_blocks.specs.declared.pulses.regime.Commit.{Commit}
+use Rattle.module_machines.specs.pwm.Machine as machine
+use Rattle.module_machines.specs.pwm.Output as outputs
+use Rattle.module_machines.specs.pwm.Units.{IsBegun}
+use Rattle.module_machines.specs.declared.pwm.table.PwmTable.{PwmTable}
 use Rattle.audit_pulses.specs.declared.output.Output.{Output}
 use Rattle.audit_pulses.specs.declared.output.Output.TheVariants.{Idle, Runs, GivesWay}
 use Rattle.audit_pulses.specs.declared.pulse.Pulse.{Pulse}

@@ -1,10 +1,10 @@
 ghost use Rattle.std.specs.Prelude.{◌≡◌};
-ghost use Rattle.pwm_machine.specs.Checks as checks;
+ghost use Rattle.module_machines.specs.pwm.Checks as checks;
 
 use audit_base::{named, nothing};
-use det_errors::Facts;
+use mcal_base::det_errors::Facts;
 use mcal_base::{Answer, AnswerName};
-use pwm_machine::{Call, Channel, ChannelCall, PwmTable};
+use module_machines::pwm::{Call, Channel, ChannelCall, PwmTable};
 
 /// Whether the errors of a call hold, in their order: the module is uninitialised, or its argument is wrong.
 pub(crate) fn facts(driver: &PwmTable, call: Call, off: bool) -> Facts

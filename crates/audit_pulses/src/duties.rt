@@ -2,12 +2,12 @@
 
 ghost use Rattle.std.specs.Prelude.{◌≡◌, ◌<◌, ◌+◌, ◌*◌, ◌^◌};
 ghost use Rattle.audit_frames.specs.Told.{is_of_kind};
-ghost use Rattle.pwm_machine.specs.Bounds as bounds;
+ghost use Rattle.module_machines.specs.pwm.Bounds as bounds;
 ghost use Rattle.audit_subject.specs.Marks as masks;
 ghost use Rattle.audit_pulses.specs.Duties as spec;
 
 use mcal_base::{Move, Reg};
-use pwm_machine::{Call, Channel, PwmTable};
+use module_machines::pwm::{Call, Channel, PwmTable};
 
 /// What such a call does to the output of each channel.
 #[derive(Clone, Copy)]

@@ -1,7 +1,7 @@
 //! What frames of the pulse module may name.
 
 ghost use Rattle.std.specs.Prelude.{◌≡◌};
-ghost use Rattle.pwm_machine.specs.Bounds as spec;
+ghost use Rattle.module_machines.specs.pwm.Bounds as spec;
 
 use mcal_base::{Move, Reg};
 

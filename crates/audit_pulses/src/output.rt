@@ -1,12 +1,12 @@
 ghost use Rattle.std.specs.Prelude.{◌≡◌, ◌-◌};
-ghost use Rattle.chip_pulses.specs.Pulses as times;
-ghost use Rattle.chip_pulses.specs.Regime as regimes;
-ghost use Rattle.pwm_machine.specs.Output as spec;
-ghost use Rattle.pwm_machine.specs.Units.{IsBegun, chosen, output_in, regime_in};
+ghost use Rattle.chip_blocks.specs.pulses.Pulses as times;
+ghost use Rattle.chip_blocks.specs.pulses.Regime as regimes;
+ghost use Rattle.module_machines.specs.pwm.Output as spec;
+ghost use Rattle.module_machines.specs.pwm.Units.{IsBegun, chosen, output_in, regime_in};
 ghost use Rattle.audit_pulses.specs.Stands.{commit_of, output_of, regime_of};
 
 use crate::regime::{Next, Regime, turns_to};
-use pwm_machine::PwmEdge;
+use module_machines::pwm::PwmEdge;
 
 /// What an output does.
 #[derive(Clone, Copy)]

@@ -1,7 +1,7 @@
 use crate::pulses::Pulses;
 use audit_base::{Done, Outside, Part, Polled};
 use mcal_base::{ErrorName, Order, Reason, Service, Unit};
-use pwm_machine::{Call, PwmTable};
+use module_machines::pwm::{Call, PwmTable};
 use std::alloc::AllocError;
 use std::marker::Model;
 
@@ -9,7 +9,7 @@ use std::marker::Model;
 pub struct PulsesState;
 
 impl Model for PulsesState {
-    ghost use Rattle.pwm_machine.specs.Machine.{PwmState, first_state};
+    ghost use Rattle.module_machines.specs.pwm.Machine.{PwmState, first_state};
 
     ghost Value = { PwmState };
 

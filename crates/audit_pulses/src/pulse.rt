@@ -1,13 +1,13 @@
 ghost use Rattle.std.specs.Prelude.{◌≡◌, ◌≤◌};
-ghost use Rattle.pwm_machine.specs.Machine as spec;
-ghost use Rattle.pwm_machine.specs.Output as outputs;
-ghost use Rattle.pwm_machine.specs.Units.{IsBegun};
-ghost use Rattle.pwm_machine.specs.Table as table;
+ghost use Rattle.module_machines.specs.pwm.Machine as spec;
+ghost use Rattle.module_machines.specs.pwm.Output as outputs;
+ghost use Rattle.module_machines.specs.pwm.Units.{IsBegun};
+ghost use Rattle.module_machines.specs.pwm.Table as table;
 ghost use Rattle.audit_pulses.specs.Stands.{output_of, pulse_of, PulseFits};
 
 use crate::output::Output;
 use crate::regime::{Regime, absolute};
-use pwm_machine::{Channel, ChannelCall, PwmEdge};
+use module_machines::pwm::{Channel, ChannelCall, PwmEdge};
 
 /// A channel. Times are in peripheral ticks.
 #[derive(Clone, Copy)]

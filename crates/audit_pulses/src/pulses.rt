@@ -1,18 +1,18 @@
 ghost use Rattle.std.specs.Prelude.{◌≡◌, ◌==◌, ◌<◌, ◌≤◌, ℕ, Some, None, is_some, not, option_map, if◌then◌else◌};
-ghost use Rattle.det_errors.specs.Reports as errors;
+ghost use Rattle.mcal_base.specs.det_errors.Reports as errors;
 ghost use Rattle.run_model.specs.Machine.{Acts, Serves, outcome};
 ghost use Rattle.run_model.specs.World.{World};
-ghost use Rattle.pwm_machine.specs.Checks as checks;
-ghost use Rattle.pwm_machine.specs.Machine as spec;
-ghost use Rattle.pwm_machine.specs.Table.{channel_of, channel_of_line};
+ghost use Rattle.module_machines.specs.pwm.Checks as checks;
+ghost use Rattle.module_machines.specs.pwm.Machine as spec;
+ghost use Rattle.module_machines.specs.pwm.Table.{channel_of, channel_of_line};
 ghost use Rattle.audit_pulses.specs.Stands.{pulse_of, times_of, ArePast, PulseFits};
 
 use crate::checks::{facts, level_answer, refused};
 use crate::pulse::{Pulse, SILENT, polarity};
 use audit_base::{Notices, Told};
-use det_errors::first_error;
+use mcal_base::det_errors::first_error;
 use mcal_base::{ErrorName, Notice, NoticeKind};
-use pwm_machine::{Call, ChannelCall, PwmTable};
+use module_machines::pwm::{Call, ChannelCall, PwmTable};
 use std::marker::Model;
 
 /// The machine of the pulse outputs under a configuration, and the latest time that it was told, in peripheral ticks.
@@ -289,7 +289,7 @@ impl Pulses {
     pub fn report(&self, error: ErrorName) -> Option<bool>
         ensures { result ≡ errors.reported (checks.reporting self.now.driver) error }
     {
-        det_errors::reported(self.driver.detect, 1, error)
+        mcal_base::det_errors::reported(self.driver.detect, 1, error)
     }
 
     /// The chip is reset.

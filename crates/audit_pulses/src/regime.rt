@@ -1,7 +1,7 @@
 ghost use Rattle.std.specs.Prelude.{◌≡◌, ◌+◌, ◌-◌, ◌*◌, ◌%◌, ◌<◌, ◌≤◌, ◌^◌, not, nat_lt};
-ghost use Rattle.chip_pulses.specs.Regime as times;
-ghost use Rattle.pwm_machine.specs.Output as spec;
-ghost use Rattle.pwm_machine.specs.Units.{regime_in};
+ghost use Rattle.chip_blocks.specs.pulses.Regime as times;
+ghost use Rattle.module_machines.specs.pwm.Output as spec;
+ghost use Rattle.module_machines.specs.pwm.Units.{regime_in};
 ghost use Rattle.audit_pulses.specs.Stands.{regime_of, next_of};
 
 /// A period and an absolute duty from a time on, in peripheral ticks.

@@ -1,5 +1,5 @@
 ghost use Rattle.std.specs.Prelude.{◌≡◌, ◌≤◌};
-ghost use Rattle.pwm_machine.specs.Bounds as spec;
+ghost use Rattle.module_machines.specs.pwm.Bounds as spec;
 
 use crate::duties::owed;
 use crate::may::may;
@@ -8,7 +8,7 @@ use audit_base::Outside;
 use audit_frames::Counter;
 use audit_subject::Subject;
 use mcal_base::{ModuleName, Move, Unit};
-use pwm_machine::{Call, PwmTable};
+use module_machines::pwm::{Call, PwmTable};
 use run_model::Class;
 
 /// The most steps of a call about a channel, and of a handler.
@@ -33,7 +33,7 @@ fn whole_steps(table: &PwmTable) -> u32
 
 impl Subject for Pulses {
     ghost use Rattle.std.proofs.Common.{refl};
-    ghost use Rattle.pwm_machine.specs.Bounds.{pwm_setting};
+    ghost use Rattle.module_machines.specs.pwm.Bounds.{pwm_setting};
 
     ghost setting = { pwm_setting };
 

@@ -2,7 +2,7 @@
 use Rattle.std.proofs.Common.{◌≡◌, ℕ, ◌≤◌, true, false, List, Option, Some, None, refl, ap, ◌∙◌, arith}
 use Rattle.std.specs.Prelude.{is_some}
 use Rattle.mcal_base.specs.declared.answer_name.AnswerName.{AnswerName}
-use Rattle.spi_jobs.specs.declared.channel.Channel.{Channel}
+use Rattle.word_shapes.specs.declared.jobs.channel.Channel.{Channel}
 use Rattle.spi_machine.specs.Channels.{ChannelState}
 use Rattle.spi_machine.specs.Machine.{next_by}
 use Rattle.spi_machine.specs.Pending.{next_on}

@@ -1,6 +1,6 @@
 -- What is asked of a configuration.
 use Rattle.std.specs.Prelude.{◌≡◌, ◌≤◌, ℕ, Some}
-use Rattle.spi_jobs.specs.declared.channel.Channel.{Channel}
+use Rattle.word_shapes.specs.declared.jobs.channel.Channel.{Channel}
 use Rattle.spi_machine.specs.Table.{channel_of}
 use Rattle.spi_machine.specs.declared.table.SpiTable.{SpiTable}
 

@@ -8,10 +8,10 @@ ghost use Rattle.audit_serial.specs.Words.{goes_as, set_up_as, word_as};
 use crate::numbered::{Blank, item, set_item};
 use crate::words::{Goes, JobWord, push_words};
 use mcal_base::Words;
-use spi_jobs::Channel;
 use spi_machine::Pointer;
 use std::alloc::{AllocError, Global};
 use std::marker::Model;
+use word_shapes::jobs::Channel;
 
 /// How an external channel was last set up.
 #[derive(Clone, Copy)]

@@ -13,10 +13,10 @@ use crate::options::{channel_list, channels_listed};
 use crate::run::Run;
 use crate::words::{Goes, JobWord};
 use mcal_base::Words;
-use spi_jobs::Channel;
 use spi_machine::{Pointer, SpiTable};
 use std::alloc::{AllocError, Global};
 use std::marker::Model;
+use word_shapes::jobs::Channel;
 
 /// The channels by number. They are written here alone.
 #[derive(Drop)]

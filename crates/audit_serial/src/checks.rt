@@ -4,10 +4,10 @@ ghost use Rattle.spi_machine.specs.Table.{is_external_channel, is_internal_chann
 
 use crate::options::is_sent_at_once;
 use audit_base::{named, nothing};
-use det_errors::Facts;
+use mcal_base::det_errors::Facts;
 use mcal_base::{Answer, AnswerName};
-use spi_jobs::Channel;
 use spi_machine::{Call, ChannelCall, Query, SequenceCall, SpiTable};
+use word_shapes::jobs::Channel;
 
 /// Whether a channel is configured as an internal one.
 fn is_internal(channel: Option<Channel>) -> bool

@@ -11,8 +11,8 @@ ghost use Rattle.spi_machine.specs.Table as rows;
 
 use crate::options::unit_of;
 use mcal_base::{DESTINATIONS, Move, Reg, SOURCES};
-use spi_jobs::Channel;
 use spi_machine::{Call, SequenceCall, SpiTable};
+use word_shapes::jobs::Channel;
 
 /// The first of the module's own words.
 const OWN: u32 = 49_152;

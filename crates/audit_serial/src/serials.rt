@@ -1,5 +1,5 @@
 ghost use Rattle.std.specs.Prelude.{◌≡◌, ◌<◌, ◌≤◌, ◌+◌, ◌^◌, ◌&&◌, ◌∷◌, [], ℕ, List, None, Some, IfOk, is_some, not, option_map, if◌then◌else◌};
-ghost use Rattle.det_errors.specs.Reports as errors;
+ghost use Rattle.mcal_base.specs.det_errors.Reports as errors;
 ghost use Rattle.mcal_base.specs.declared.directive.Order.TheVariants as order;
 ghost use Rattle.mcal_base.specs.declared.directive.Reason.{Reason};
 ghost use Rattle.run_model.specs.Machine.{Acts, Moves, Restarts, Serves, Starts, outcome, tells_nothing};
@@ -344,7 +344,7 @@ impl Serials {
         ensures { result ≡ errors.reported (spec.reporting self.now.configured.table) error }
     {
         let table = &self.configured.table;
-        det_errors::reported(table.detect, table.classification, error)
+        mcal_base::det_errors::reported(table.detect, table.classification, error)
     }
 
     /// Whether the main function serves lines: the module is in polling mode.

@@ -1,11 +1,11 @@
 -- A call without an error has what it takes.
 use Rattle.std.proofs.Common.{◌≡◌, Bool, None, arith, zero, suc}
-use Rattle.gpt_machine.specs.Checks.{error_by}
+use Rattle.module_machines.specs.gpt.Checks.{error_by}
 use Rattle.audit_timers.specs.Stands.{CallTakes}
-use Rattle.gpt_machine.specs.declared.call.Call.{Call}
-use Rattle.gpt_machine.specs.declared.call.Call.TheVariants.{Init, DeInit, SetMode, Channel}
-use Rattle.gpt_machine.specs.declared.call.ChannelCall.TheVariants.{GetTimeElapsed, GetTimeRemaining, StartTimer, StopTimer, Change}
-use Rattle.gpt_machine.specs.declared.table.GptTable.{GptTable}
+use Rattle.module_machines.specs.declared.gpt.call.Call.{Call}
+use Rattle.module_machines.specs.declared.gpt.call.Call.TheVariants.{Init, DeInit, SetMode, Channel}
+use Rattle.module_machines.specs.declared.gpt.call.ChannelCall.TheVariants.{GetTimeElapsed, GetTimeRemaining, StartTimer, StopTimer, Change}
+use Rattle.module_machines.specs.declared.gpt.table.GptTable.{GptTable}
 
 pub takes-what : (d : GptTable) (call : Call) (u a b : Bool) → error_by d call u a b ≡ None → CallTakes call
 takes-what d Init u a b e = record {}

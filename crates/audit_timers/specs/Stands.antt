@@ -1,11 +1,11 @@
 -- How what the program keeps stands for the machine's state.
 use Rattle.std.specs.Prelude.{◌<◌, List, [], Bool, map, if◌then◌else◌}
-use Rattle.gpt_machine.specs.Machine as machine
-use Rattle.gpt_machine.specs.declared.call.Call.{Call}
-use Rattle.gpt_machine.specs.declared.call.Call.TheVariants.{Channel}
-use Rattle.gpt_machine.specs.declared.call.ChannelCall.{ChannelCall}
-use Rattle.gpt_machine.specs.declared.call.ChannelCall.TheVariants.{StartTimer}
-use Rattle.gpt_machine.specs.declared.table.GptTable.{GptTable}
+use Rattle.module_machines.specs.gpt.Machine as machine
+use Rattle.module_machines.specs.declared.gpt.call.Call.{Call}
+use Rattle.module_machines.specs.declared.gpt.call.Call.TheVariants.{Channel}
+use Rattle.module_machines.specs.declared.gpt.call.ChannelCall.{ChannelCall}
+use Rattle.module_machines.specs.declared.gpt.call.ChannelCall.TheVariants.{StartTimer}
+use Rattle.module_machines.specs.declared.gpt.table.GptTable.{GptTable}
 use Rattle.audit_timers.specs.declared.course.Course.{Course}
 use Rattle.audit_timers.specs.declared.course.Course.TheVariants.{Never, Running, Stopped}
 use Rattle.audit_timers.specs.declared.timers.Mode.{Mode}

@@ -1,10 +1,10 @@
 ghost use Rattle.std.specs.Prelude.{◌≡◌};
-ghost use Rattle.gpt_machine.specs.Checks as checks;
+ghost use Rattle.module_machines.specs.gpt.Checks as checks;
 
 use audit_base::{nothing, number};
-use det_errors::Facts;
-use gpt_machine::{Call, Change, Channel, ChannelCall, GptTable};
 use mcal_base::Answer;
+use mcal_base::det_errors::Facts;
+use module_machines::gpt::{Call, Change, Channel, ChannelCall, GptTable};
 
 /// Whether the errors of a call hold, in their order: the module is uninitialised, it sleeps, a channel is busy.
 pub(crate) fn facts(driver: &GptTable, call: Call, off: bool, asleep: bool, busy: bool) -> Facts

@@ -1,11 +1,11 @@
 ghost use Rattle.std.specs.Prelude.{◌≡◌, ◌<◌, nat_lt};
 ghost use Rattle.mcal_base.specs.Expiry.{expiries};
-ghost use Rattle.gpt_machine.specs.Machine as spec;
-ghost use Rattle.gpt_machine.specs.Table as table;
+ghost use Rattle.module_machines.specs.gpt.Machine as spec;
+ghost use Rattle.module_machines.specs.gpt.Table as table;
 ghost use Rattle.audit_timers.specs.Stands.{course_of, HasTarget};
 
 use audit_base::quotient;
-use gpt_machine::Channel;
+use module_machines::gpt::Channel;
 
 /// What a channel is about.
 #[derive(Clone, Copy)]

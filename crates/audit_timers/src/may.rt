@@ -1,7 +1,7 @@
 //! What frames of the timer module may name.
 
 ghost use Rattle.std.specs.Prelude.{◌≡◌};
-ghost use Rattle.gpt_machine.specs.Bounds as spec;
+ghost use Rattle.module_machines.specs.gpt.Bounds as spec;
 
 use mcal_base::{Move, Reg};
 

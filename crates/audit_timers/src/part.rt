@@ -1,7 +1,7 @@
 use crate::timers::Timers;
 use audit_base::{Done, Outside, Part, Polled};
-use gpt_machine::{Call, GptTable};
 use mcal_base::{ErrorName, Order, Reason, Service, Unit};
+use module_machines::gpt::{Call, GptTable};
 use std::alloc::AllocError;
 use std::marker::Model;
 
@@ -9,7 +9,7 @@ use std::marker::Model;
 pub struct TimersState;
 
 impl Model for TimersState {
-    ghost use Rattle.gpt_machine.specs.Machine.{GptState, first_state};
+    ghost use Rattle.module_machines.specs.gpt.Machine.{GptState, first_state};
 
     ghost Value = { GptState };
 

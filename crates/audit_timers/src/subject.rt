@@ -1,13 +1,13 @@
 ghost use Rattle.std.specs.Prelude.{◌≡◌, ◌≤◌};
-ghost use Rattle.gpt_machine.specs.Bounds as spec;
+ghost use Rattle.module_machines.specs.gpt.Bounds as spec;
 
 use crate::may::may;
 use crate::timers::Timers;
 use audit_base::Outside;
 use audit_frames::Counter;
 use audit_subject::Subject;
-use gpt_machine::{Call, ChannelCall, GptTable};
 use mcal_base::{ModuleName, Move, Unit};
+use module_machines::gpt::{Call, ChannelCall, GptTable};
 use run_model::Class;
 
 /// The most steps of a call about a channel, and of a handler.
@@ -32,7 +32,7 @@ fn whole_steps(table: &GptTable) -> u32
 
 impl Subject for Timers {
     ghost use Rattle.std.proofs.Common.{refl};
-    ghost use Rattle.gpt_machine.specs.Bounds.{gpt_setting};
+    ghost use Rattle.module_machines.specs.gpt.Bounds.{gpt_setting};
 
     ghost setting = { gpt_setting };
 

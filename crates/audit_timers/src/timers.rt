@@ -1,19 +1,19 @@
 ghost use Rattle.std.specs.Prelude.{◌≡◌, ◌==◌, ℕ, Some, None, is_some, option_map, if◌then◌else◌};
-ghost use Rattle.det_errors.specs.Reports as errors;
+ghost use Rattle.mcal_base.specs.det_errors.Reports as errors;
 ghost use Rattle.run_model.specs.Machine.{Acts, Serves, outcome};
 ghost use Rattle.run_model.specs.World.{World};
-ghost use Rattle.gpt_machine.specs.Machine as spec;
-ghost use Rattle.gpt_machine.specs.Checks as checks;
-ghost use Rattle.gpt_machine.specs.Table.{channel_of};
+ghost use Rattle.module_machines.specs.gpt.Machine as spec;
+ghost use Rattle.module_machines.specs.gpt.Checks as checks;
+ghost use Rattle.module_machines.specs.gpt.Table.{channel_of};
 ghost use Rattle.audit_timers.specs.Stands.{timing_of, HasTarget, TakesTarget, CallTakes, mode_of};
 
 use crate::checks::{facts, refused};
 use crate::course::Course;
 use crate::timing::{Timing, UNTOUCHED, changed, tells};
 use audit_base::{Notices, Told, number};
-use det_errors::first_error;
-use gpt_machine::{Call, Change, ChannelCall, GptMode, GptTable, Switches};
+use mcal_base::det_errors::first_error;
 use mcal_base::{ErrorName, Notice, NoticeKind};
+use module_machines::gpt::{Call, Change, ChannelCall, GptMode, GptTable, Switches};
 use std::marker::Model;
 
 /// Uninitialised, or the mode of an initialised module.
@@ -355,7 +355,7 @@ impl Timers {
     pub fn report(&self, error: ErrorName) -> Option<bool>
         ensures { result ≡ errors.reported (spec.reporting self.now.driver) error }
     {
-        det_errors::reported(self.driver.detect, self.driver.classification, error)
+        mcal_base::det_errors::reported(self.driver.detect, self.driver.classification, error)
     }
 
     /// The chip is reset.

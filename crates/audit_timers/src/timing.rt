@@ -1,9 +1,9 @@
 ghost use Rattle.std.specs.Prelude.{◌≡◌};
-ghost use Rattle.gpt_machine.specs.Machine as spec;
+ghost use Rattle.module_machines.specs.gpt.Machine as spec;
 ghost use Rattle.audit_timers.specs.Stands.{timing_of, HasTarget};
 
 use crate::course::Course;
-use gpt_machine::{Change, Channel, Switches};
+use module_machines::gpt::{Change, Channel, Switches};
 
 /// A channel.
 #[derive(Clone, Copy)]

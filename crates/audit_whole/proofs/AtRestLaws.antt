@@ -6,7 +6,7 @@ use Rattle.adc_machine.specs.Words.{buffer_number, place_count}
 use Rattle.adc_machine.specs.declared.call.ResultBuffer.{ResultBuffer}
 use Rattle.adc_machine.specs.declared.call.ResultBuffer.TheVariants.{Zero, One}
 use Rattle.config_facts.specs.Valid.{IsAdc, IsValid}
-use Rattle.dio_machine.specs.declared.table.DioTable.{DioTable}
+use Rattle.module_machines.specs.declared.dio.table.DioTable.{DioTable}
 use Rattle.mcal_base.specs.Layout.{length_of}
 use Rattle.mcal_base.specs.declared.config.whole.Config.{Config}
 use Rattle.mcal_base.specs.declared.layout.Array.{Array}
@@ -17,7 +17,7 @@ use Rattle.shown_rows.specs.Shows.{level_at, user_at as shown_at}
 use Rattle.shown_rows.proofs.Levels.{same_level}
 use Rattle.shown_rows.proofs.Limits.{within_limits}
 use Rattle.shown_rows.proofs.SoundConverters.{buffer_places}
-use Rattle.port_machine.specs.Machine as pins
+use Rattle.module_machines.specs.port.Machine as pins
 use Rattle.run_model.specs.World.{World}
 use Rattle.spi_machine.specs.State.{SpiState}
 use Rattle.spi_machine.specs.Table as serial_table

@@ -2,8 +2,8 @@
 use Rattle.std.specs.Prelude.{ℕ, false}
 use Rattle.adc_machine.specs.Words.{HoldsResults}
 use Rattle.chip_model.specs.Chip.{Chip, word_of}
-use Rattle.mcu_machine.specs.Bounds.{RamAgrees}
-use Rattle.pwm_machine.specs.Bounds.{OutputsAgree}
+use Rattle.module_machines.specs.mcu.Bounds.{RamAgrees}
+use Rattle.module_machines.specs.pwm.Bounds.{OutputsAgree}
 use Rattle.run_model.specs.World.{World}
 use Rattle.spi_machine.specs.State.{SpiState}
 use Rattle.spi_machine.specs.declared.table.SpiTable.{SpiTable}

@@ -1,8 +1,8 @@
 -- How many stamps are shown.
 use Rattle.std.specs.Prelude.{ℕ, ◌<◌, ◌≤◌, nat_le, Option, Some, None, if◌then◌else◌}
 use Rattle.std.specs.Option.{IfSome}
-use Rattle.icu_machine.specs.Machine.{IcuState}
-use Rattle.icu_machine.specs.Shown.{size_of}
+use Rattle.module_machines.specs.icu.Machine.{IcuState}
+use Rattle.module_machines.specs.icu.Shown.{size_of}
 use Rattle.mcal_base.specs.Layout.{length_of}
 use Rattle.mcal_base.specs.declared.config.whole.Config.{Config}
 use Rattle.mcal_base.specs.declared.layout.Array.TheVariants.{Stamps}

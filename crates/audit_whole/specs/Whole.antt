@@ -2,27 +2,27 @@
 use Rattle.std.specs.Prelude.{ℕ, ◌≤◌, ◌==◌, Bool, false, ◌||◌, length}
 use Rattle.adc_machine.specs.Bounds.{adc_setting}
 use Rattle.adc_machine.specs.declared.call.Call as converter_calls
-use Rattle.dio_machine.specs.declared.call.Call as port_calls
-use Rattle.gpt_machine.specs.Bounds.{gpt_setting}
-use Rattle.gpt_machine.specs.declared.call.Call as timer_calls
-use Rattle.icu_machine.specs.Bounds.{icu_setting}
-use Rattle.icu_machine.specs.declared.call.Call as capture_calls
+use Rattle.module_machines.specs.declared.dio.call.Call as port_calls
+use Rattle.module_machines.specs.gpt.Bounds.{gpt_setting}
+use Rattle.module_machines.specs.declared.gpt.call.Call as timer_calls
+use Rattle.module_machines.specs.icu.Bounds.{icu_setting}
+use Rattle.module_machines.specs.declared.icu.call.Call as capture_calls
 use Rattle.mcal_base.specs.declared.module_name.ModuleName.{ModuleName}
 use Rattle.mcal_base.specs.declared.module_name.ModuleName.TheVariants.{Mcu, Port, Gpt, Pwm, Icu, Adc, Spi, Wdg}
-use Rattle.mcu_machine.specs.Bounds.{mcu_setting}
-use Rattle.mcu_machine.specs.declared.call.Call as clock_calls
-use Rattle.port_machine.specs.Bounds.{is_alone, port_setting}
-use Rattle.port_machine.specs.declared.call.Call as pin_calls
-use Rattle.pwm_machine.specs.Bounds.{pwm_setting}
-use Rattle.pwm_machine.specs.declared.call.Call as pulse_calls
+use Rattle.module_machines.specs.mcu.Bounds.{mcu_setting}
+use Rattle.module_machines.specs.declared.mcu.call.Call as clock_calls
+use Rattle.module_machines.specs.port.Bounds.{is_alone, port_setting}
+use Rattle.module_machines.specs.declared.port.call.Call as pin_calls
+use Rattle.module_machines.specs.pwm.Bounds.{pwm_setting}
+use Rattle.module_machines.specs.declared.pwm.call.Call as pulse_calls
 use Rattle.run_model.specs.Frame.{Origin, Called, Entered}
 use Rattle.run_model.specs.Moment.{Setting}
 use Rattle.spi_machine.specs.Bounds.{spi_setting}
 use Rattle.spi_machine.specs.State.{SpiState}
 use Rattle.spi_machine.specs.declared.call.Call as serial_calls
 use Rattle.spi_machine.specs.declared.table.SpiTable.{SpiTable}
-use Rattle.wdg_machine.specs.Bounds.{wdg_setting}
-use Rattle.wdg_machine.specs.declared.call.Call as watchdog_calls
+use Rattle.module_machines.specs.wdg.Bounds.{wdg_setting}
+use Rattle.module_machines.specs.declared.wdg.call.Call as watchdog_calls
 use Rattle.audit_base.specs.declared.either.Either.{Either}
 use Rattle.audit_base.specs.declared.either.Either.TheVariants.{Left, Right}
 use Rattle.audit_machines.specs.System.{SystemState, Tables}

@@ -3,7 +3,7 @@ ghost use Rattle.std.specs.Option.{option_map};
 ghost use Rattle.adc_machine.specs.Turns.{AdcState};
 ghost use Rattle.adc_machine.specs.Words as words;
 ghost use Rattle.config_facts.specs.Valid.{IsValid};
-ghost use Rattle.icu_machine.specs.Machine.{IcuState};
+ghost use Rattle.module_machines.specs.icu.Machine.{IcuState};
 ghost use Rattle.mcal_base.specs.Layout.{Exists, room_of};
 ghost use Rattle.spi_machine.specs.State.{wire_at};
 ghost use Rattle.audit_base.specs.Outside.{IsWorld};
@@ -25,10 +25,10 @@ use audit_machines::{AllModules, HasPins};
 use audit_serial::Serials;
 use mcal_base::{Array, Config};
 use shown_rows::{Exchange, ShownBoard, Words};
-use spi_jobs::Channel;
 use spi_machine::SpiTable;
 use std::alloc::{AllocError, Global};
 use std::marker::Model;
+use word_shapes::jobs::Channel;
 
 /// Modules as a checker knows them, while no frame is under way. Of the configuration it keeps what is asked of each converter
 /// group and serial channel.

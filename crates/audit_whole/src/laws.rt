@@ -1,6 +1,6 @@
 ghost use Rattle.std.specs.Prelude.{◌≡◌, ◌<◌, ℕ, List, Option, true};
 ghost use Rattle.config_facts.specs.Valid.{IsValid};
-ghost use Rattle.dio_machine.specs.declared.table.DioTable.{DioTable};
+ghost use Rattle.module_machines.specs.declared.dio.table.DioTable.{DioTable};
 ghost use Rattle.mcal_base.specs.declared.config.whole.Config.{Config};
 ghost use Rattle.mcal_base.specs.declared.directive.Request.{Request};
 ghost use Rattle.mcal_base.specs.declared.moves.Move.TheVariants.{Read};

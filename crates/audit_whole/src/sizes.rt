@@ -1,8 +1,8 @@
 ghost use Rattle.std.specs.Prelude.{◌≡◌, ◌<◌, ◌≤◌, ◌==◌, true};
 ghost use Rattle.std.specs.List.{list_any};
 ghost use Rattle.std.specs.Option.{IfSome};
-ghost use Rattle.icu_machine.specs.Machine.{IcuState};
-ghost use Rattle.icu_machine.specs.Shown.{size_of};
+ghost use Rattle.module_machines.specs.icu.Machine.{IcuState};
+ghost use Rattle.module_machines.specs.icu.Shown.{size_of};
 ghost use Rattle.mcal_base.specs.Layout.{length_of, of_id};
 ghost use Rattle.mcal_base.specs.declared.config.icu.IcuChannel as configs;
 ghost use Rattle.mcal_base.specs.declared.layout.Array.TheVariants.{Stamps};

@@ -109,7 +109,7 @@ pub trait Whole: Subject + Drop {
     /// A line that is due is one that a configured object uses, or a serial unit's.
     ghost asked_lines: { (m : Self) (w : World) (s : Self.State) (l : ℕ) → Self.stands m s → (Self.member (Self.table m)).machine.due w s l ≡ true → ((Self.member (Self.table m)).lines l || is_serial_line l) ≡ true };
 
-    /// Ticks leave units so that may neither start nor abort.
+    /// Units that may neither start nor abort stay so through ticks.
     ghost ticked: { (t : Self.Table) (w : World) (s : Self.State) (n : ℕ) (u : Unit) → (Self.setting t).machine.startable w s u ≡ false →
         (Self.setting t).machine.startable (world_after w ((Self.setting t).machine.rate s) (Tick n)) (frame.state_by s ((Self.setting t).machine.happens w s (Moves (Tick n)))) u ≡ false };
 

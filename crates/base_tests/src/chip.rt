@@ -15,7 +15,7 @@ use trace_reader::Step;
 const EXCHANGES: usize = 1_000;
 
 /// What hangs on the serial units.
-type Rack = Vec<Box<dyn SerialDevice>>;
+pub type Rack = Vec<Box<dyn SerialDevice>>;
 
 /// A pulse output with its pin.
 fn pulse_output(id: u32, pin: u32) -> PwmChannel {

@@ -2,8 +2,8 @@ ghost use Rattle.std.specs.Prelude.{length, ◌^◌, ◌<◌};
 
 use crate::line::{Line, number};
 use bench_script::service_named;
-use det_errors::{Facts, first_error, text};
 use mcal_base::Service;
+use mcal_base::det_errors::{Facts, first_error, text};
 
 /// The spelling of the first error of a service, where the conditions of these bits hold.
 fn spelled(service: Service, bits: u32) -> &'static str {

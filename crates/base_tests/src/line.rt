@@ -44,23 +44,31 @@ pub fn reason(number: u32) -> Reason {
 
 /// An access by its words, the value in any base.
 pub fn step(alloc: Global, text: &str) -> Result<Option<Step>, AllocError> {
-    let mut words = text.splitn(4, ' ');
-    let (Some(word), Some(name), Some(value)) = (words.next(), words.next(), words.next()) else {
+    let Some((word, behind)) = text.split_once(' ') else {
         return Ok(None);
     };
-    let Some(value) = number(value) else {
+    let Some((name, behind)) = behind.split_once(' ') else {
         return Ok(None);
     };
-    let printed = match words.next() {
-        Some(rest) => format!(in alloc; "1 step 1 {word} {name} {value} {rest}")?,
-        None => format!(in alloc; "1 step 1 {word} {name} {value}")?,
+    let (digits, gap, rest) = match behind.split_once(' ') {
+        Some((digits, rest)) => (digits, " ", rest),
+        None => (behind, "", ""),
     };
+    let Some(value) = number(digits) else {
+        return Ok(None);
+    };
+    let printed = format!(in alloc; "1 step 1 {word} {name} {value}{gap}{rest}")?;
     match read_line(alloc, printed.as_bytes())? {
-        Some(line) => match line.told {
-            Told::Step(step) => Ok(Some(step)),
-            _ => Ok(None),
-        },
+        Some(line) => Ok(step_of(line.told)),
         None => Ok(None),
+    }
+}
+
+/// The step that a line of a report tells.
+fn step_of(told: Told) -> Option<Step> {
+    match told {
+        Told::Step(step) => Some(step),
+        _ => None,
     }
 }
 

@@ -16,18 +16,31 @@
 //! - `orders`: orders and banks that drivers keep in words
 //! - `enables`: the interrupt controller
 //! - `errors`: a service, the conditions that hold, the last one first, and the first error
+//! - `bells`: a small module's call and its handler of line 3: `call LEVEL OUTCOME` and `serve OUTCOME` (`begun`, or what
+//!   holds it), `step MOVE` (`closes`, `opens`, `notes`, or what holds it), `frames COUNT`, `reset COUNT`
+//! - `pair`: two such modules as one: `first LEVEL OUTCOME`, `second LEVEL OUTCOME`, `serve LINE OUTCOME`, `level LINE LEVEL`,
+//!   `frames COUNT`, `clear COUNT`
+//! - `cells`: the three cells of `driver_examples` (`three`): `put CELL WORD`, `get CELL WORD`
+//! - `house`: the two cells of its module `guest` with their visitor: `put`, `get`, `leave WORD`, `look WORD`, `stray`,
+//!   `frames COUNT`
+//! - `limit`: two calls of `Gpt_Init` within so many steps: `limit STEPS ITEMS STOPPED`
 #![tactic(auto)]
 
 ghost use Rattle.std.specs.Prelude.{length, ◌≤◌};
 
+mod bells;
+mod cells;
 mod chip;
 mod enables;
 mod errors;
+mod limit;
 mod line;
+mod modules;
 mod orders;
 mod others;
 mod timed;
 mod units;
+mod visits;
 
 use line::Line;
 use std::alloc::{AllocError, Global};
@@ -48,16 +61,10 @@ fn main(rt: HostRuntime) -> io::Result<()> {
     };
     for table in text.split(MARK) {
         if let Some((title, lines)) = table.split_once('\n') {
-            print(&rt, title, lines)?;
+            play(&rt, title, lines)?;
         }
     }
     Ok(())
-}
-
-/// Plays a table and prints how that ended.
-fn print(rt: &HostRuntime, title: &str, text: &str) -> io::Result<()> {
-    let ended = played(rt.alloc(), title, text)?;
-    println!(rt; "{title}: {ended}")
 }
 
 /// The lines of a table.
@@ -71,18 +78,20 @@ fn lines_of(alloc: Global, text: &str) -> Result<Vec<Line<'_>>, AllocError> {
     Ok(lines)
 }
 
-/// Plays a table and tells how that ended.
-fn played(alloc: Global, title: &str, text: &str) -> Result<String, AllocError> {
-    let lines = lines_of(alloc, text)?;
+/// Plays a table and prints how that ended.
+fn play(rt: &HostRuntime, title: &str, text: &str) -> io::Result<()> {
+    let Some((kind, _)) = title.split_once(' ') else {
+        return println!(rt; "{title}: no kind");
+    };
+    let lines = lines_of(rt.alloc(), text)?;
     let count = lines.len();
     if count > MOST_LINES {
-        return String::from_str(alloc, "too long");
+        return println!(rt; "{title}: too long");
     }
-    let (kind, _) = title.split_once(' ').unwrap_or((title, ""));
-    match first_wrong(alloc, kind, lines.as_slice())? {
-        Some(0) => format!(in alloc; "{count} lines hold"),
-        Some(place) => format!(in alloc; "line {place} doesn't hold"),
-        None => String::from_str(alloc, "no kind"),
+    match first_wrong(rt.alloc(), kind, lines.as_slice())? {
+        Some(0) => println!(rt; "{title}: {count} lines hold"),
+        Some(place) => println!(rt; "{title}: line {place} doesn't hold"),
+        None => println!(rt; "{title}: no kind"),
     }
 }
 
@@ -100,6 +109,11 @@ fn first_wrong(alloc: Global, kind: &str, lines: &[Line<'_>]) -> Result<Option<u
         "orders" => orders::first_wrong(lines),
         "enables" => enables::first_wrong(lines),
         "errors" => errors::first_wrong(lines),
+        "bells" => modules::first_wrong(alloc, lines)?,
+        "pair" => modules::first_wrong_of_two(alloc, lines)?,
+        "cells" => cells::first_wrong(alloc, lines)?,
+        "house" => visits::first_wrong(alloc, lines)?,
+        "limit" => limit::first_wrong(alloc, lines)?,
         _ => return Ok(None),
     };
     Ok(Some(place))

@@ -24,13 +24,19 @@ const WRONG: u32 = 1_001;
 /// Does a move on the words, and tells what it gives; none where it is neither a load nor a store of one of them.
 fn acted(words: &mut [u32], made: Move) -> Option<u32> {
     match made {
-        Move::Load(word) if (word as usize) < words.len() => Some(words[word as usize]),
-        Move::Store(word, value) if (word as usize) < words.len() => {
-            words[word as usize] = value;
-            Some(0)
-        }
+        Move::Load(word) => words.get(word as usize).copied(),
+        Move::Store(word, value) => stored(words, word as usize, value),
         _ => None,
     }
+}
+
+/// Stores to a word, and gives 0; none where there is no such word.
+fn stored(words: &mut [u32], word: usize, value: u32) -> Option<u32> {
+    if word >= words.len() {
+        return None;
+    }
+    words[word] = value;
+    Some(0)
 }
 
 /// The number that an answer has.

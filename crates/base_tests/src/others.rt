@@ -1,7 +1,7 @@
 ghost use Rattle.std.specs.Prelude.{length, ◌≤◌, ◌+◌, ◌^◌, ◌<◌};
 
 use crate::line::{Line, numbers, reason};
-use chip_units::{ClockBlock, PinBlock, RamBlock, SerialBlock};
+use chip_blocks::units::{ClockBlock, PinBlock, RamBlock, SerialBlock};
 use mcal_base::{Config, Move, Reason, Reg};
 
 /// The clock, the pins, the RAM words and the serial units. Each access is given to all of them, so a register of

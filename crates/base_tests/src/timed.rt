@@ -1,9 +1,9 @@
 ghost use Rattle.std.specs.Prelude.{length, ◌≤◌, ◌+◌, ◌^◌, ◌<◌};
 
 use crate::line::{Line, numbers};
-use chip_captures::CaptureBlock;
-use chip_pulses::PulseBlock;
-use chip_timers::TimerBlock;
+use chip_blocks::captures::CaptureBlock;
+use chip_blocks::pulses::PulseBlock;
+use chip_blocks::timers::TimerBlock;
 use mcal_base::{Config, IcuChannel, IcuConfig, Move, Reg, Short};
 
 /// The blocks of timers, pulses and captures. A block gives 0 for a register that isn't its own.

@@ -1,8 +1,8 @@
 ghost use Rattle.std.specs.Prelude.{length, ◌≡◌, ◌≤◌, ◌+◌, ◌^◌, ◌<◌};
 
 use crate::line::{Line, numbers};
-use chip_converter::ConverterBlock;
-use chip_units::SerialBlock;
+use chip_blocks::converter::ConverterBlock;
+use chip_blocks::units::SerialBlock;
 use mcal_base::{Config, Move, Reg};
 
 /// The converter block and the serial block, on one time. Each access is given to both, so a register of the other

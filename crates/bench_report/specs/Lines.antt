@@ -15,7 +15,7 @@ use Rattle.mcal_base.specs.declared.notice.Notice.{Notice}
 use Rattle.mcal_base.specs.declared.register.Reg.TheVariants as regs
 use Rattle.mcal_base.specs.declared.service.Service.{Service}
 use Rattle.mcal_base.specs.Names.{service_text, answer_text, notice_text}
-use Rattle.det_errors.specs.Spelling.{error_text}
+use Rattle.mcal_base.specs.det_errors.Spelling.{error_text}
 use Rattle.bench_report.specs.Registers.{register_text}
 use Rattle.bench_report.specs.Rows.{Row, row_text}
 use Rattle.bench_report.specs.declared.lines.Line as written

@@ -67,7 +67,7 @@ impl fmt::Display for Found {
             self.development
         };
         let service = self.error.service.text();
-        let error = det_errors::text(self.error.error);
+        let error = mcal_base::det_errors::text(self.error.error);
         write!(f, "{word} {service} {error}")
     }
 }

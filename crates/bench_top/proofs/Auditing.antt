@@ -20,8 +20,8 @@ use Rattle.bench_script.specs.declared.fault.ScriptFault.TheVariants.{Long}
 use Rattle.audit_machines.specs.Requests.{has_service}
 use Rattle.report_modules.specs.Judged.{IsVerdict}
 use Rattle.report_modules.proofs.VerdictLaws.{CanAudit, can_audit, one_verdict, passed_audited, passed_by}
-use Rattle.report_reading.specs.declared.verdict.Verdict.{Verdict}
-use Rattle.report_reading.specs.declared.verdict.Verdict.TheVariants.{Passed, Fault}
+use Rattle.report_text.specs.declared.reading.verdict.Verdict.{Verdict}
+use Rattle.report_text.specs.declared.reading.verdict.Verdict.TheVariants.{Passed, Fault}
 use Rattle.bench_top.specs.Audited.{InputParts, audited_parts, file_length, parts_behind, parts_from, parts_split, split_report, verdict_status}
 use Rattle.bench_top.specs.declared.parts.NoParts.{NoParts}
 use Rattle.bench_top.specs.declared.parts.NoParts.TheVariants as missing

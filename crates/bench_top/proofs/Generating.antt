@@ -12,8 +12,8 @@ use Rattle.bench_generator.specs.Generated.{first_line, generated}
 use Rattle.bench_generator.proofs.Validity.{board_is_valid}
 use Rattle.mcal_system.specs.Runs.{bound_of}
 use Rattle.mcal_system.specs.Setting.{has_service}
-use Rattle.generator_laws.proofs.Generated.{generated_is_script, generated_offered}
-use Rattle.generator_laws.proofs.Within.{generated_within}
+use Rattle.board_promises.proofs.Generated.{generated_is_script, generated_offered}
+use Rattle.board_promises.proofs.Within.{generated_within}
 use Rattle.bench_top.specs.Judged.{Ending, Generates}
 use Rattle.bench_top.specs.Calls.{Stream}
 use Rattle.bench_top.specs.Outcomes.{Concludes, Ends, Keeps}

@@ -23,8 +23,8 @@ use Rattle.bench_top.specs.declared.words.Printing.{Printing}
 use Rattle.bench_top.specs.declared.words.Task.{Task}
 use Rattle.bench_top.specs.declared.words.Task.TheVariants.{Check, Run}
 use Rattle.bench_top.specs.Calls.{Stream, MeetsFault, Writes}
-use Rattle.report_reading.specs.declared.verdict.Verdict.{Verdict}
-use Rattle.report_reading.specs.declared.verdict.Verdict.TheVariants.{Passed, Fault}
+use Rattle.report_text.specs.declared.reading.verdict.Verdict.{Verdict}
+use Rattle.report_text.specs.declared.reading.verdict.Verdict.TheVariants.{Passed, Fault}
 use Rattle.bench_top.specs.Audited.{InputParts, audited_parts, verdict_status}
 use Rattle.bench_top.specs.declared.parts.NoParts.{NoParts}
 use Rattle.bench_top.specs.declared.parts.NoParts.TheVariants as missing

@@ -1,8 +1,8 @@
 -- The parts of what an audit is given, and what it prints of them.
 use Rattle.std.specs.Prelude.{ℕ, ◌+◌, ◌-◌, nat_lt, List, ◌++◌, length, Option, Some, None, Result, Ok, Err, codes, decimal, if◌then◌else◌}
 use Rattle.bench_script.specs.Lines.{file, split_at}
-use Rattle.report_reading.specs.declared.verdict.Verdict.{Verdict}
-use Rattle.report_reading.specs.declared.verdict.Verdict.TheVariants.{Passed, Fault}
+use Rattle.report_text.specs.declared.reading.verdict.Verdict.{Verdict}
+use Rattle.report_text.specs.declared.reading.verdict.Verdict.TheVariants.{Passed, Fault}
 use Rattle.bench_top.specs.declared.parts.NoParts.{NoParts}
 use Rattle.bench_top.specs.declared.parts.NoParts.TheVariants.{NoSeparator, NoReport, TooLong}
 

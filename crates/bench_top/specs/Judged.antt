@@ -23,7 +23,7 @@ use Rattle.bench_top.specs.declared.file.FileEnd.TheVariants as unread
 use Rattle.bench_top.specs.declared.parts.NoParts.{NoParts}
 use Rattle.bench_top.specs.declared.parts.NoParts.TheVariants as missing
 use Rattle.bench_top.specs.declared.words.Form.{Form}
-use Rattle.report_reading.specs.declared.verdict.Verdict.{Verdict}
+use Rattle.report_text.specs.declared.reading.verdict.Verdict.{Verdict}
 use Rattle.bench_top.specs.declared.words.Form.TheVariants.{File, Gen, Audit}
 use Rattle.bench_top.specs.declared.words.Printing.{Printing}
 use Rattle.bench_top.specs.declared.words.Task.{Task}

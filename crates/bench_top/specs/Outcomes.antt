@@ -9,7 +9,7 @@ use Rattle.bench_generator.specs.Generated.{first_line, generated}
 use Rattle.mcal_base.specs.declared.config.whole.Config.{Config}
 use Rattle.mcal_base.specs.declared.directive.Directive.{Directive}
 use Rattle.report_modules.specs.Judged.{IsVerdict}
-use Rattle.report_reading.specs.declared.verdict.Verdict.{Verdict}
+use Rattle.report_text.specs.declared.reading.verdict.Verdict.{Verdict}
 use Rattle.bench_top.specs.Calls.{Stream, MeetsFault, Writes}
 use Rattle.bench_top.specs.Judged.{Ending, Judgement, Prints, Runs, Generates, Audits, judged, too_many_steps, too_long_report, verdict_ending}
 use Rattle.bench_top.specs.Runs.{IsWholeRun, IsStoppedRun, report_of, end_line_of}

@@ -8,7 +8,7 @@ use Rattle.bench_script.specs.declared.fault.ScriptFault.TheVariants.{Long}
 use Rattle.config_keys.specs.declared.fault.ConfigFault.{ConfigFault}
 use Rattle.mcal_config.specs.Whole.{fault_of, record_of}
 pub use Rattle.report_modules.specs.Judged.{IsAudited, IsSystemReport, IsVerdict, journal_of}
-use Rattle.report_reading.specs.declared.verdict.Verdict.TheVariants.{Fault}
+use Rattle.report_text.specs.declared.reading.verdict.Verdict.TheVariants.{Fault}
 use Rattle.bench_top.specs.Audited.{InputParts, audited_parts}
 use Rattle.bench_top.specs.Statuses.{is_long}
 use Rattle.bench_top.specs.declared.parts.NoParts.TheVariants.{NoSeparator, NoReport, TooLong}

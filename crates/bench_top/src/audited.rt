@@ -8,7 +8,7 @@ use crate::parts::{NoParts, Parts, parts_of};
 use crate::refusal::Refusal;
 use mcal_base::NoMemory;
 use report_modules::audit;
-use report_reading::Verdict;
+use report_text::reading::Verdict;
 use std::alloc::{AllocError, Global};
 
 /// Why bytes have no verdict.

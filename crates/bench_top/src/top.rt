@@ -25,7 +25,7 @@ use crate::words::{Form, Printing, Task, form_of};
 use bench_generator::board;
 use bench_report::{ReportEnd, report};
 use mcal_base::{Config, Directive, Sink, Source};
-use report_reading::Verdict;
+use report_text::reading::Verdict;
 use run_model::Journal;
 use serial_devices::SerialDevice;
 use std::alloc::{AllocError, Global};

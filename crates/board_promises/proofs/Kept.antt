@@ -19,12 +19,12 @@ use Rattle.spi_machine.specs.Table as serial_table
 use Rattle.spi_machine.specs.declared.table.Job.{Job}
 use Rattle.spi_machine.specs.declared.table.SpiTable.{SpiTable}
 use Rattle.spi_driver.specs.laws.words.ConfigurationFits as serial_fits
-use Rattle.whole_runs.proofs.EndsOnce.{end_once}
-use Rattle.whole_runs.proofs.WholeRounds.{whole_rounds}
-use Rattle.whole_runs.proofs.Promises.{groups_keep, sequences_keep, part_allowed, journal_says}
-use Rattle.run_laws.proofs.EndResults.{all_ended_as}
-use Rattle.run_laws.proofs.RoundStories.{all_served_right}
-use Rattle.run_laws.proofs.SentCalls.{all_sent_so}
+use Rattle.board_promises.proofs.EndsOnce.{end_once}
+use Rattle.board_promises.proofs.WholeRounds.{whole_rounds}
+use Rattle.board_promises.proofs.Promises.{groups_keep, sequences_keep, part_allowed, journal_says}
+use Rattle.board_promises.proofs.EndResults.{all_ended_as}
+use Rattle.board_promises.proofs.RoundStories.{all_served_right}
+use Rattle.board_promises.proofs.SentCalls.{all_sent_so}
 use Rattle.mcal_drivers.proofs.SoundSerial.{sound_serial}
 use Rattle.mcal_drivers.specs.Setting.{system_setting, call_of}
 use Rattle.board_promises.specs.Expiries.{ResetsInTime}

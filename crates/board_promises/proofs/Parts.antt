@@ -8,28 +8,28 @@ use Rattle.run_model.specs.World.{World}
 use Rattle.step_runner.specs.Union.{first_call}
 use Rattle.step_runner.specs.declared.either.Either.{Either}
 use Rattle.step_runner.specs.declared.either.Either.TheVariants.{Left, Right}
-use Rattle.guest_runner.specs.Guest.{Guest, guest_happens, guest_machine}
-use Rattle.dio_machine.specs.Machine.{does_by}
-use Rattle.dio_machine.specs.Table as port_table
-use Rattle.dio_machine.specs.declared.table.PortPins.{PortPins}
-use Rattle.dio_machine.specs.declared.call.Call as port_calls
-use Rattle.dio_machine.specs.declared.call.Call.TheVariants as port_call
-use Rattle.pwm_machine.specs.Table as pulse_table
+use Rattle.service_outline.specs.guests.Guest.{Guest, guest_happens, guest_machine}
+use Rattle.module_machines.specs.dio.Machine.{does_by}
+use Rattle.module_machines.specs.dio.Table as port_table
+use Rattle.module_machines.specs.declared.dio.table.PortPins.{PortPins}
+use Rattle.module_machines.specs.declared.dio.call.Call as port_calls
+use Rattle.module_machines.specs.declared.dio.call.Call.TheVariants as port_call
+use Rattle.module_machines.specs.pwm.Table as pulse_table
 use Rattle.adc_machine.specs.Machine.{adc_machine}
 use Rattle.adc_machine.specs.Table as converter_table
 use Rattle.spi_machine.specs.Machine.{spi_machine}
 use Rattle.spi_machine.specs.Table as serial_table
-use Rattle.icu_machine.specs.Machine.{moved as captured}
-use Rattle.icu_machine.specs.Machine as captures
-use Rattle.icu_machine.specs.Table as capture_table
-use Rattle.mcu_machine.specs.Machine as clocks
-use Rattle.wdg_machine.specs.Machine as watchdogs
-use Rattle.port_machine.specs.Machine as pins
-use Rattle.gpt_machine.specs.Machine as timers
-use Rattle.pwm_machine.specs.Machine as pulses
-use Rattle.whole_runs.specs.Members.{IsPart, IsMute, Embedding, first_place, own_through, second_place}
-use Rattle.whole_runs.proofs.MemberRuns.{first_part, second_part, part_within, union_mute}
-use Rattle.whole_runs.proofs.Promises.{mute_by, converter_mute, serial_mute}
+use Rattle.module_machines.specs.icu.Machine.{moved as captured}
+use Rattle.module_machines.specs.icu.Machine as captures
+use Rattle.module_machines.specs.icu.Table as capture_table
+use Rattle.module_machines.specs.mcu.Machine as clocks
+use Rattle.module_machines.specs.wdg.Machine as watchdogs
+use Rattle.module_machines.specs.port.Machine as pins
+use Rattle.module_machines.specs.gpt.Machine as timers
+use Rattle.module_machines.specs.pwm.Machine as pulses
+use Rattle.board_promises.specs.whole_runs.Members.{IsPart, IsMute, Embedding, first_place, own_through, second_place}
+use Rattle.board_promises.proofs.MemberRuns.{first_part, second_part, part_within, union_mute}
+use Rattle.board_promises.proofs.Promises.{mute_by, converter_mute, serial_mute}
 use Rattle.mcal_drivers.specs.Setting.{joined, clock_setting, watchdog_setting, pin_setting, timer_setting, pulse_setting, capture_setting, converter_setting, serial_setting, host_pins, host_setting, port_guest, system_setting, SystemState}
 use Rattle.board_promises.specs.Places.{watched_modules, first_modules, edge_modules, unit_modules, last_modules, host_own, host_place, host_units_place, units_place, converter_place, serial_place}
 

@@ -14,13 +14,13 @@ use Rattle.run_model.specs.Machine.{Outcome, number}
 use Rattle.run_model.specs.Moment.{Moment, Transition, Begins, Enters, Steps, Happens, Resets, after}
 use Rattle.run_model.specs.World.{World}
 use Rattle.step_runner.specs.declared.either.Either.TheVariants.{Left, Right}
-use Rattle.dio_machine.specs.Values.{level_answer, moved_down}
-use Rattle.dio_machine.specs.Machine.{does_by}
-use Rattle.dio_machine.specs.Table.{table_of, pins_of}
-use Rattle.dio_machine.specs.declared.table.PortPins.{PortPins}
-use Rattle.dio_machine.specs.declared.call.Call.{Call}
-use Rattle.dio_machine.specs.declared.call.Call.TheVariants.{ReadChannel, WriteChannel, FlipChannel, ReadPort, WritePort, ReadChannelGroup, WriteChannelGroup}
-use Rattle.pwm_machine.specs.Table as pulse_table
+use Rattle.module_machines.specs.dio.Values.{level_answer, moved_down}
+use Rattle.module_machines.specs.dio.Machine.{does_by}
+use Rattle.module_machines.specs.dio.Table.{table_of, pins_of}
+use Rattle.module_machines.specs.declared.dio.table.PortPins.{PortPins}
+use Rattle.module_machines.specs.declared.dio.call.Call.{Call}
+use Rattle.module_machines.specs.declared.dio.call.Call.TheVariants.{ReadChannel, WriteChannel, FlipChannel, ReadPort, WritePort, ReadChannelGroup, WriteChannelGroup}
+use Rattle.module_machines.specs.pwm.Table as pulse_table
 use Rattle.mcal_drivers.specs.Setting.{SystemState, SystemCall, host_pins, system_setting}
 use Rattle.mcal_drivers.specs.Shows.{level_at}
 use Rattle.mcal_drivers.proofs.Levels.{same_level}

@@ -3,7 +3,7 @@ use Rattle.std.proofs.Common.{◌≡◌, ℕ, ◌+◌, ◌-◌, Option, Some, No
 use Rattle.std.specs.Prelude.{option_map}
 use Rattle.mcal_base.specs.declared.config.whole.Config.{Config}
 use Rattle.run_model.specs.Machine.{Outcome, outcome, tells_nothing}
-use Rattle.wdg_machine.specs.Machine.{WdgState}
+use Rattle.module_machines.specs.wdg.Machine.{WdgState}
 use Rattle.mcal_drivers.specs.Setting.{joined, clock_setting, watchdog_setting, pin_setting, timer_setting, pulse_setting, capture_setting, converter_setting, serial_setting, host_setting, system_setting}
 use Rattle.board_promises.specs.Places.{watched_modules, first_modules, edge_modules, unit_modules, last_modules}
 use Rattle.board_promises.proofs.Expiries.{RunsDown, union_down}

@@ -6,23 +6,23 @@ use Rattle.run_model.specs.Moment.{Setting}
 use Rattle.step_runner.specs.Union.{first_call}
 use Rattle.step_runner.specs.declared.either.Either.{Either}
 use Rattle.step_runner.specs.declared.either.Either.TheVariants.{Left, Right}
-use Rattle.mcu_machine.specs.Machine.{McuState}
-use Rattle.mcu_machine.specs.declared.call.Call as clocks
-use Rattle.wdg_machine.specs.Machine.{WdgState}
-use Rattle.wdg_machine.specs.declared.call.Call as watchdogs
-use Rattle.port_machine.specs.Machine.{PortState}
-use Rattle.port_machine.specs.declared.call.Call as pins
-use Rattle.gpt_machine.specs.Machine.{GptState}
-use Rattle.gpt_machine.specs.declared.call.Call as timers
-use Rattle.pwm_machine.specs.Machine.{PwmState}
-use Rattle.pwm_machine.specs.declared.call.Call as pulses
-use Rattle.icu_machine.specs.Machine.{IcuState}
-use Rattle.icu_machine.specs.declared.call.Call as captures
+use Rattle.module_machines.specs.mcu.Machine.{McuState}
+use Rattle.module_machines.specs.declared.mcu.call.Call as clocks
+use Rattle.module_machines.specs.wdg.Machine.{WdgState}
+use Rattle.module_machines.specs.declared.wdg.call.Call as watchdogs
+use Rattle.module_machines.specs.port.Machine.{PortState}
+use Rattle.module_machines.specs.declared.port.call.Call as pins
+use Rattle.module_machines.specs.gpt.Machine.{GptState}
+use Rattle.module_machines.specs.declared.gpt.call.Call as timers
+use Rattle.module_machines.specs.pwm.Machine.{PwmState}
+use Rattle.module_machines.specs.declared.pwm.call.Call as pulses
+use Rattle.module_machines.specs.icu.Machine.{IcuState}
+use Rattle.module_machines.specs.declared.icu.call.Call as captures
 use Rattle.adc_machine.specs.Turns.{AdcState}
 use Rattle.adc_machine.specs.declared.call.Call as converter
 use Rattle.spi_machine.specs.State.{SpiState}
 use Rattle.spi_machine.specs.declared.call.Call as serial
-use Rattle.whole_runs.specs.Members.{Embedding, first_place, own_through, second_place, within}
+use Rattle.board_promises.specs.whole_runs.Members.{Embedding, first_place, own_through, second_place, within}
 use Rattle.mcal_drivers.specs.Setting.{SystemState, HostCall, SystemCall, joined, clock_setting, watchdog_setting, pin_setting, timer_setting, pulse_setting, capture_setting, converter_setting, serial_setting}
 
 -- clock and watchdog as one; those with pins and timers; pulses and captures; converter and serial units; and all but the first four

@@ -10,11 +10,11 @@ use Rattle.run_model.specs.Frame.{Origin, Called, Open, open_after, state_after}
 use Rattle.run_model.specs.Moment.{Moment, Transition, Steps, after}
 use Rattle.run_model.specs.Machine.{number}
 use Rattle.step_runner.specs.declared.either.Either.TheVariants.{Right}
-use Rattle.dio_machine.specs.Values.{level_answer, moved_down}
-use Rattle.dio_machine.specs.Table.{table_of, pins_of}
-use Rattle.dio_machine.specs.declared.table.PortPins.{PortPins}
-use Rattle.dio_machine.specs.declared.call.Call.{Call}
-use Rattle.dio_machine.specs.declared.call.Call.TheVariants.{ReadChannel, FlipChannel, ReadPort, ReadChannelGroup}
+use Rattle.module_machines.specs.dio.Values.{level_answer, moved_down}
+use Rattle.module_machines.specs.dio.Table.{table_of, pins_of}
+use Rattle.module_machines.specs.declared.dio.table.PortPins.{PortPins}
+use Rattle.module_machines.specs.declared.dio.call.Call.{Call}
+use Rattle.module_machines.specs.declared.dio.call.Call.TheVariants.{ReadChannel, FlipChannel, ReadPort, ReadChannelGroup}
 use Rattle.mcal_drivers.specs.Setting.{SystemState, SystemCall, system_setting}
 use Rattle.mcal_drivers.specs.Shows.{level_at}
 

@@ -10,16 +10,16 @@ use Rattle.adc_machine.specs.Table as converter_table
 use Rattle.adc_machine.specs.declared.call.Call as converter
 use Rattle.spi_machine.specs.Table as serial_table
 use Rattle.spi_machine.specs.declared.call.Call as serial
-use Rattle.whole_runs.specs.Ends.{AreEnded, HasOneEnd}
-use Rattle.whole_runs.specs.GroupRuns as groups
-use Rattle.whole_runs.specs.Order.{AreInOrder}
-use Rattle.whole_runs.specs.Promises.{part_events, FramesSay}
-use Rattle.whole_runs.specs.Rounds.{AreWhole}
-use Rattle.whole_runs.specs.Runs.{Event}
-use Rattle.whole_runs.specs.SequenceRuns as sequences
-use Rattle.run_laws.specs.Results.{AreEndedAs}
-use Rattle.run_laws.specs.Rounds.{AreServedRight}
-use Rattle.run_laws.specs.Sent.{AreSent}
+use Rattle.board_promises.specs.whole_runs.Ends.{AreEnded, HasOneEnd}
+use Rattle.board_promises.specs.whole_runs.GroupRuns as groups
+use Rattle.board_promises.specs.whole_runs.Order.{AreInOrder}
+use Rattle.board_promises.specs.whole_runs.Promises.{part_events, FramesSay}
+use Rattle.board_promises.specs.whole_runs.Rounds.{AreWhole}
+use Rattle.board_promises.specs.whole_runs.Runs.{Event}
+use Rattle.board_promises.specs.whole_runs.SequenceRuns as sequences
+use Rattle.board_promises.specs.run_laws.Results.{AreEndedAs}
+use Rattle.board_promises.specs.run_laws.Rounds.{AreServedRight}
+use Rattle.board_promises.specs.run_laws.Sent.{AreSent}
 use Rattle.mcal_drivers.specs.Setting.{SystemCall, system_setting, call_of}
 use Rattle.board_promises.specs.Expiries.{EndsInTime, ResetsInTime}
 use Rattle.board_promises.specs.Places.{converter_place, serial_place}

@@ -2,7 +2,7 @@
 use Rattle.std.proofs.Common.{◌≡◌, ◌≢◌, ℕ, ◌+◌, zero, suc, ◌<◌, ◌≤◌, ◌⊎◌, inl, inr, ap, ◌∙◌, [], ◌∷◌, ◌^◌, Bool, true, false, List, length, cond, refl, arith, length-set}
 use Rattle.std.specs.Prelude.{◌-◌, min, slice_index_or, slice_set}
 use Rattle.std.proofs.lemmas.Nat.{mod_below, pow_below, pow_pos}
-use Rattle.chip_units.specs.Serials.{masked}
+use Rattle.chip_blocks.specs.units.Serials.{masked}
 use Rattle.chip_model.specs.Waiting.{Waiting}
 use Rattle.mcal_base.specs.declared.directive.Order.{Order}
 use Rattle.mcal_base.specs.declared.directive.Order.TheVariants.{Level, Detach}

@@ -12,12 +12,12 @@ use Rattle.mcal_base.specs.declared.moves.Move.{Move}
 use Rattle.mcal_base.specs.declared.moves.Move.TheVariants.{Read, Write, Load, Store, Mask, Unmask, Note, Report}
 use Rattle.mcal_base.specs.declared.register.Reg.{Reg}
 use Rattle.mcal_base.specs.declared.register.Reg.TheVariants.{EnableSet, EnableClear, TimerLow, CaptureCountLow, CaptureTimeLow, ConverterList, ConverterGo, ConverterAbort, ConverterAck, TriggerSet, TriggerClear, TriggerFlags, SerialData, PinFlip, ClockPll, ClockRate, Ram}
-use Rattle.chip_timers.proofs.TimerLaws as timer_laws
-use Rattle.chip_captures.specs.Captures as captures
-use Rattle.chip_converter.specs.Converters as converters
-use Rattle.chip_converter.specs.declared.converter.Levels.{Levels}
-use Rattle.chip_units.specs.Clock as clock
-use Rattle.chip_units.specs.Ram as ram
+use Rattle.chip_blocks.proofs.of_timers.TimerLaws as timer_laws
+use Rattle.chip_blocks.specs.captures.Captures as captures
+use Rattle.chip_blocks.specs.converter.Converters as converters
+use Rattle.chip_blocks.specs.declared.converter.converter.Levels.{Levels}
+use Rattle.chip_blocks.specs.units.Clock as clock
+use Rattle.chip_blocks.specs.units.Ram as ram
 use Rattle.chip_model.specs.Chip.{Chip, power_on, hung, after_read, after_write, chip_after, happened, reset_chip, levelled, is_other, outside_at, word_of, is_masked, now_of}
 use Rattle.chip_model.specs.Histories.{Happening, chip_step, chip_after_all, chip_of, HasAll, sets_rate, LeavesWord, LeavesRam, LeavesMask, LeavesLevel}
 use Rattle.chip_model.specs.Histories as histories

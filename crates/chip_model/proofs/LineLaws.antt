@@ -6,14 +6,14 @@ use Rattle.std.proofs.lemmas.Nat.Bits.{bit_at_cat_high}
 use Rattle.mcal_base.specs.facts.Numbers.{lt_from, lt_since}
 use Rattle.mcal_base.specs.Bits.{has_bit}
 use Rattle.mcal_base.proofs.BitLaws.{has_bit-bits_of}
-use Rattle.chip_timers.specs.Timers as timers
-use Rattle.chip_timers.proofs.TimerLaws.{has_bit-flags_of}
-use Rattle.chip_pulses.specs.Pulses as pulses
-use Rattle.chip_captures.specs.Captures as captures
-use Rattle.chip_converter.specs.Converters as converters
-use Rattle.chip_converter.proofs.StateLaws as converter_laws
-use Rattle.chip_units.specs.Serials as serials
-use Rattle.chip_units.proofs.SerialLaws as serial_laws
+use Rattle.chip_blocks.specs.timers.Timers as timers
+use Rattle.chip_blocks.proofs.of_timers.TimerLaws.{has_bit-flags_of}
+use Rattle.chip_blocks.specs.pulses.Pulses as pulses
+use Rattle.chip_blocks.specs.captures.Captures as captures
+use Rattle.chip_blocks.specs.converter.Converters as converters
+use Rattle.chip_blocks.proofs.of_converter.StateLaws as converter_laws
+use Rattle.chip_blocks.specs.units.Serials as serials
+use Rattle.chip_blocks.proofs.of_units.SerialLaws as serial_laws
 use Rattle.chip_model.specs.Chip.{Chip, flag_of}
 
 pub has_bit-shifted : (x n k : ℕ) → n ≤ k → has_bit (x * 2 ^ n) k ≡ has_bit x (k - n)

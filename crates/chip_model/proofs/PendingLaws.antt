@@ -5,12 +5,12 @@ use Rattle.std.proofs.lemmas.Nat.Bits.{bit_at_cat_low}
 use Rattle.mcal_base.specs.facts.Truths.{or_false}
 use Rattle.mcal_base.specs.Bits.{has_bit, bit_of}
 use Rattle.mcal_base.proofs.BitLaws.{has_bit-zero, has_bit-or, has_bit-and, has_bit-above, has_bit-bits_of_above}
-use Rattle.chip_timers.specs.Timers as timers
-use Rattle.chip_pulses.specs.Pulses as pulses
-use Rattle.chip_captures.specs.Captures as captures
-use Rattle.chip_converter.specs.Rounds as rounds
-use Rattle.chip_converter.specs.Converters as converters
-use Rattle.chip_units.specs.Serials as serials
+use Rattle.chip_blocks.specs.timers.Timers as timers
+use Rattle.chip_blocks.specs.pulses.Pulses as pulses
+use Rattle.chip_blocks.specs.captures.Captures as captures
+use Rattle.chip_blocks.specs.converter.Rounds as rounds
+use Rattle.chip_blocks.specs.converter.Converters as converters
+use Rattle.chip_blocks.specs.units.Serials as serials
 use Rattle.chip_model.specs.Chip.{Chip, flag_of, is_pending}
 use Rattle.chip_model.proofs.LineLaws.{has_bit-shifted, one_of, flag-timer, flag-pulse, flag-capture, flag-converter, flag-serial, flag-trigger}
 

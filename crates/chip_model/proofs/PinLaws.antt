@@ -3,13 +3,13 @@ use Rattle.std.proofs.Common.{◌≡◌, ℕ, ◌-◌, ◌<◌, ◌≤◌, true,
 use Rattle.std.specs.Prelude.{Some, None, Bool, if◌then◌else◌}
 use Rattle.mcal_base.specs.facts.Numbers.{lt_from, lt_since}
 use Rattle.mcal_base.specs.Bits.{has_bit}
-use Rattle.chip_timers.specs.Timers as timers
-use Rattle.chip_pulses.specs.Pulses as pulses
-use Rattle.chip_captures.specs.Captures as captures
-use Rattle.chip_converter.specs.Converters as converters
-use Rattle.chip_converter.specs.Rounds as rounds
-use Rattle.chip_units.specs.Serials as serials
-use Rattle.chip_units.specs.Pins as pins
+use Rattle.chip_blocks.specs.timers.Timers as timers
+use Rattle.chip_blocks.specs.pulses.Pulses as pulses
+use Rattle.chip_blocks.specs.captures.Captures as captures
+use Rattle.chip_blocks.specs.converter.Converters as converters
+use Rattle.chip_blocks.specs.converter.Rounds as rounds
+use Rattle.chip_blocks.specs.units.Serials as serials
+use Rattle.chip_blocks.specs.units.Pins as pins
 use Rattle.chip_model.specs.Chip.{Chip, outside_at, channel_from, is_pending, pin_of}
 
 pub pin-outside : (c : Chip) (p : ℕ) → pins.is_out c.pins p ≡ false → pin_of c p ≡ outside_at c p

@@ -3,17 +3,17 @@ use Rattle.std.proofs.Common.{◌≡◌, ℕ, false, List, [], ◌∷◌, length
 use Rattle.mcal_base.specs.declared.config.whole.Config.{Config}
 use Rattle.mcal_base.specs.declared.directive.Reason.TheVariants.{PowerOn}
 use Rattle.irq_control.specs.Control.{Control, control_fresh}
-use Rattle.chip_timers.specs.Timers as timers
-use Rattle.chip_pulses.specs.Pulses as pulses
-use Rattle.chip_captures.specs.Captures as captures
-use Rattle.chip_converter.specs.Converters as converters
-use Rattle.chip_units.specs.Clock as clock
-use Rattle.chip_units.specs.Serials as serials
-use Rattle.chip_units.specs.Pins as pins
-use Rattle.chip_units.specs.Ram as ram
+use Rattle.chip_blocks.specs.timers.Timers as timers
+use Rattle.chip_blocks.specs.pulses.Pulses as pulses
+use Rattle.chip_blocks.specs.captures.Captures as captures
+use Rattle.chip_blocks.specs.converter.Converters as converters
+use Rattle.chip_blocks.specs.units.Clock as clock
+use Rattle.chip_blocks.specs.units.Serials as serials
+use Rattle.chip_blocks.specs.units.Pins as pins
+use Rattle.chip_blocks.specs.units.Ram as ram
 use Rattle.chip_model.specs.declared.wiring.Wiring.{Wiring}
-use Rattle.chip_units.specs.Watchdogs as watchdogs
-use Rattle.chip_units.specs.declared.watchdog.WatchdogBlock.{WatchdogBlock}
+use Rattle.chip_blocks.specs.units.Watchdogs as watchdogs
+use Rattle.chip_blocks.specs.declared.units.watchdog.WatchdogBlock.{WatchdogBlock}
 use Rattle.chip_model.specs.Wiring.{wiring_of}
 use Rattle.chip_model.specs.Waiting.{Waiting}
 use Rattle.chip_model.specs.Words.{blank}

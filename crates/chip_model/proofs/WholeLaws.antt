@@ -13,12 +13,12 @@ use Rattle.mcal_base.specs.declared.moves.Move.{Move}
 use Rattle.mcal_base.specs.declared.moves.Move.TheVariants.{Read, Write, Load, Store, Mask, Unmask, Note, Report}
 use Rattle.mcal_base.specs.declared.register.Reg.{Reg}
 use Rattle.mcal_base.specs.declared.register.Reg.TheVariants.{EnableSet, EnableClear, TimerLow, CaptureCondition, CaptureMode, CaptureGateSet, CaptureGateClear, CaptureCountLow, CaptureZero, CaptureTimeLow, CapturePop, CaptureFlush, ConverterList, ConverterGo, ConverterAbort, ConverterAck, TriggerSet, TriggerClear, TriggerFlags, SerialSelect, SerialWidth, SerialData, SerialAck, PinFlip, Ram}
-use Rattle.chip_timers.proofs.TimerLaws as timer_laws
-use Rattle.chip_pulses.proofs.PulseLaws as pulse_laws
-use Rattle.chip_captures.specs.Captures as captures
-use Rattle.chip_converter.specs.Converters as converters
-use Rattle.chip_units.specs.Serials as serials
-use Rattle.chip_units.specs.Ram as ram
+use Rattle.chip_blocks.proofs.of_timers.TimerLaws as timer_laws
+use Rattle.chip_blocks.proofs.of_pulses.PulseLaws as pulse_laws
+use Rattle.chip_blocks.specs.captures.Captures as captures
+use Rattle.chip_blocks.specs.converter.Converters as converters
+use Rattle.chip_blocks.specs.units.Serials as serials
+use Rattle.chip_blocks.specs.units.Ram as ram
 use Rattle.chip_model.specs.Chip.{Chip, power_on, hung, after_read, after_write, chip_after, happened, overwritten, source_length, is_other, outside_at}
 use Rattle.chip_model.specs.Histories.{Happening, chip_step, chip_after_all, chip_of, HasAll, IsAtOneTime, FillsThere}
 use Rattle.chip_model.specs.Histories as histories

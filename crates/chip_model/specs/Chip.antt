@@ -13,17 +13,17 @@ use Rattle.mcal_base.specs.declared.moves.Move.TheVariants.{Read, Write, Load, S
 use Rattle.mcal_base.specs.declared.register.Reg.{Reg}
 use Rattle.mcal_base.specs.declared.register.Reg.TheVariants.{EnableSet, EnableClear, TimerRun, TimerFlags, TimerLow, TimerHigh, PulseOut, PulseFlags, CaptureCountLow, CaptureCountHigh, CaptureTimeLow, CaptureTimeHigh, CaptureInfo, ConverterState, ConverterResult, ConverterDone, ConverterAbort, TriggerFlags, SerialData, SerialReceived, SerialState, SerialWait, PortLevels, PinFlip, ClockLock, ResetReason, Ram}
 use Rattle.irq_control.specs.Control.{Control, control_fresh, enabling, disabling, masking}
-use Rattle.chip_timers.specs.Timers as timers
-use Rattle.chip_pulses.specs.Pulses as pulses
-use Rattle.chip_captures.specs.Captures as captures
-use Rattle.chip_units.specs.Clock as clock
-use Rattle.chip_converter.specs.Converters as converters
-use Rattle.chip_converter.specs.Rounds as rounds
-use Rattle.chip_units.specs.Serials as serials
-use Rattle.chip_units.specs.Pins as pins
-use Rattle.chip_units.specs.Ram as ram
-use Rattle.chip_units.specs.Watchdogs as watchdogs
-use Rattle.chip_units.specs.declared.watchdog.WatchdogBlock.{WatchdogBlock}
+use Rattle.chip_blocks.specs.timers.Timers as timers
+use Rattle.chip_blocks.specs.pulses.Pulses as pulses
+use Rattle.chip_blocks.specs.captures.Captures as captures
+use Rattle.chip_blocks.specs.units.Clock as clock
+use Rattle.chip_blocks.specs.converter.Converters as converters
+use Rattle.chip_blocks.specs.converter.Rounds as rounds
+use Rattle.chip_blocks.specs.units.Serials as serials
+use Rattle.chip_blocks.specs.units.Pins as pins
+use Rattle.chip_blocks.specs.units.Ram as ram
+use Rattle.chip_blocks.specs.units.Watchdogs as watchdogs
+use Rattle.chip_blocks.specs.declared.units.watchdog.WatchdogBlock.{WatchdogBlock}
 use Rattle.chip_model.specs.declared.wiring.Wiring.{Wiring}
 use Rattle.chip_model.specs.Wiring.{wiring_of}
 use Rattle.chip_model.specs.Words.{blank}

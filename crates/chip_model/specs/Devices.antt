@@ -1,6 +1,6 @@
 -- The devices on the serial units: the word that comes in with a move, and what becomes of the devices.
 use Rattle.std.specs.Prelude.{ℕ, ◌≡◌, ◌-◌, ◌≤◌, List, MatchBool}
-use Rattle.chip_units.specs.Serials.{outgoing, unit_at}
+use Rattle.chip_blocks.specs.units.Serials.{outgoing, unit_at}
 use Rattle.mcal_base.specs.declared.moves.Move.{Move}
 use Rattle.mcal_base.specs.declared.moves.Move.TheVariants.{Write}
 use Rattle.mcal_base.specs.declared.register.Reg.TheVariants.{SerialData}

@@ -2,20 +2,20 @@ ghost use Rattle.std.specs.Prelude.{◌≡◌, ◌≢◌, ℕ, ◌<◌, ◌≤�
 ghost use Rattle.mcal_base.specs.Bits.{has_bit, bit_of};
 ghost use Rattle.mcal_base.specs.declared.moves.Move.TheVariants.{Read, Write};
 ghost use Rattle.mcal_base.specs.declared.register.Reg.TheVariants.{SerialData};
-ghost use Rattle.chip_pulses.specs.Pulses.{level_at};
+ghost use Rattle.chip_blocks.specs.pulses.Pulses.{level_at};
 ghost use Rattle.chip_model.specs.Chip.{power_on, port_of, flipped, next_word, register_of, after_read, has_device, word_begun, hung, after_write, word_of, value_of, chip_after, ticked, outside_at, levelled, filled, happened, CanHappen, expiry_of, ticks_for, wait_on, stall_of, reset_chip, flag_of, is_pending, is_masked, channel_from, output_at, pin_of};
 ghost use Rattle.mcal_base.specs.Reach.{CanApply};
 ghost use Rattle.chip_model.specs.Devices.{ComesIn, CallsRight};
-ghost use Rattle.chip_units.specs.Serials.{unit_at, outgoing};
+ghost use Rattle.chip_blocks.specs.units.Serials.{unit_at, outgoing};
 
 use crate::incoming::Incoming;
 use crate::wiring::Wiring;
 use crate::words;
-use chip_captures::CaptureBlock;
-use chip_converter::ConverterBlock;
-use chip_pulses::PulseBlock;
-use chip_timers::TimerBlock;
-use chip_units::{ClockBlock, PinBlock, RamBlock, SerialBlock, WatchdogBlock};
+use chip_blocks::captures::CaptureBlock;
+use chip_blocks::converter::ConverterBlock;
+use chip_blocks::pulses::PulseBlock;
+use chip_blocks::timers::TimerBlock;
+use chip_blocks::units::{ClockBlock, PinBlock, RamBlock, SerialBlock, WatchdogBlock};
 use irq_control::Irq;
 use mcal_base::{Config, Directive, Move, NoMemory, Order, Reason, Reg, SOURCES, WORDS};
 use serial_devices::{SerialDevice, call};

@@ -10,7 +10,7 @@ use Rattle.config_keys.specs.declared.fault.Path.{Path}
 use Rattle.mcal_base.specs.declared.config.spi.SpiChannelType.{SpiChannelType}
 use Rattle.config_keys.specs.declared.named.SpiBuffer.{SpiBuffer}
 use Rattle.config_keys.specs.declared.named.SpiBuffer.TheVariants as buffers
-use Rattle.config_rows.proofs.Recorded.{Recorded, there, skip, checked_after, at_last, need, need_last, need_list, allow_list, need_tables, need_tables_last, IsRead, IsReadPart}
+use Rattle.config_tables.proofs.HasValue.{Recorded, there, skip, checked_after, at_last, need, need_last, need_list, allow_list, need_tables, need_tables_last, IsRead, IsReadPart}
 use Rattle.config_tables.specs.Mcu as mcu
 use Rattle.config_tables.specs.Port as port
 use Rattle.config_tables.specs.Gpt as gpt

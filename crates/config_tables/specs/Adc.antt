@@ -5,9 +5,9 @@ use Rattle.config_keys.specs.Checks.{Checks, passes, ◌⨾◌}
 use Rattle.config_keys.specs.Kinds.{◌>>=◌, whole, truth, name, text}
 use Rattle.config_keys.specs.Keys.{of_module, of_key, of_element, needed, allowed, needed_if, needed_list, read, read_or, read_any, read_list}
 use Rattle.config_keys.specs.Names.{priority_implementation_named, access_mode_named, conversion_mode_named, replacement_named, trigger_source_named, stream_buffer_mode_named}
-use Rattle.config_rows.specs.Rows.{Shape, array_checks, array_value}
-use Rattle.config_rows.specs.Rules.{reference, rule}
-use Rattle.config_rows.specs.Modules.{Part, given}
+use Rattle.config_tables.specs.rows.Rows.{Shape, array_checks, array_value}
+use Rattle.config_tables.specs.rows.Rules.{reference, rule}
+use Rattle.config_tables.specs.rows.Modules.{Part, given}
 use Rattle.config_keys.specs.declared.fault.Path.{Path}
 use Rattle.config_keys.specs.declared.key_name.KeyName.TheVariants as keys
 use Rattle.mcal_base.specs.declared.module_name.ModuleName.TheVariants as modules

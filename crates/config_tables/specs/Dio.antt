@@ -4,9 +4,9 @@ use Rattle.toml.specs.Data.{Members}
 use Rattle.config_keys.specs.Checks.{Checks, passes, fails, ◌⨾◌}
 use Rattle.config_keys.specs.Kinds.{◌>>=◌, whole, truth}
 use Rattle.config_keys.specs.Keys.{of_module, of_key, of_element, needed, allowed, read, read_or}
-use Rattle.config_rows.specs.Rows.{Shape, array_checks, array_value}
-use Rattle.config_rows.specs.Rules.{rule}
-use Rattle.config_rows.specs.Modules.{Part}
+use Rattle.config_tables.specs.rows.Rows.{Shape, array_checks, array_value}
+use Rattle.config_tables.specs.rows.Rules.{rule}
+use Rattle.config_tables.specs.rows.Modules.{Part}
 use Rattle.config_keys.specs.declared.fault.Path.{Path}
 use Rattle.config_keys.specs.declared.fault.ConfigFault.TheVariants.{Unknown}
 use Rattle.config_keys.specs.declared.key_name.KeyName.TheVariants as keys

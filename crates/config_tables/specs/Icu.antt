@@ -5,8 +5,8 @@ use Rattle.config_keys.specs.Checks.{Checks, ◌⨾◌}
 use Rattle.config_keys.specs.Kinds.{◌>>=◌, whole, truth, name, text}
 use Rattle.config_keys.specs.Keys.{of_module, of_key, needed, allowed, needed_if, read, read_or, read_any}
 use Rattle.config_keys.specs.Names.{start_edge_named, measurement_mode_named, signal_property_named, timestamp_property_named}
-use Rattle.config_rows.specs.Rows.{Shape, array_checks, array_value}
-use Rattle.config_rows.specs.Modules.{Part}
+use Rattle.config_tables.specs.rows.Rows.{Shape, array_checks, array_value}
+use Rattle.config_tables.specs.rows.Modules.{Part}
 use Rattle.config_keys.specs.declared.fault.Path.{Path}
 use Rattle.config_keys.specs.declared.key_name.KeyName.TheVariants as keys
 use Rattle.mcal_base.specs.declared.module_name.ModuleName.TheVariants as modules

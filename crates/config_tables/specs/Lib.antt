@@ -9,3 +9,4 @@ pub mod SpiRules
 pub mod Spi
 pub mod Dio
 pub mod Wdg
+pub mod rows

@@ -5,9 +5,9 @@ use Rattle.config_keys.specs.Checks.{Checks, ◌⨾◌}
 use Rattle.config_keys.specs.Kinds.{◌>>=◌, whole, truth, name}
 use Rattle.config_keys.specs.Keys.{of_module, of_key, needed, allowed, allowed_list, read, read_or, read_list_or}
 use Rattle.config_keys.specs.Names.{direction_named, pin_mode_named, pin_level_named}
-use Rattle.config_rows.specs.Rows.{Shape, array_checks, array_value}
-use Rattle.config_rows.specs.Rules.{rule}
-use Rattle.config_rows.specs.Modules.{Part, given}
+use Rattle.config_tables.specs.rows.Rows.{Shape, array_checks, array_value}
+use Rattle.config_tables.specs.rows.Rules.{rule}
+use Rattle.config_tables.specs.rows.Modules.{Part, given}
 use Rattle.config_keys.specs.declared.fault.Path.{Path}
 use Rattle.config_keys.specs.declared.key_name.KeyName.TheVariants as keys
 use Rattle.config_keys.specs.declared.named.PinLevel.{PinLevel}

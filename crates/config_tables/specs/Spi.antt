@@ -5,8 +5,8 @@ use Rattle.config_keys.specs.Checks.{Checks, passes, ◌⨾◌}
 use Rattle.config_keys.specs.Kinds.{◌>>=◌, whole, truth, name, text}
 use Rattle.config_keys.specs.Keys.{of_module, of_key, needed, allowed, needed_list, allowed_list, read, read_or, read_any, read_list, read_list_or}
 use Rattle.config_keys.specs.Names.{buffer_named}
-use Rattle.config_rows.specs.Rows.{Shape, array_checks, array_value}
-use Rattle.config_rows.specs.Modules.{Part, given}
+use Rattle.config_tables.specs.rows.Rows.{Shape, array_checks, array_value}
+use Rattle.config_tables.specs.rows.Modules.{Part, given}
 use Rattle.config_keys.specs.declared.fault.Path.{Path}
 use Rattle.config_keys.specs.declared.key_name.KeyName.TheVariants as keys
 use Rattle.config_keys.specs.declared.named.SpiBuffer.{SpiBuffer}

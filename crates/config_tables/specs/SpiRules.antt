@@ -2,7 +2,7 @@
 use Rattle.std.specs.Prelude.{ℕ, ◌+◌, List, [], ◌∷◌}
 use Rattle.config_keys.specs.Checks.{Checks, passes, ◌⨾◌}
 use Rattle.config_keys.specs.Keys.{of_module, of_key, of_element}
-use Rattle.config_rows.specs.Rules.{references, rule}
+use Rattle.config_tables.specs.rows.Rules.{references, rule}
 use Rattle.config_keys.specs.declared.fault.Path.{Path}
 use Rattle.config_keys.specs.declared.key_name.KeyName.TheVariants as keys
 use Rattle.mcal_base.specs.declared.module_name.ModuleName.TheVariants as modules

@@ -5,8 +5,8 @@ use Rattle.config_keys.specs.Checks.{Checks, ◌⨾◌}
 use Rattle.config_keys.specs.Kinds.{◌>>=◌, whole, truth, name}
 use Rattle.config_keys.specs.Keys.{of_module, allowed, read_or}
 use Rattle.config_keys.specs.Names.{wdg_mode_named}
-use Rattle.config_rows.specs.Rules.{kept_unless}
-use Rattle.config_rows.specs.Modules.{Part, given}
+use Rattle.config_tables.specs.rows.Rules.{kept_unless}
+use Rattle.config_tables.specs.rows.Modules.{Part, given}
 use Rattle.config_keys.specs.declared.fault.Path.{Path}
 use Rattle.config_keys.specs.declared.key_name.KeyName.TheVariants as keys
 use Rattle.mcal_base.specs.declared.module_name.ModuleName.TheVariants as modules

@@ -5,11 +5,11 @@ ghost use Rattle.config_facts.specs.Valid as valid;
 ghost use Rattle.config_tables.specs.Adc as spec;
 
 use crate::faults::FirstFault;
+use crate::rows::{Element, elements};
 use config_keys::{
     ConfigFault, KeyName, Path, name_or, needed_name, needed_numbers, needed_whole, text, truth_or,
     whole_if, whole_or,
 };
-use config_rows::{Element, elements};
 use mcal_base::AdcGroupReplacement::AbortRestart;
 use mcal_base::AdcStreamBufferMode::Linear;
 use mcal_base::{

@@ -5,8 +5,8 @@ ghost use Rattle.config_facts.specs.Valid as valid;
 ghost use Rattle.config_tables.specs.Dio as spec;
 
 use crate::faults::FirstFault;
+use crate::rows::{Element, Module, elements};
 use config_keys::{ConfigFault, KeyName, Path, needed_whole, truth_or};
-use config_rows::{Element, Module, elements};
 use mcal_base::{DioChannelGroup, DioConfig, ModuleName};
 use toml::Table;
 

@@ -5,10 +5,10 @@ ghost use Rattle.config_facts.specs.Valid as valid;
 ghost use Rattle.config_tables.specs.Gpt as spec;
 
 use crate::faults::FirstFault;
+use crate::rows::{Element, Module, elements};
 use config_keys::{
     ConfigFault, KeyName, Path, needed_name, needed_whole, text, truth_or, whole_or,
 };
-use config_rows::{Element, Module, elements};
 use mcal_base::{GptChannel, GptConfig, ModuleName};
 use toml::Table;
 

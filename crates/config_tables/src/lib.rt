@@ -10,6 +10,7 @@ mod icu;
 pub mod mcu;
 mod port;
 mod pwm;
+pub mod rows;
 mod spi;
 mod spi_rules;
 mod spi_tables;

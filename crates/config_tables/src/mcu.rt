@@ -5,8 +5,8 @@ ghost use Rattle.config_facts.specs.Valid as valid;
 ghost use Rattle.config_tables.specs.Mcu as spec;
 
 use crate::faults::FirstFault;
+use crate::rows::{Element, elements};
 use config_keys::{ConfigFault, KeyName, Path, needed_whole, truth_or};
-use config_rows::{Element, elements};
 use mcal_base::{McuClockSetting, McuConfig, McuModeSetting, McuRamSection, ModuleName};
 use toml::Table;
 

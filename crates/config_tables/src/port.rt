@@ -6,10 +6,10 @@ ghost use Rattle.config_facts.specs.Valid as valid;
 ghost use Rattle.config_tables.specs.Port as spec;
 
 use crate::faults::FirstFault;
+use crate::rows::{Element, Module, Rule, check_rule, elements};
 use config_keys::{
     ConfigFault, KeyName, Path, PinLevel, name_or, names_or, needed_name, needed_whole, truth_or,
 };
-use config_rows::{Element, Module, Rule, check_rule, elements};
 use mcal_base::{ModuleName, PortConfig, PortPin, PortPinMode, Short};
 use toml::Table;
 

@@ -5,11 +5,11 @@ ghost use Rattle.config_facts.specs.Valid as valid;
 ghost use Rattle.config_tables.specs.Pwm as spec;
 
 use crate::faults::FirstFault;
+use crate::rows::{Element, Module, Rule, check_rule, elements};
 use config_facts::are_same;
 use config_keys::{
     ConfigFault, KeyName, Path, needed_name, needed_whole, text, truth_or, whole, whole_or,
 };
-use config_rows::{Element, Module, Rule, check_rule, elements};
 use mcal_base::{ModuleName, PwmChannel, PwmConfig};
 use toml::Table;
 

@@ -6,10 +6,10 @@ ghost use Rattle.config_facts.specs.Valid as valid;
 ghost use Rattle.config_tables.specs.Spi as spec;
 
 use crate::faults::FirstFault;
+use crate::rows::{Module, elements};
 use crate::spi_rules::{references, rules};
 use crate::spi_tables::{Channels, HERE, Jobs, Sequences};
 use config_keys::{ConfigFault, KeyName, numbers_or, truth_or, whole_or};
-use config_rows::{Module, elements};
 use mcal_base::{ModuleName, Short, SpiConfig};
 use toml::Table;
 

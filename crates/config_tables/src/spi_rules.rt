@@ -4,9 +4,9 @@ ghost use Rattle.config_keys.specs.Checks.{Gives};
 ghost use Rattle.config_facts.specs.Valid as valid;
 ghost use Rattle.config_tables.specs.SpiRules as spec;
 
+use crate::rows::{Element, Rule, check_references, check_rule};
 use crate::spi_tables::{Channels, Jobs, Sequences};
 use config_keys::{ConfigFault, KeyName};
-use config_rows::{Element, Rule, check_references, check_rule};
 use mcal_base::{SpiChannel, SpiConfig, SpiJob, SpiSequence};
 
 /// The references of the jobs to their channels.

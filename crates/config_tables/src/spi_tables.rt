@@ -6,11 +6,11 @@ ghost use Rattle.config_tables.specs.Spi as spec;
 ghost use Rattle.config_tables.specs.SpiRules as rules_spec;
 
 use crate::faults::FirstFault;
+use crate::rows::Element;
 use config_keys::{
     ConfigFault, KeyName, Path, SpiBuffer, needed_name, needed_numbers, needed_truth, needed_whole,
     text, whole, whole_or,
 };
-use config_rows::Element;
 use mcal_base::{ModuleName, SpiChannel, SpiChannelType, SpiJob, SpiSequence};
 use toml::Table;
 

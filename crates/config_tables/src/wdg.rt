@@ -5,8 +5,8 @@ ghost use Rattle.config_facts.specs.Valid as valid;
 ghost use Rattle.config_tables.specs.Wdg as spec;
 
 use crate::faults::FirstFault;
+use crate::rows::Module;
 use config_keys::{ConfigFault, KeyName, Path, name_or, truth_or, whole_or};
-use config_rows::Module;
 use mcal_base::{ModuleName, WdgConfig, WdgMode};
 use toml::Table;
 

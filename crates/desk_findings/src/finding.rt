@@ -1,4 +1,4 @@
-use desk_places::Span;
+use crate::places::Span;
 use std::alloc::AllocError;
 
 /// How much a finding counts.

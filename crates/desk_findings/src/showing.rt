@@ -1,5 +1,5 @@
 use crate::finding::Finding;
-use desk_places::{Lines, Span, characters};
+use crate::places::{Lines, Span, characters};
 use std::alloc::{AllocError, Global};
 
 /// Writes so many of a character.

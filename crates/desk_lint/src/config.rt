@@ -2,7 +2,7 @@ use crate::found::{Found, key_at, value_at};
 use crate::members::place_of_same;
 use config_keys::KeyName;
 use desk_findings::allowed;
-use desk_places::Places;
+use desk_findings::places::Places;
 use desk_tables::{KeyRow, Kind, Need, Range, Table, table_of};
 use mcal_base::ModuleName;
 use std::alloc::AllocError;

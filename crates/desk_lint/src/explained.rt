@@ -2,8 +2,8 @@ use crate::found::Found;
 use crate::numbers::{is_written_as_number, number_of};
 use crate::split::{Word, before_comment, plain_len, words_of};
 use bench_script::ScriptFault;
+use desk_findings::places::{Lines, Span};
 use desk_findings::{allowed, nearest};
-use desk_places::{Lines, Span};
 use desk_tables::{DirectiveRow, Operand, ServiceRow, directives, services};
 use std::alloc::{AllocError, Global};
 

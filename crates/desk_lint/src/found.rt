@@ -1,5 +1,5 @@
+use desk_findings::places::{Places, Span};
 use desk_findings::{Finding, Severity};
-use desk_places::{Places, Span};
 use std::alloc::{AllocError, Global};
 use std::fmt::Display;
 

@@ -1,6 +1,6 @@
 use crate::combinations::refusal;
 use crate::found::{Found, key_at, value_at};
-use desk_places::Places;
+use desk_findings::places::Places;
 use mcal_config::ConfigFault;
 use std::alloc::AllocError;
 

@@ -3,7 +3,7 @@ use crate::found::Found;
 use crate::objects::{Object, Objects, object_of};
 use crate::split::{before_comment, words_of};
 use bench_script::{ScriptFault, read_script};
-use desk_places::{Lines, Span};
+use desk_findings::places::{Lines, Span};
 use desk_tables::{Operand, ServiceRow};
 use mcal_base::{Argument, Directive, Order, Request};
 use std::alloc::{AllocError, Global};

@@ -1,6 +1,6 @@
 use crate::found::Found;
 use crate::split::before_comment;
-use desk_places::{Lines, Span};
+use desk_findings::places::{Lines, Span};
 use desk_tables::{DirectiveRow, directives};
 use std::alloc::AllocError;
 

@@ -1,4 +1,4 @@
-use desk_places::Span;
+use desk_findings::places::Span;
 use std::alloc::{AllocError, Global};
 use std::str;
 

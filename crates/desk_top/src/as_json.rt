@@ -1,5 +1,5 @@
 use desk_findings::Finding;
-use desk_places::{Lines, Position};
+use desk_findings::places::{Lines, Position};
 use desk_reports::{Difference, ReportLine};
 use json::Writer;
 use std::alloc::{AllocError, Global};

@@ -3,9 +3,9 @@ ghost use Rattle.desk_lint.specs.WellFormed.{is_well_formed};
 
 use crate::as_json::findings_json;
 use crate::told::{Style, Told};
+use desk_findings::places::Lines;
 use desk_findings::{Finding, shown};
 use desk_lint::lint_file;
-use desk_places::Lines;
 use std::alloc::{AllocError, Global};
 
 /// Writes a finding.

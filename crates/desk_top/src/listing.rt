@@ -1,7 +1,7 @@
 use crate::running::run_bench;
 use crate::told::Told;
+use desk_findings::places::Lines;
 use desk_lint::script_line;
-use desk_places::Lines;
 use desk_reports::{Listing, listed, report_lines};
 use std::alloc::{AllocError, Global};
 use std::str;

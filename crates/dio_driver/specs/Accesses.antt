@@ -6,12 +6,12 @@ use Rattle.mcal_base.specs.declared.moves.Move.{Move}
 use Rattle.mcal_base.specs.declared.moves.Move.TheVariants.{Read, Write}
 use Rattle.mcal_base.specs.declared.register.Reg.TheVariants.{PortLevels, PortPut, PinFlip}
 use Rattle.run_model.specs.Machine.{no_answer, number}
-use Rattle.dio_machine.specs.Values.{moved_up, moved_down, stands_high, level_answer, word_of}
+use Rattle.module_machines.specs.dio.Values.{moved_up, moved_down, stands_high, level_answer, word_of}
 use Rattle.dio_driver.specs.declared.access.Access.{Access}
 use Rattle.dio_driver.specs.declared.access.Access.TheVariants.{Level, Flip, Levels, Put}
-use Rattle.dio_machine.specs.declared.table.PortPins.{PortPins}
-use Rattle.dio_machine.specs.declared.call.Call.{Call}
-use Rattle.dio_machine.specs.declared.call.Call.TheVariants.{ReadChannel, WriteChannel, FlipChannel, ReadPort, WritePort, ReadChannelGroup, WriteChannelGroup}
+use Rattle.module_machines.specs.declared.dio.table.PortPins.{PortPins}
+use Rattle.module_machines.specs.declared.dio.call.Call.{Call}
+use Rattle.module_machines.specs.declared.dio.call.Call.TheVariants.{ReadChannel, WriteChannel, FlipChannel, ReadPort, WritePort, ReadChannelGroup, WriteChannelGroup}
 
 -- ---- the access
 

@@ -4,8 +4,8 @@ use Rattle.std.specs.Prelude.{All, if◌then◌else◌, slice_index_or}
 use Rattle.mcal_base.specs.declared.config.dio.DioChannelGroup.{DioChannelGroup}
 use Rattle.mcal_base.specs.declared.config.dio.DioConfig.{DioConfig}
 use Rattle.mcal_base.specs.declared.config.port.PortConfig.{PortConfig}
-use Rattle.dio_machine.specs.Table.{taken, group_in, table_of, FitsDio}
-use Rattle.dio_machine.specs.declared.table.PortPins.{PortPins}
+use Rattle.module_machines.specs.dio.Table.{taken, group_in, table_of, FitsDio}
+use Rattle.module_machines.specs.declared.dio.table.PortPins.{PortPins}
 
 -- the group's port is one of the chip's
 abbrev pub IsSoundGroup : DioChannelGroup → Type 0

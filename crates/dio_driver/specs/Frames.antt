@@ -1,6 +1,6 @@
 -- The frames of calls, and how they stand.
 use Rattle.std.specs.Prelude.{◌≡◌, ℕ, false, [], Option, Some, None}
-use Rattle.det_errors.specs.Reports.{reported}
+use Rattle.mcal_base.specs.det_errors.Reports.{reported}
 use Rattle.mcal_base.specs.declared.error_name.ErrorName.{ErrorName}
 use Rattle.mcal_base.specs.declared.moves.DevError.{DevError}
 use Rattle.mcal_base.specs.declared.moves.Event.TheVariants.{Act}
@@ -10,11 +10,11 @@ use Rattle.mcal_base.specs.declared.routine.Taken.{Taken}
 use Rattle.run_model.specs.declared.class.Tag.{Tag}
 use Rattle.run_model.specs.Frame.{Called, Open, opened, report_as}
 use Rattle.dio_driver.specs.Accesses.{access_of, answer_by, move_of}
-use Rattle.dio_machine.specs.Checks.{answer_refused, error_of, reporting, service_of}
-use Rattle.dio_machine.specs.Table.{pins_of}
-use Rattle.dio_machine.specs.declared.table.PortPins.{PortPins}
-use Rattle.dio_machine.specs.declared.call.Call.{Call}
-use Rattle.dio_machine.specs.declared.table.DioTable.{DioTable}
+use Rattle.module_machines.specs.dio.Checks.{answer_refused, error_of, reporting, service_of}
+use Rattle.module_machines.specs.dio.Table.{pins_of}
+use Rattle.module_machines.specs.declared.dio.table.PortPins.{PortPins}
+use Rattle.module_machines.specs.declared.dio.call.Call.{Call}
+use Rattle.module_machines.specs.declared.dio.table.DioTable.{DioTable}
 use Rattle.dio_driver.specs.declared.frame.DioFrame.{DioFrame}
 use Rattle.dio_driver.specs.declared.frame.DioFrame.TheVariants.{Access, Refused, Telling}
 use Rattle.dio_driver.specs.declared.frame.TheConstants.{NOWHERE}

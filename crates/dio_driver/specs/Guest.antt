@@ -7,13 +7,13 @@ use Rattle.mcal_base.specs.declared.moves.Move.{Move}
 use Rattle.mcal_base.specs.declared.moves.Move.TheVariants.{Read, Write, Load}
 use Rattle.mcal_base.specs.declared.register.Reg.TheVariants.{PortLevels, PortPut, PinFlip}
 use Rattle.run_model.specs.World.{World}
-use Rattle.guest_runner.specs.Guest.{Guest}
-use Rattle.dio_machine.specs.Checks.{reporting, service_of}
+use Rattle.service_outline.specs.guests.Guest.{Guest}
+use Rattle.module_machines.specs.dio.Checks.{reporting, service_of}
 use Rattle.dio_driver.specs.Frames.{DioStands, dio_fuel, frame_of}
-use Rattle.dio_machine.specs.Machine.{HostPins, does}
-use Rattle.dio_machine.specs.Table.{FitsDio}
-use Rattle.dio_machine.specs.declared.call.Call.{Call}
-use Rattle.dio_machine.specs.declared.table.DioTable.{DioTable}
+use Rattle.module_machines.specs.dio.Machine.{HostPins, does}
+use Rattle.module_machines.specs.dio.Table.{FitsDio}
+use Rattle.module_machines.specs.declared.dio.call.Call.{Call}
+use Rattle.module_machines.specs.declared.dio.table.DioTable.{DioTable}
 use Rattle.dio_driver.specs.declared.frame.DioFrame.{DioFrame}
 use Rattle.dio_driver.specs.declared.frame.TheConstants.{NOWHERE}
 

@@ -23,20 +23,20 @@ use Rattle.run_model.specs.Moment.{call_tag}
 use Rattle.run_model.specs.World.{World}
 use Rattle.step_runner.specs.Driver.{KeepsStep, stepped}
 use Rattle.service_outline.specs.laws.StepKinds.{or_true}
-use Rattle.guest_runner.specs.Guest.{lone_machine, lone_setting, lone_driver, StandsOn, IsGuest}
-use Rattle.dio_machine.specs.Values.{level_answer, moved_down, word_of, moved_up}
+use Rattle.service_outline.specs.guests.Guest.{lone_machine, lone_setting, lone_driver, StandsOn, IsGuest}
+use Rattle.module_machines.specs.dio.Values.{level_answer, moved_down, word_of, moved_up}
 use Rattle.dio_driver.specs.Accesses.{access_of, move_of}
-use Rattle.dio_machine.specs.Checks.{error_of, service_of}
+use Rattle.module_machines.specs.dio.Checks.{error_of, service_of}
 use Rattle.dio_driver.specs.Frames.{report_by, report_of, frame_of, frame_by, dio_move, dio_left, dio_gave, dio_fuel, DioStands, Known, Unknown, Told}
 use Rattle.dio_driver.specs.Guest.{dio_may, state_after, SeesPins, dio}
-use Rattle.dio_machine.specs.Machine.{HostPins, port_value, tells_value, puts_value, work, does, does_by}
-use Rattle.dio_machine.specs.Table.{has_pin, channel_pins, channel_of, some_pins, configured, those_configured, pins_of, FitsDio}
+use Rattle.module_machines.specs.dio.Machine.{HostPins, port_value, tells_value, puts_value, work, does, does_by}
+use Rattle.module_machines.specs.dio.Table.{has_pin, channel_pins, channel_of, some_pins, configured, those_configured, pins_of, FitsDio}
 use Rattle.dio_driver.specs.declared.access.Access.{Access}
 use Rattle.dio_driver.specs.declared.access.Access.TheVariants.{Level, Flip, Levels, Put}
-use Rattle.dio_machine.specs.declared.table.PortPins.{PortPins}
-use Rattle.dio_machine.specs.declared.call.Call.{Call}
-use Rattle.dio_machine.specs.declared.call.Call.TheVariants.{ReadChannel, WriteChannel, FlipChannel, ReadPort, WritePort, ReadChannelGroup, WriteChannelGroup}
-use Rattle.dio_machine.specs.declared.table.DioTable.{DioTable}
+use Rattle.module_machines.specs.declared.dio.table.PortPins.{PortPins}
+use Rattle.module_machines.specs.declared.dio.call.Call.{Call}
+use Rattle.module_machines.specs.declared.dio.call.Call.TheVariants.{ReadChannel, WriteChannel, FlipChannel, ReadPort, WritePort, ReadChannelGroup, WriteChannelGroup}
+use Rattle.module_machines.specs.declared.dio.table.DioTable.{DioTable}
 use Rattle.dio_driver.specs.declared.frame.DioFrame.{DioFrame}
 use Rattle.dio_driver.specs.declared.frame.DioFrame.TheVariants.{Refused, Telling}
 use Rattle.dio_driver.specs.declared.frame.DioFrame.TheVariants as frames

@@ -1,9 +1,9 @@
 ghost use Rattle.std.specs.Prelude.{◌≡◌, ◌<◌, ◌≤◌};
-ghost use Rattle.dio_machine.specs.Values as values;
+ghost use Rattle.module_machines.specs.dio.Values as values;
 ghost use Rattle.dio_driver.specs.Accesses as spec;
 
-use dio_machine::{Call, PortPins};
 use mcal_base::{AnswerName, Move, Reg};
+use module_machines::dio::{Call, PortPins};
 use service_outline::{Reply, named, nothing, number};
 
 /// The one access of a call without an error, at which it acts and ends.

@@ -1,13 +1,13 @@
 ghost use Rattle.std.specs.Prelude.{◌≡◌};
-ghost use Rattle.dio_machine.specs.Checks as checks;
-ghost use Rattle.dio_machine.specs.Table as spec;
+ghost use Rattle.module_machines.specs.dio.Checks as checks;
+ghost use Rattle.module_machines.specs.dio.Table as spec;
 ghost use Rattle.dio_driver.specs.Frames as frames;
 
 use crate::access::Access;
 use crate::frame::DioFrame;
-use det_errors::{Facts, first_error, reported};
-use dio_machine::{Call, DioTable};
+use mcal_base::det_errors::{Facts, first_error, reported};
 use mcal_base::{Config, DevError, ModuleName};
+use module_machines::dio::{Call, DioTable};
 use run_model::{Class, Kind};
 use std::marker::Model;
 use std::ops::Deref;
@@ -22,7 +22,7 @@ pub struct DioDriver {
 }
 
 impl Model for DioDriver {
-    ghost use Rattle.dio_machine.specs.declared.table.DioTable.{DioTable};
+    ghost use Rattle.module_machines.specs.declared.dio.table.DioTable.{DioTable};
 
     ghost Value = { DioTable };
 

@@ -1,9 +1,9 @@
 ghost use Rattle.std.specs.Prelude.{◌≡◌};
-ghost use Rattle.dio_machine.specs.Checks.{answer_refused};
+ghost use Rattle.module_machines.specs.dio.Checks.{answer_refused};
 
 use crate::access::Access;
-use dio_machine::Call;
 use mcal_base::{Answer, AnswerName, DevError, Event, Move, Routine, Taken};
+use module_machines::dio::Call;
 use service_outline::{Reply, named, nothing, number};
 
 /// The driver word that a call with an error loads, to act. It is never stored.

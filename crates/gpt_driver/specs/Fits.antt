@@ -3,9 +3,9 @@ use Rattle.std.proofs.Common.{◌≡◌, ℕ, suc, ◌<◌, ◌^◌, Bool, true,
 use Rattle.std.specs.Prelude.{All, if◌then◌else◌, is_some}
 use Rattle.mcal_base.specs.declared.config.gpt.GptChannel.{GptChannel}
 use Rattle.mcal_base.specs.declared.config.gpt.GptConfig.{GptConfig}
-use Rattle.gpt_machine.specs.laws.Channels.{by_eight, within}
-use Rattle.gpt_machine.specs.Table.{channel_in, table_of, channel_of, taken, FitsGpt}
-use Rattle.gpt_machine.specs.declared.table.Channel.{Channel}
+use Rattle.module_machines.specs.gpt.laws.Channels.{by_eight, within}
+use Rattle.module_machines.specs.gpt.Table.{channel_in, table_of, channel_of, taken, FitsGpt}
+use Rattle.module_machines.specs.declared.gpt.table.Channel.{Channel}
 
 -- the channel counts, and its values fit a register
 pub record IsSound (x : GptChannel) : Type 0 where

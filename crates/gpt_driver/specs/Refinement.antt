@@ -1,22 +1,22 @@
 -- How words and registers stand for the machine's state.
 use Rattle.std.specs.Prelude.{◌≡◌, ℕ, ◌<◌, ◌^◌, ◌==◌, nat_lt, Bool, true, false, not, Option, Some, None}
 use Rattle.chip_model.specs.Chip.{Chip, word_of}
-use Rattle.chip_timers.specs.Timers.{Timers, timer_at, expired_between}
-use Rattle.chip_timers.specs.declared.timer.Count.{Count}
-use Rattle.chip_timers.specs.declared.timer.Count.TheVariants.{Still, Since}
-use Rattle.chip_timers.specs.declared.timer.Timer.{Timer}
+use Rattle.chip_blocks.specs.timers.Timers.{Timers, timer_at, expired_between}
+use Rattle.chip_blocks.specs.declared.timers.timer.Count.{Count}
+use Rattle.chip_blocks.specs.declared.timers.timer.Count.TheVariants.{Still, Since}
+use Rattle.chip_blocks.specs.declared.timers.timer.Timer.{Timer}
 use Rattle.mcal_base.specs.Bits.{has_bit}
 use Rattle.run_model.specs.World.{World}
 use Rattle.run_model.specs.Outside.{StandsIn}
 use Rattle.service_outline.specs.Outline.{Refinement}
-use Rattle.gpt_machine.specs.Machine.{Course, Never, Running, Stopped, Timing, Mode, Off, Normal, Sleep, is_off, GptState, channel_at, untouched, prescaler_of, target_of}
-use Rattle.gpt_machine.specs.Table.{channel_of, one_shot_of}
+use Rattle.module_machines.specs.gpt.Machine.{Course, Never, Running, Stopped, Timing, Mode, Off, Normal, Sleep, is_off, GptState, channel_at, untouched, prescaler_of, target_of}
+use Rattle.module_machines.specs.gpt.Table.{channel_of, one_shot_of}
 use Rattle.gpt_driver.specs.Words.{target_word, switches_word, word_of as packed}
-use Rattle.gpt_machine.specs.declared.call.Call.{Call}
-use Rattle.gpt_machine.specs.declared.table.Channel as configured
-use Rattle.gpt_machine.specs.declared.table.GptTable.{GptTable}
+use Rattle.module_machines.specs.declared.gpt.call.Call.{Call}
+use Rattle.module_machines.specs.declared.gpt.table.Channel as configured
+use Rattle.module_machines.specs.declared.gpt.table.GptTable.{GptTable}
 use Rattle.gpt_driver.specs.declared.words.TheConstants.{STATE}
-use Rattle.gpt_machine.specs.Bounds.{gpt_owns, gpt_setting}
+use Rattle.module_machines.specs.gpt.Bounds.{gpt_owns, gpt_setting}
 
 -- ---- what the top frame may have under work
 

@@ -2,7 +2,7 @@
 use Rattle.std.specs.Prelude.{ℕ, ◌+◌, ◌*◌, ◌/◌, ◌%◌, ◌^◌, ◌==◌, nat_lt, if◌then◌else◌}
 use Rattle.mcal_base.specs.Bits.{bit_of}
 use Rattle.gpt_driver.specs.declared.words.TheConstants.{TARGETS, SWITCHES}
-use Rattle.gpt_machine.specs.declared.switches.Switches.{Switches}
+use Rattle.module_machines.specs.declared.gpt.switches.Switches.{Switches}
 
 -- the word of a channel's target
 abbrev pub target_word : ℕ → ℕ

@@ -1,6 +1,6 @@
 ghost use Rattle.std.specs.Prelude.{◌≡◌};
 ghost use Rattle.gpt_driver.specs.laws.Look as spec;
-ghost use Rattle.gpt_machine.specs.Checks as checks;
+ghost use Rattle.module_machines.specs.gpt.Checks as checks;
 
 use crate::driver::GptDriver;
 use crate::service::count::CountBody;
@@ -12,9 +12,9 @@ use crate::service::stop::StopBody;
 use crate::service::switch::SwitchBody;
 use crate::service::{ChannelBody, GptBody};
 use crate::words::STATE;
-use det_errors::{Facts, first_error};
-use gpt_machine::{Call, Change, Channel, ChannelCall, GptMode};
+use mcal_base::det_errors::{Facts, first_error};
 use mcal_base::{Answer, ErrorName, Service};
+use module_machines::gpt::{Call, Change, Channel, ChannelCall, GptMode};
 use service_outline::{Done, Epilogue, Looked, Or, Reply, nothing, number};
 
 /// A call with the driver that it is made of.

@@ -1,16 +1,16 @@
 ghost use Rattle.std.specs.Prelude.{◌≡◌, ◌≤◌};
-ghost use Rattle.gpt_machine.specs.Bounds.{whole_steps, counted};
+ghost use Rattle.module_machines.specs.gpt.Bounds.{whole_steps, counted};
 
 use crate::driver::GptDriver;
-use gpt_machine::{Call, call_of};
 use mcal_base::{ModuleName, Request, Service};
+use module_machines::gpt::{Call, call_of};
 use script_runner::Caller;
 
 /// The most steps of a call about a channel, and of a handler.
 const MOST_STEPS: u32 = 64;
 
 impl Caller for GptDriver {
-    ghost use Rattle.gpt_machine.specs.Requests.{call_of, has_service};
+    ghost use Rattle.module_machines.specs.gpt.Requests.{call_of, has_service};
     ghost use Rattle.gpt_driver.specs.laws.Lawful.{slow_timers};
 
     ghost has_service = { λ _. has_service };

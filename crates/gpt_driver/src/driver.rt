@@ -1,12 +1,12 @@
 ghost use Rattle.std.specs.Prelude.{◌≡◌};
 ghost use Rattle.mcal_base.specs.Bits.{bits_of};
 ghost use Rattle.service_outline.specs.Done.{owed_error};
-ghost use Rattle.gpt_machine.specs.Machine.{reporting};
-ghost use Rattle.gpt_machine.specs.Table as spec;
+ghost use Rattle.module_machines.specs.gpt.Machine.{reporting};
+ghost use Rattle.module_machines.specs.gpt.Table as spec;
 
 use crate::words::bit;
-use gpt_machine::GptTable;
 use mcal_base::{Config, ErrorName, Service};
+use module_machines::gpt::GptTable;
 use service_outline::Epilogue;
 use std::marker::Model;
 use std::ops::Deref;
@@ -18,7 +18,7 @@ pub struct GptDriver {
 }
 
 impl Model for GptDriver {
-    ghost use Rattle.gpt_machine.specs.declared.table.GptTable.{GptTable};
+    ghost use Rattle.module_machines.specs.declared.gpt.table.GptTable.{GptTable};
 
     ghost Value = { GptTable };
 

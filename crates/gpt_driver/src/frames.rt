@@ -3,8 +3,8 @@ use crate::driver::GptDriver;
 use crate::service::GptBody;
 use crate::service::serve::ServeBody;
 use chip_model::Bus;
-use gpt_machine::Call;
 use mcal_base::ModuleName;
+use module_machines::gpt::Call;
 use run_model::Class;
 use service_outline::{Or, Short};
 use std::marker::Model;
@@ -17,7 +17,7 @@ pub type GptFrame = Short<Asked, GptBody>;
 pub struct GptMachine;
 
 impl Model for GptMachine {
-    ghost use Rattle.gpt_machine.specs.Machine.{GptState, first_state};
+    ghost use Rattle.module_machines.specs.gpt.Machine.{GptState, first_state};
 
     ghost Value = { GptState };
 

@@ -1,7 +1,7 @@
 ghost use Rattle.std.specs.Prelude.{◌≡◌};
 ghost use Rattle.gpt_driver.specs.Words as spec;
 
-use gpt_machine::Switches;
+use module_machines::gpt::Switches;
 
 /// The switches that stand in a word.
 pub(crate) fn unpacked(word: u32) -> Switches

@@ -4,10 +4,10 @@ use Rattle.std.specs.Prelude.{All, if◌then◌else◌, is_some}
 use Rattle.mcal_base.specs.declared.config.icu.IcuChannel.{IcuChannel}
 use Rattle.mcal_base.specs.declared.config.icu.IcuConfig.{IcuConfig}
 use Rattle.icu_driver.specs.Refinement.{FitsIcu}
-use Rattle.icu_machine.specs.Table.{channel_in, table_of, channel_of, taken, is_measurement}
-use Rattle.icu_machine.specs.declared.table.Channel.{Channel}
+use Rattle.module_machines.specs.icu.Table.{channel_in, table_of, channel_of, taken, is_measurement}
+use Rattle.module_machines.specs.declared.icu.table.Channel.{Channel}
 use Rattle.icu_driver.specs.laws.RefinementRight.{within}
-use Rattle.icu_machine.specs.laws.Channels.{by_eight}
+use Rattle.module_machines.specs.icu.laws.Channels.{by_eight}
 
 -- the channel's pin is there, and a measurement has a property
 pub record IsSound (x : IcuChannel) : Type 0 where

@@ -1,13 +1,13 @@
 -- How words and registers stand for the machine's state.
 use Rattle.std.specs.Prelude.{◌≡◌, ◌≢◌, ℕ, ◌+◌, ◌-◌, ◌%◌, ◌^◌, ◌<◌, ◌≤◌, ◌==◌, nat_lt, Bool, true, false, ◌&&◌, ◌||◌, not, List, [], ◌∷◌, ◌++◌, map, length, Option, Some, None, is_some, if◌then◌else◌}
 use Rattle.std.specs.List.{AllByRecursion}
-use Rattle.chip_captures.specs.Captures.{Captures, capture_at as chip_capture, pin_of}
-use Rattle.chip_captures.specs.declared.capture.Capture as chips
-use Rattle.chip_captures.specs.declared.capture.Condition.{Condition}
-use Rattle.chip_captures.specs.declared.capture.Condition.TheVariants as conditions
-use Rattle.chip_captures.specs.declared.capture.Edge as chip_edges
-use Rattle.chip_captures.specs.declared.capture.Mode.{Mode}
-use Rattle.chip_captures.specs.declared.capture.Mode.TheVariants.{Keeps, Counts}
+use Rattle.chip_blocks.specs.captures.Captures.{Captures, capture_at as chip_capture, pin_of}
+use Rattle.chip_blocks.specs.declared.captures.capture.Capture as chips
+use Rattle.chip_blocks.specs.declared.captures.capture.Condition.{Condition}
+use Rattle.chip_blocks.specs.declared.captures.capture.Condition.TheVariants as conditions
+use Rattle.chip_blocks.specs.declared.captures.capture.Edge as chip_edges
+use Rattle.chip_blocks.specs.declared.captures.capture.Mode.{Mode}
+use Rattle.chip_blocks.specs.declared.captures.capture.Mode.TheVariants.{Keeps, Counts}
 use Rattle.chip_model.specs.Chip.{Chip, word_of}
 use Rattle.mcal_base.specs.Bits.{has_bit, bit_of}
 use Rattle.mcal_base.specs.Layout.{place_of}
@@ -25,14 +25,14 @@ use Rattle.mcal_base.specs.declared.register.Reg.TheVariants.{EnableSet, EnableC
 use Rattle.run_model.specs.World.{World}
 use Rattle.run_model.specs.Outside.{StandsIn}
 use Rattle.service_outline.specs.Outline.{Refinement}
-use Rattle.icu_machine.specs.Bounds.{is_capture, is_own_word, is_stamp, icu_setting}
-use Rattle.icu_machine.specs.Edges.{Edge, is_same, begins_rising, values, newest}
-use Rattle.icu_machine.specs.Machine.{IcuState, Capture, Start, capture_at, index, is_full, stamp_in, moved}
-use Rattle.icu_machine.specs.Table.{channel_of, is_counter, is_timestamp, is_measurement}
+use Rattle.module_machines.specs.icu.Bounds.{is_capture, is_own_word, is_stamp, icu_setting}
+use Rattle.module_machines.specs.icu.Edges.{Edge, is_same, begins_rising, values, newest}
+use Rattle.module_machines.specs.icu.Machine.{IcuState, Capture, Start, capture_at, index, is_full, stamp_in, moved}
+use Rattle.module_machines.specs.icu.Table.{channel_of, is_counter, is_timestamp, is_measurement}
 use Rattle.icu_driver.specs.Words.{word}
-use Rattle.icu_machine.specs.declared.call.Call.{Call}
-use Rattle.icu_machine.specs.declared.table.Channel.{Channel}
-use Rattle.icu_machine.specs.declared.table.IcuTable.{IcuTable}
+use Rattle.module_machines.specs.declared.icu.call.Call.{Call}
+use Rattle.module_machines.specs.declared.icu.table.Channel.{Channel}
+use Rattle.module_machines.specs.declared.icu.table.IcuTable.{IcuTable}
 use Rattle.icu_driver.specs.declared.words.TheConstants.{STATE, SWITCHES, MARKS, SIZES, INTERVALS, PLACES, VALUES, TIMES}
 
 -- what the configuration has to be: numbers stand at their places, pins are there, and a measurement has a property

@@ -39,12 +39,12 @@ pub use Rattle.mcal_base.specs.{declared.register.Reg.TheVariants.{CaptureMode, 
 pub use Rattle.mcal_base.specs.{declared.register.Reg.TheVariants.{CaptureTimeLow, CaptureZero, EnableClear, EnableSet}}
 pub use Rattle.mcal_base.specs.There.{names_there}
 unfoldable pub use Rattle.mcal_base.specs.Bits.{at_bits}
-pub use Rattle.det_errors.proofs.RowLaws.{last_at, none_holds}
-pub use Rattle.det_errors.specs.Rows.{errors_of}
-pub use Rattle.chip_captures.specs.{Captures.{acted, acting, capture_at as chip_capture, Captures, channels_at, closed}}
-pub use Rattle.chip_captures.specs.{Captures.{flushed, info_of, oldest_time, popped, with_capture as chip_with}}
-pub use Rattle.chip_captures.specs.{Captures.{with_condition, with_mode, zeroed}, declared.capture.Act.{Act as Turn}}
-pub use Rattle.chip_captures.specs.{declared.capture.Act.{Act}, declared.capture.Act.TheVariants.{Catch}}
+pub use Rattle.mcal_base.proofs.RowLaws.{last_at, none_holds}
+pub use Rattle.mcal_base.specs.det_errors.Rows.{errors_of}
+pub use Rattle.chip_blocks.specs.captures.{Captures.{acted, acting, capture_at as chip_capture, Captures, channels_at, closed}}
+pub use Rattle.chip_blocks.specs.captures.{Captures.{flushed, info_of, oldest_time, popped, with_capture as chip_with}}
+pub use Rattle.chip_blocks.specs.{captures.Captures.{with_condition, with_mode, zeroed}, declared.captures.capture.Act.{Act as Turn}}
+pub use Rattle.chip_blocks.specs.declared.captures.{capture.Act.{Act}, capture.Act.TheVariants.{Catch}}
 pub use Rattle.chip_model.proofs.HistoryLaws.{level_leaves}
 pub use Rattle.chip_model.specs.Chip.{Chip, chip_after, happened, word_of}
 pub use Rattle.run_model.proofs.OutsideLaws.{stands-move}
@@ -71,19 +71,19 @@ pub use Rattle.service_outline.specs.{declared.done.Epilogue.{Epilogue}, declare
 pub use Rattle.service_outline.specs.laws.{Acts.{never_clean}, Either.{either_right}, Reports.{error_told}}
 pub use Rattle.service_outline.specs.laws.{Seen.{never_after, never_serving, plain_sees, sees_if}, SweepWords.{each_but}}
 pub use Rattle.service_outline.specs.laws.{Words.{stored_other, stored_same, word_later}}
-pub use Rattle.icu_machine.specs.Bounds.{channel_count, counted, halves, icu_may, is_capture, is_for_lines}
-pub use Rattle.icu_machine.specs.{Shown.{size_by, size_of}}
-pub use Rattle.icu_machine.specs.Bounds.{is_own_word, is_stamp, may_name, may_write, steps_of}
-pub use Rattle.icu_machine.specs.{Checks.{allows, answer_refused, channel_service, error_by, facts_by, has_notification}}
-pub use Rattle.icu_machine.specs.{Checks.{input_answer, reporting, service_of, suits}, Edges.{beginning_at}}
-pub use Rattle.icu_machine.specs.{Edges.{begins_rising, Edge, ends_rising, is_same, measures as measured_edges}}
-pub use Rattle.icu_machine.specs.{Edges.{measures, newest, up_to, value_of, values, values_by}, Machine.{acts_by, asked}}
-pub use Rattle.icu_machine.specs.{Machine.{by_channel, Capture, capture_at, channel_answer, channel_work, cleared}}
-pub use Rattle.icu_machine.specs.{Machine.{cleared_all, completes, edge_at_pin, edge_queued, edge_taken, handed}}
-pub use Rattle.icu_machine.specs.{Machine.{happens, icu_machine, IcuState, index, index_by, is_full, is_notified, is_on}}
-pub use Rattle.icu_machine.specs.{Machine.{is_taken, kinds_by, moved, notices_of, ready, ready_by, served, served_by}}
-pub use Rattle.icu_machine.specs.{Machine.{served_edge, stamp_in, Start, started, switched, value_or, waits}}
-pub use Rattle.icu_machine.specs.{Machine.{with_capture}}
+pub use Rattle.module_machines.specs.icu.Bounds.{channel_count, counted, halves, icu_may, is_capture, is_for_lines}
+pub use Rattle.module_machines.specs.icu.{Shown.{size_by, size_of}}
+pub use Rattle.module_machines.specs.icu.Bounds.{is_own_word, is_stamp, may_name, may_write, steps_of}
+pub use Rattle.module_machines.specs.icu.{Checks.{allows, answer_refused, channel_service, error_by, facts_by, has_notification}}
+pub use Rattle.module_machines.specs.icu.{Checks.{input_answer, reporting, service_of, suits}, Edges.{beginning_at}}
+pub use Rattle.module_machines.specs.icu.{Edges.{begins_rising, Edge, ends_rising, is_same, measures as measured_edges}}
+pub use Rattle.module_machines.specs.icu.{Edges.{measures, newest, up_to, value_of, values, values_by}, Machine.{acts_by, asked}}
+pub use Rattle.module_machines.specs.icu.{Machine.{by_channel, Capture, capture_at, channel_answer, channel_work, cleared}}
+pub use Rattle.module_machines.specs.icu.{Machine.{cleared_all, completes, edge_at_pin, edge_queued, edge_taken, handed}}
+pub use Rattle.module_machines.specs.icu.{Machine.{happens, icu_machine, IcuState, index, index_by, is_full, is_notified, is_on}}
+pub use Rattle.module_machines.specs.icu.{Machine.{is_taken, kinds_by, moved, notices_of, ready, ready_by, served, served_by}}
+pub use Rattle.module_machines.specs.icu.{Machine.{served_edge, stamp_in, Start, started, switched, value_or, waits}}
+pub use Rattle.module_machines.specs.icu.{Machine.{with_capture}}
 pub use Rattle.icu_driver.specs.{Refinement.{ActiveIs, all_are, Alternate, bare, bare_block}}
 pub use Rattle.icu_driver.specs.{Refinement.{behind, CaptureAgrees, ChannelWords, ChoosesAs, chosen, condition_by}}
 pub use Rattle.icu_driver.specs.{Refinement.{counts_edges, emptying, EndsAt, first_of, FitsIcu, half_told, has_lines}}
@@ -94,24 +94,24 @@ pub use Rattle.icu_driver.specs.{Refinement.{Nothing_seen, only, opening, oppose
 pub use Rattle.icu_driver.specs.{Refinement.{owns_written, seen_by, seen_from, seen_number, seen_with, settled}}
 pub use Rattle.icu_driver.specs.{Refinement.{size_word, Stamped, stamps_edges, StampWords, Start_seen, StartIs}}
 pub use Rattle.icu_driver.specs.{Refinement.{starts_at, state_word, measures_told, told_with, unbroken, ValueIs}}
-pub use Rattle.icu_machine.specs.{Requests.{IsSmall}, Table.{channel_of}}
+pub use Rattle.module_machines.specs.icu.{Requests.{IsSmall}, Table.{channel_of}}
 pub use Rattle.icu_driver.specs.{Refinement.{waiting_value, whole_told}}
-pub use Rattle.icu_machine.specs.{Table.{channel_of_line, is_counter, is_detection, is_duty_cycle, is_linear}}
-pub use Rattle.icu_machine.specs.{Table.{is_measurement, is_timestamp}}
+pub use Rattle.module_machines.specs.icu.{Table.{channel_of_line, is_counter, is_detection, is_duty_cycle, is_linear}}
+pub use Rattle.module_machines.specs.icu.{Table.{is_measurement, is_timestamp}}
 pub use Rattle.icu_driver.specs.{Words.{bit, stamp_word, word}}
-pub use Rattle.icu_machine.specs.{declared.call.Call.{Call}}
+pub use Rattle.module_machines.specs.declared.icu.{call.Call.{Call}}
 pub use Rattle.icu_driver.specs.{declared.asked.Asked.{Asked}}
-pub use Rattle.icu_machine.specs.{declared.call.Call.TheVariants.{DeInit, Init}, declared.call.ChannelCall.{ChannelCall}}
-pub use Rattle.icu_machine.specs.{declared.call.ChannelCall.TheVariants.{DisableEdgeCount, DisableEdgeDetection}}
-pub use Rattle.icu_machine.specs.{declared.call.ChannelCall.TheVariants.{DisableNotification, EnableEdgeCount}}
-pub use Rattle.icu_machine.specs.{declared.call.ChannelCall.TheVariants.{EnableEdgeDetection, EnableNotification}}
-pub use Rattle.icu_machine.specs.{declared.call.ChannelCall.TheVariants.{GetDutyCycleValues, GetEdgeNumbers}}
-pub use Rattle.icu_machine.specs.{declared.call.ChannelCall.TheVariants.{GetInputState, GetTimeElapsed}}
-pub use Rattle.icu_machine.specs.{declared.call.ChannelCall.TheVariants.{GetTimestampIndex, ResetEdgeCount}}
-pub use Rattle.icu_machine.specs.{declared.call.ChannelCall.TheVariants.{SetActivationCondition, StartSignalMeasurement}}
-pub use Rattle.icu_machine.specs.{declared.call.ChannelCall.TheVariants.{StartTimestamp, StopSignalMeasurement}}
-pub use Rattle.icu_machine.specs.{declared.call.ChannelCall.TheVariants.{StopTimestamp}}
-pub use Rattle.icu_machine.specs.{declared.table.Channel.{Channel}, declared.table.IcuTable.{IcuTable}}
+pub use Rattle.module_machines.specs.declared.icu.{call.Call.TheVariants.{DeInit, Init}, call.ChannelCall.{ChannelCall}}
+pub use Rattle.module_machines.specs.declared.icu.{call.ChannelCall.TheVariants.{DisableEdgeCount, DisableEdgeDetection}}
+pub use Rattle.module_machines.specs.declared.icu.{call.ChannelCall.TheVariants.{DisableNotification, EnableEdgeCount}}
+pub use Rattle.module_machines.specs.declared.icu.{call.ChannelCall.TheVariants.{EnableEdgeDetection, EnableNotification}}
+pub use Rattle.module_machines.specs.declared.icu.{call.ChannelCall.TheVariants.{GetDutyCycleValues, GetEdgeNumbers}}
+pub use Rattle.module_machines.specs.declared.icu.{call.ChannelCall.TheVariants.{GetInputState, GetTimeElapsed}}
+pub use Rattle.module_machines.specs.declared.icu.{call.ChannelCall.TheVariants.{GetTimestampIndex, ResetEdgeCount}}
+pub use Rattle.module_machines.specs.declared.icu.{call.ChannelCall.TheVariants.{SetActivationCondition, StartSignalMeasurement}}
+pub use Rattle.module_machines.specs.declared.icu.{call.ChannelCall.TheVariants.{StartTimestamp, StopSignalMeasurement}}
+pub use Rattle.module_machines.specs.declared.icu.{call.ChannelCall.TheVariants.{StopTimestamp}}
+pub use Rattle.module_machines.specs.declared.icu.{table.Channel.{Channel}, table.IcuTable.{IcuTable}}
 pub use Rattle.icu_driver.specs.{declared.service.change.ChangeBody.{ChangeBody}}
 pub use Rattle.icu_driver.specs.{declared.service.change.ChangeBody.TheVariants.{Choose, Notify, Take}}
 pub use Rattle.icu_driver.specs.{declared.service.count.CountBody.{CountBody}}
@@ -139,5 +139,5 @@ pub use Rattle.icu_driver.specs.{declared.words.TheConstants.{MARKS, PLACES, SIZ
 pub use Rattle.icu_driver.specs.laws.{Fresh.{values_none}, Parts.{caught-bare}}
 pub use Rattle.icu_driver.specs.laws.{RefinementRight.{below_test, ground_right, lines_parts, other_line, own_stamp}}
 pub use Rattle.icu_driver.specs.laws.{RefinementRight.{own_word, within as within_eight, within}}
-pub use Rattle.icu_machine.specs.laws.{Channels.{by_channel_at, by_eight, by_if}, Edges.{pin_still, still}}
+pub use Rattle.module_machines.specs.icu.laws.{Channels.{by_channel_at, by_eight, by_if}, Edges.{pin_still, still}}
 pub use Rattle.icu_driver.specs.laws.{Tables.{mark_in, same_marks}}

@@ -3,8 +3,8 @@ use Rattle.std.specs.Prelude.{ℕ, ◌+◌, ◌*◌, ◌%◌, ◌^◌, nat_lt, i
 use Rattle.mcal_base.specs.Bits.{bit_of}
 use Rattle.mcal_base.specs.declared.config.icu.IcuStartEdge.{IcuStartEdge}
 use Rattle.mcal_base.specs.declared.config.icu.IcuStartEdge.TheVariants.{Rising, Falling, Both}
-use Rattle.icu_machine.specs.Table.{is_counter, is_measurement}
-use Rattle.icu_machine.specs.declared.table.Channel.{Channel}
+use Rattle.module_machines.specs.icu.Table.{is_counter, is_measurement}
+use Rattle.module_machines.specs.declared.icu.table.Channel.{Channel}
 use Rattle.icu_driver.specs.declared.words.TheConstants.{LINE, STAMPS}
 
 -- the word of a channel in a row of words

@@ -1,6 +1,6 @@
 ghost use Rattle.std.specs.Prelude.{◌≡◌};
-ghost use Rattle.icu_machine.specs.Checks as checks;
-ghost use Rattle.icu_machine.specs.Table as table;
+ghost use Rattle.module_machines.specs.icu.Checks as checks;
+ghost use Rattle.module_machines.specs.icu.Table as table;
 ghost use Rattle.icu_driver.specs.laws.Look as spec;
 
 use crate::driver::IcuDriver;
@@ -14,11 +14,11 @@ use crate::service::measure::MeasureBody;
 use crate::service::stamp::{StampBody, Stamping};
 use crate::service::{self, IcuBody};
 use crate::words::STATE;
-use det_errors::{Facts, first_error};
-use icu_machine::{Call, Channel, ChannelCall};
+use mcal_base::det_errors::{Facts, first_error};
 use mcal_base::{
     Answer, AnswerName, ErrorName, IcuMeasurementMode, IcuSignalMeasurementProperty, Service,
 };
+use module_machines::icu::{Call, Channel, ChannelCall};
 use service_outline::{Done, Epilogue, Looked, Reply, named, nothing, number, numbers};
 
 /// A call with the driver that it is made of.

@@ -1,16 +1,16 @@
 ghost use Rattle.std.specs.Prelude.{◌≡◌, ◌≤◌};
-ghost use Rattle.icu_machine.specs.Bounds as bounds;
+ghost use Rattle.module_machines.specs.icu.Bounds as bounds;
 
 use crate::driver::IcuDriver;
-use icu_machine::{Call, call_of};
 use mcal_base::{ModuleName, Request, Service};
+use module_machines::icu::{Call, call_of};
 use script_runner::Caller;
 
 /// The most steps of a call about a channel, and of a handler.
 const MOST_STEPS: u32 = 64;
 
 impl Caller for IcuDriver {
-    ghost use Rattle.icu_machine.specs.Requests.{asked_for, has_service};
+    ghost use Rattle.module_machines.specs.icu.Requests.{asked_for, has_service};
     ghost use Rattle.icu_driver.specs.laws.Lawful.{slow_captures};
 
     ghost has_service = { λ _. has_service };

@@ -1,12 +1,12 @@
 ghost use Rattle.std.specs.Prelude.{◌≡◌};
 ghost use Rattle.service_outline.specs.Done.{owed_error};
-ghost use Rattle.icu_machine.specs.Checks.{reporting};
-ghost use Rattle.icu_machine.specs.Classes.{class_of};
-ghost use Rattle.icu_machine.specs.Table as spec;
-ghost use Rattle.icu_machine.specs.Bounds as bounds;
+ghost use Rattle.module_machines.specs.icu.Checks.{reporting};
+ghost use Rattle.module_machines.specs.icu.Classes.{class_of};
+ghost use Rattle.module_machines.specs.icu.Table as spec;
+ghost use Rattle.module_machines.specs.icu.Bounds as bounds;
 
-use icu_machine::{Call, IcuTable};
 use mcal_base::{Config, ErrorName, ModuleName, Service};
+use module_machines::icu::{Call, IcuTable};
 use run_model::Class;
 use service_outline::Epilogue;
 use std::marker::Model;
@@ -19,7 +19,7 @@ pub struct IcuDriver {
 }
 
 impl Model for IcuDriver {
-    ghost use Rattle.icu_machine.specs.declared.table.IcuTable.{IcuTable};
+    ghost use Rattle.module_machines.specs.declared.icu.table.IcuTable.{IcuTable};
 
     ghost Value = { IcuTable };
 

@@ -3,8 +3,8 @@ use crate::driver::IcuDriver;
 use crate::handler::handler;
 use crate::service::IcuBody;
 use chip_model::Bus;
-use icu_machine::Call;
 use mcal_base::ModuleName;
+use module_machines::icu::Call;
 use run_model::Class;
 use service_outline::Short;
 use std::marker::Model;
@@ -17,7 +17,7 @@ pub type IcuFrame = Short<Asked, IcuBody>;
 pub struct IcuMachine;
 
 impl Model for IcuMachine {
-    ghost use Rattle.icu_machine.specs.Machine.{IcuState, first_state};
+    ghost use Rattle.module_machines.specs.icu.Machine.{IcuState, first_state};
 
     ghost Value = { IcuState };
 

@@ -1,15 +1,15 @@
 ghost use Rattle.std.specs.Prelude.{◌≡◌};
-ghost use Rattle.icu_machine.specs.Table as table;
+ghost use Rattle.module_machines.specs.icu.Table as table;
 ghost use Rattle.icu_driver.specs.laws.Handler as spec;
 
 use crate::service::detect::DetectBody;
 use crate::service::keep::{KeepBody, Kept};
 use crate::service::sample::{SampleBody, Sampled};
 use crate::service::{self, IcuBody};
-use icu_machine::Channel;
 use mcal_base::{
     IcuMeasurementMode, IcuSignalMeasurementProperty, IcuStartEdge, IcuTimestampMeasurementProperty,
 };
+use module_machines::icu::Channel;
 
 /// The handler of a channel's line. A counter's finds no edge.
 pub(crate) fn handler(channel: Channel) -> IcuBody

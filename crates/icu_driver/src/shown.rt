@@ -1,15 +1,15 @@
 ghost use Rattle.std.specs.Prelude.{◌≡◌, ◌<◌};
-ghost use Rattle.icu_machine.specs.Shown.{size_of};
+ghost use Rattle.module_machines.specs.icu.Shown.{size_of};
 ghost use Rattle.icu_driver.specs.Refinement.{settled, IcuRepresents};
-ghost use Rattle.icu_machine.specs.Machine.{IcuState};
+ghost use Rattle.module_machines.specs.icu.Machine.{IcuState};
 ghost use Rattle.icu_driver.specs.laws.Shown as spec;
 ghost use Rattle.run_model.specs.World.{World};
 
 use crate::driver::IcuDriver;
 use crate::words::SIZES;
 use chip_model::Bus;
-use icu_machine::Channel;
 use mcal_base::IcuMeasurementMode;
+use module_machines::icu::Channel;
 
 impl IcuDriver {
     /// How many places of a channel's stamps are shown: the size of its last start, none without one since the last

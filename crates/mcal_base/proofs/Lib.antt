@@ -1,5 +1,6 @@
+pub mod BitLaws
 pub mod Counting
 pub mod ExpiryLaws
-pub mod BitLaws
-pub mod Places
 pub mod Owners
+pub mod Places
+pub mod RowLaws

@@ -6,5 +6,6 @@ pub mod Layout
 pub mod Names
 pub mod Reach
 pub mod There
+pub mod det_errors
 pub mod facts
 pub mod laws

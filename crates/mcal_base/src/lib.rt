@@ -1,5 +1,5 @@
 //! The plain types that every layer speaks of: moves, registers, events, services, answers, directives and
-//! configurations, and where bytes come from and go to.
+//! configurations, and where bytes come from and go to; and which error a service finds (`det_errors`).
 #![tactic(auto)]
 
 mod answer;
@@ -8,6 +8,7 @@ mod argument_name;
 mod bits;
 mod boxed_words;
 mod config;
+pub mod det_errors;
 mod directive;
 mod ends;
 mod error_name;

@@ -5,7 +5,7 @@ use Rattle.std.specs.Option.{IsSome}
 use Rattle.toml.specs.Data.{Members, no_members, member}
 use Rattle.config_keys.specs.Checks.{passes}
 use Rattle.config_keys.specs.declared.fault.ConfigFault.TheVariants.{NotToml}
-use Rattle.config_rows.proofs.Recorded.{Recorded, there, failed, skip, need_module, need_module_last}
+use Rattle.config_tables.proofs.HasValue.{Recorded, there, failed, skip, need_module, need_module_last}
 use Rattle.config_tables.proofs.Recorded.{mcu_read, port_read, gpt_read, pwm_read, icu_read, adc_read, spi_read, dio_read, wdg_read}
 use Rattle.mcal_config.specs.Whole.{default_board, modules_checks, modules_value, tree_checks, tree_value, config_checks, config_of, tree_of, fault_of, record_of}
 

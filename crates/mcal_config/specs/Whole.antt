@@ -5,7 +5,7 @@ use Rattle.toml.specs.Data.{Members, no_members, member}
 use Rattle.toml.specs.Parse.{parse_document}
 use Rattle.config_keys.specs.Checks.{Checks, passes, fails, ◌⨾◌, first}
 use Rattle.config_keys.specs.Kinds.{◌>>=◌}
-use Rattle.config_rows.specs.Modules.{module_checks, module_value, given}
+use Rattle.config_tables.specs.rows.Modules.{module_checks, module_value, given}
 use Rattle.config_keys.specs.declared.fault.ConfigFault.{ConfigFault}
 use Rattle.config_keys.specs.declared.fault.ConfigFault.TheVariants.{NotToml}
 use Rattle.mcal_base.specs.declared.config.gpt.GptChannelMode.TheVariants.{OneShot}

@@ -7,8 +7,8 @@ ghost use Rattle.config_tables.specs.Adc as spec;
 
 use config_facts::are_same;
 use config_keys::{ConfigFault, KeyName};
-use config_rows::{Element, Module, Rule, check_reference, check_rule};
 use config_tables::adc::{Groups, Units, is_continuous, is_hardware, is_single, keys};
+use config_tables::rows::{Element, Module, Rule, check_reference, check_rule};
 use mcal_base::{AdcConfig, AdcGroup, AdcHwUnit, ModuleName};
 use toml::Table;
 

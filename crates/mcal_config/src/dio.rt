@@ -5,8 +5,8 @@ ghost use Rattle.config_facts.specs.Valid as valid;
 ghost use Rattle.config_tables.specs.Dio as spec;
 
 use config_keys::{ConfigFault, KeyName, Path};
-use config_rows::{Element, Rule, check_rule};
 use config_tables::dio::Groups;
+use config_tables::rows::{Element, Rule, check_rule};
 use mcal_base::{DioChannelGroup, DioConfig, PortConfig, PortPin};
 
 /// Rule 13: the lowest one of a group's mask isn't at its offset.

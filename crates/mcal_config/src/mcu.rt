@@ -6,8 +6,8 @@ ghost use Rattle.config_facts.specs.Valid as valid;
 ghost use Rattle.config_tables.specs.Mcu as spec;
 
 use config_keys::ConfigFault;
-use config_rows::{Element, Module, Rule, check_rule};
 use config_tables::mcu::{RamSections, keys};
+use config_tables::rows::{Element, Module, Rule, check_rule};
 use mcal_base::{McuConfig, McuRamSection, ModuleName};
 use toml::Table;
 

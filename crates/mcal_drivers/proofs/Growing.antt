@@ -11,7 +11,7 @@ use Rattle.run_model.specs.Machine.{Happening, Acts, Serves, Starts, Aborts, Mov
 use Rattle.run_model.specs.World.{World}
 use Rattle.step_runner.specs.Union.{first_call, second_call, lift_out, in_both, in_first, union_machine}
 use Rattle.step_runner.specs.declared.either.Either.TheVariants.{Left, Right}
-use Rattle.guest_runner.specs.Guest.{Guest, guest_machine}
+use Rattle.service_outline.specs.guests.Guest.{Guest, guest_machine}
 use Rattle.spi_machine.specs.Promised.{shown_on}
 
 -- ---- machines that begin no word

@@ -21,33 +21,33 @@ use Rattle.service_outline.specs.laws.ShortServices.{short_lawful}
 use Rattle.step_runner.specs.Driver.{Driver}
 use Rattle.step_runner.specs.Union.{first_origins, second_origins, has_handler, union_of}
 use Rattle.step_runner.specs.Whose.{only, all_of, is_of, module_of_word, KeepsTo, NamesOthers}
-use Rattle.guest_runner.specs.Guest.{keeps_off, IsPlaced, LetsIn, Hosts}
-use Rattle.guest_runner.specs.LetsLaws.{OwnsNone, lets-first, lets-second, lets-fewer, lets-same, off-first, off-second}
-use Rattle.mcu_machine.specs.Table as clock_table
+use Rattle.service_outline.specs.guests.Guest.{keeps_off, IsPlaced, LetsIn, Hosts}
+use Rattle.service_outline.specs.guests.LetsLaws.{OwnsNone, lets-first, lets-second, lets-fewer, lets-same, off-first, off-second}
+use Rattle.module_machines.specs.mcu.Table as clock_table
 use Rattle.mcu_driver.specs.laws.Lawful as clock_laws
 use Rattle.mcu_driver.specs.laws.Lawful.{mcu}
-use Rattle.wdg_machine.specs.Table as watchdog_table
+use Rattle.module_machines.specs.wdg.Table as watchdog_table
 use Rattle.wdg_driver.specs.laws.Lawful as watchdog_laws
 use Rattle.wdg_driver.specs.laws.Lawful.{wdg}
-use Rattle.port_machine.specs.Bounds.{is_alone, port_setting, PinsAgree}
-use Rattle.port_machine.specs.Machine.{Inverted, with_change}
-use Rattle.port_machine.specs.Table as pin_table
-use Rattle.port_machine.specs.declared.call.Call as pin_calls
-use Rattle.port_machine.specs.declared.call.Call.TheVariants as pin_call
-use Rattle.port_machine.specs.declared.table.PortTable.{PortTable}
+use Rattle.module_machines.specs.port.Bounds.{is_alone, port_setting, PinsAgree}
+use Rattle.module_machines.specs.port.Machine.{Inverted, with_change}
+use Rattle.module_machines.specs.port.Table as pin_table
+use Rattle.module_machines.specs.declared.port.call.Call as pin_calls
+use Rattle.module_machines.specs.declared.port.call.Call.TheVariants as pin_call
+use Rattle.module_machines.specs.declared.port.table.PortTable.{PortTable}
 use Rattle.port_driver.specs.laws.Guests.{flip_agrees, guest_state, lets_in, pins_let}
 use Rattle.dio_driver.specs.Fits as port_fits
 use Rattle.dio_driver.specs.Guest.{dio_may, state_after, SeesPins}
-use Rattle.dio_machine.specs.Table.{FitsDio}
-use Rattle.dio_machine.specs.Table as port_table
+use Rattle.module_machines.specs.dio.Table.{FitsDio}
+use Rattle.module_machines.specs.dio.Table as port_table
 use Rattle.dio_driver.specs.declared.frame.TheConstants.{NOWHERE}
-use Rattle.gpt_machine.specs.Table as timer_table
+use Rattle.module_machines.specs.gpt.Table as timer_table
 use Rattle.gpt_driver.specs.laws.Lawful as timer_laws
 use Rattle.gpt_driver.specs.laws.Lawful.{gpt}
-use Rattle.pwm_machine.specs.Bounds.{OutputsAgree}
-use Rattle.pwm_machine.specs.Table as pulse_table
+use Rattle.module_machines.specs.pwm.Bounds.{OutputsAgree}
+use Rattle.module_machines.specs.pwm.Table as pulse_table
 use Rattle.pwm_driver.specs.laws.Lawful as pulse_laws
-use Rattle.icu_machine.specs.Table as capture_table
+use Rattle.module_machines.specs.icu.Table as capture_table
 use Rattle.icu_driver.specs.laws.Lawful as capture_laws
 use Rattle.icu_driver.specs.laws.Lawful.{icu}
 use Rattle.adc_driver.specs.laws.bookkeeping.Joined.{joined_lawful as converters_lawful}

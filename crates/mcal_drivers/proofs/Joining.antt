@@ -13,22 +13,22 @@ use Rattle.step_runner.specs.declared.either.Either.TheVariants.{Left, Right}
 use Rattle.step_runner.specs.Whose.{only, all_of, are_disjoint, KeepsTo}
 use Rattle.step_runner.proofs.Whose.{keeps-both, disjoint-apart}
 use Rattle.mcu_driver.specs.Fits as clock_fits
-use Rattle.mcu_machine.specs.Table as clock_table
+use Rattle.module_machines.specs.mcu.Table as clock_table
 use Rattle.mcu_driver.specs.laws.Keeps.{keeps_clock}
 use Rattle.wdg_driver.specs.Fits as watchdog_fits
-use Rattle.wdg_machine.specs.Table as watchdog_table
+use Rattle.module_machines.specs.wdg.Table as watchdog_table
 use Rattle.wdg_driver.specs.laws.Keeps.{keeps_watchdog}
 use Rattle.port_driver.specs.Fits as pin_fits
-use Rattle.port_machine.specs.Table as pin_table
+use Rattle.module_machines.specs.port.Table as pin_table
 use Rattle.port_driver.specs.laws.Keeps.{keeps_pins}
 use Rattle.gpt_driver.specs.Fits as timer_fits
-use Rattle.gpt_machine.specs.Table as timer_table
+use Rattle.module_machines.specs.gpt.Table as timer_table
 use Rattle.gpt_driver.specs.laws.Keeps.{keeps_timers}
 use Rattle.pwm_driver.specs.Fits as pulse_fits
-use Rattle.pwm_machine.specs.Table as pulse_table
+use Rattle.module_machines.specs.pwm.Table as pulse_table
 use Rattle.pwm_driver.specs.laws.Keeps.{keeps_pulses}
 use Rattle.icu_driver.specs.Fits as capture_fits
-use Rattle.icu_machine.specs.Table as capture_table
+use Rattle.module_machines.specs.icu.Table as capture_table
 use Rattle.icu_driver.specs.laws.Keeps.{keeps_captures}
 use Rattle.adc_driver.specs.laws.words.ConfigurationFits as converter_fits
 use Rattle.adc_driver.specs.laws.bookkeeping.Joined.{keeps_converters}

@@ -4,7 +4,7 @@ use Rattle.std.specs.Prelude.{slice_index, option_map}
 use Rattle.chip_model.specs.Wiring.{wiring_of}
 use Rattle.chip_model.specs.Chip.{Chip, word_of, power_on, hung, channel_from, output_at, outside_at, pin_of}
 use Rattle.chip_model.specs.declared.wiring.Wiring.{Wiring}
-use Rattle.chip_pulses.specs.Pulses as outputs
+use Rattle.chip_blocks.specs.pulses.Pulses as outputs
 use Rattle.config_facts.specs.Valid.{IsAdc, IsPwm, IsIcu, IsSpi}
 use Rattle.mcal_base.specs.Layout.{length_of, place_of}
 use Rattle.mcal_base.specs.declared.config.pwm.PwmChannel.{PwmChannel}
@@ -13,12 +13,12 @@ use Rattle.mcal_base.specs.declared.layout.Array.{Array}
 use Rattle.mcal_base.specs.declared.layout.Array.TheVariants.{Round, Stamps, Source, Destination}
 use Rattle.run_model.specs.Moment.{Moment}
 use Rattle.run_model.specs.World.{World}
-use Rattle.port_machine.specs.Bounds.{PinsAgree}
-use Rattle.port_machine.specs.Machine as pins
+use Rattle.module_machines.specs.port.Bounds.{PinsAgree}
+use Rattle.module_machines.specs.port.Machine as pins
 use Rattle.port_driver.specs.laws.Levels.{level_stands}
-use Rattle.pwm_machine.specs.Bounds.{OutputsAgree}
-use Rattle.pwm_machine.specs.Machine as pulses
-use Rattle.pwm_machine.specs.Table as pulse_table
+use Rattle.module_machines.specs.pwm.Bounds.{OutputsAgree}
+use Rattle.module_machines.specs.pwm.Machine as pulses
+use Rattle.module_machines.specs.pwm.Table as pulse_table
 use Rattle.mcal_drivers.specs.Setting.{SystemState, SystemCall, seen_at, system_setting}
 use Rattle.mcal_drivers.specs.Shows.{channel_on, pulse_at, level_at, ram_at, user_at}
 use Rattle.mcal_drivers.proofs.Named.{few, named}

@@ -4,7 +4,7 @@ use Rattle.std.specs.Prelude.{All, AllPairs, if◌then◌else◌, cond, map, opt
 use Rattle.std.specs.List.{find, range_with_len}
 use Rattle.std.proofs.lemmas.Bool.Decides.{nat_tests}
 use Rattle.mcal_base.specs.facts.Numbers.{eq_self}
-use Rattle.chip_captures.specs.Captures as captures
+use Rattle.chip_blocks.specs.captures.Captures as captures
 use Rattle.chip_model.specs.Chip.{channel_from}
 use Rattle.chip_model.specs.Wiring.{wiring_of, output_in}
 use Rattle.config_facts.specs.Ids.{same_id, Keeps}

@@ -13,8 +13,8 @@ use Rattle.step_runner.specs.Driver.{Driver}
 use Rattle.step_runner.specs.Stands.{paired, AreFramesOf, IsGuarded, Stands}
 use Rattle.step_runner.specs.declared.stack.Under.{Under}
 use Rattle.step_runner.specs.Union.{Splits, Nothing_open, UnionRelates, has_handler, union_of}
-use Rattle.guest_runner.specs.Guest.{Guest, guest_of}
-use Rattle.guest_runner.specs.Frames.{no-hosts}
+use Rattle.service_outline.specs.guests.Guest.{Guest, guest_of}
+use Rattle.service_outline.specs.guests.Frames.{no-hosts}
 use Rattle.run_model.proofs.LegalLaws.{served-last}
 
 -- ---- the wiring, which stays

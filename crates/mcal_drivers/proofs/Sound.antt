@@ -8,7 +8,7 @@ use Rattle.std.proofs.lemmas.List.Folds.{list_any_at}
 use Rattle.std.proofs.lemmas.Option.{slice_get_within, get_or_from_slice_get}
 use Rattle.std.proofs.lemmas.Bool.{not-false}
 use Rattle.config_facts.specs.Rules.{overlaps, same_mode}
-use Rattle.chip_captures.specs.Captures.{pin_in, pins_in, captures_fresh}
+use Rattle.chip_blocks.specs.captures.Captures.{pin_in, pins_in, captures_fresh}
 use Rattle.config_facts.specs.Valid.{IsMcu, IsPort, IsGpt, IsInput, IsIcu}
 use Rattle.mcal_base.specs.declared.config.mcu.McuConfig.{McuConfig}
 use Rattle.mcal_base.specs.declared.config.mcu.McuRamSection.{McuRamSection}
@@ -22,12 +22,12 @@ use Rattle.mcal_base.specs.declared.config.icu.IcuMeasurementMode.{IcuMeasuremen
 use Rattle.mcal_base.specs.declared.config.icu.IcuMeasurementMode.TheVariants.{SignalEdgeDetect, EdgeCounter, Timestamp, SignalMeasurement}
 use Rattle.mcu_driver.specs.Fits as clock_fits
 use Rattle.port_driver.specs.Fits as pin_fits
-use Rattle.port_machine.specs.Table.{is_same, lists}
+use Rattle.module_machines.specs.port.Table.{is_same, lists}
 use Rattle.gpt_driver.specs.Fits as timer_fits
 use Rattle.icu_driver.specs.Fits as capture_fits
 use Rattle.icu_driver.specs.Refinement.{WiredAs, pin_by}
-use Rattle.icu_machine.specs.Table as capture_table
-use Rattle.icu_machine.specs.laws.Channels.{by_eight}
+use Rattle.module_machines.specs.icu.Table as capture_table
+use Rattle.module_machines.specs.icu.laws.Channels.{by_eight}
 
 -- ---- the clock
 

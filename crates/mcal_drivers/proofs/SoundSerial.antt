@@ -22,7 +22,7 @@ use Rattle.mcal_base.specs.declared.config.whole.Config.{Config}
 use Rattle.spi_driver.specs.laws.words.ConfigurationFits as serial_fits
 use Rattle.spi_machine.specs.Fits.{AreDifferent}
 use Rattle.spi_machine.specs.Table.{channel_in, channel_of, channels_by, job_in, length_by, table_of, taken_channel, taken_job}
-use Rattle.spi_jobs.specs.declared.channel.Channel.{Channel}
+use Rattle.word_shapes.specs.declared.jobs.channel.Channel.{Channel}
 use Rattle.spi_machine.specs.declared.table.Job.{Job}
 use Rattle.spi_sequences.specs.Refinement.{WiredAs}
 use Rattle.spi_sequences.specs.laws.words.WordsOfModule.{in_list}

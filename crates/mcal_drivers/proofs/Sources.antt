@@ -10,7 +10,7 @@ use Rattle.service_outline.specs.ShortServices as short
 use Rattle.step_runner.specs.Driver.{AllOutside}
 use Rattle.step_runner.specs.Union.{has_handler, union_of}
 use Rattle.step_runner.specs.UnionLaws.{outside-split}
-use Rattle.guest_runner.specs.Guest.{every}
+use Rattle.service_outline.specs.guests.Guest.{every}
 use Rattle.mcu_driver.specs.laws.Lawful.{mcu}
 use Rattle.wdg_driver.specs.laws.Lawful.{wdg}
 use Rattle.port_driver.specs.laws.Lawful.{port}

@@ -12,13 +12,13 @@ use Rattle.mcal_base.specs.declared.config.icu.IcuConfig.{IcuConfig}
 use Rattle.mcal_base.specs.declared.config.whole.Config.{Config}
 use Rattle.mcal_base.specs.declared.layout.Array.TheVariants.{Stamps}
 use Rattle.run_model.specs.World.{World}
-use Rattle.icu_machine.specs.Shown.{size_by, size_of}
+use Rattle.module_machines.specs.icu.Shown.{size_by, size_of}
 use Rattle.icu_driver.specs.Refinement.{settled, stamps_edges, IsStart, IcuRepresents}
-use Rattle.icu_machine.specs.Machine.{IcuState, Start, capture_at}
-use Rattle.icu_machine.specs.Table.{taken, channel_in, table_of, channel_of}
-use Rattle.icu_machine.specs.declared.table.Channel.{Channel}
-use Rattle.icu_machine.specs.declared.table.IcuTable.{IcuTable}
-use Rattle.icu_machine.specs.laws.Channels.{by_eight}
+use Rattle.module_machines.specs.icu.Machine.{IcuState, Start, capture_at}
+use Rattle.module_machines.specs.icu.Table.{taken, channel_in, table_of, channel_of}
+use Rattle.module_machines.specs.declared.icu.table.Channel.{Channel}
+use Rattle.module_machines.specs.declared.icu.table.IcuTable.{IcuTable}
+use Rattle.module_machines.specs.icu.laws.Channels.{by_eight}
 
 -- the places of a number's channel, none where it isn't configured
 abbrev places_in : List IcuChannel → ℕ → ℕ

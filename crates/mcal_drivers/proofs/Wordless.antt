@@ -8,49 +8,49 @@ use Rattle.mcal_base.specs.declared.config.whole.Config.{Config}
 use Rattle.mcal_base.specs.declared.error_name.ErrorName.{ErrorName}
 use Rattle.run_model.specs.Machine.{Acts, Serves, Starts, Aborts, Moves, Restarts, Begun, Outcome, outcome, tells_nothing}
 use Rattle.run_model.specs.World.{World}
-use Rattle.mcu_machine.specs.Machine as clock
-use Rattle.mcu_machine.specs.Table as clock_table
-use Rattle.mcu_machine.specs.declared.call.Call as clock_calls
-use Rattle.mcu_machine.specs.declared.call.Call.TheVariants as clock_call
-use Rattle.mcu_machine.specs.declared.call.ClockCall.TheVariants.{InitClock, DistributePllClock}
-use Rattle.mcu_machine.specs.declared.table.McuTable.{McuTable}
-use Rattle.wdg_machine.specs.Machine as watchdogs
-use Rattle.wdg_machine.specs.Table as watchdog_table
-use Rattle.wdg_machine.specs.declared.call.Call as watchdog_calls
-use Rattle.wdg_machine.specs.declared.call.Call.TheVariants as watchdog_call
-use Rattle.wdg_machine.specs.declared.table.WdgTable.{WdgTable}
+use Rattle.module_machines.specs.mcu.Machine as clock
+use Rattle.module_machines.specs.mcu.Table as clock_table
+use Rattle.module_machines.specs.declared.mcu.call.Call as clock_calls
+use Rattle.module_machines.specs.declared.mcu.call.Call.TheVariants as clock_call
+use Rattle.module_machines.specs.declared.mcu.call.ClockCall.TheVariants.{InitClock, DistributePllClock}
+use Rattle.module_machines.specs.declared.mcu.table.McuTable.{McuTable}
+use Rattle.module_machines.specs.wdg.Machine as watchdogs
+use Rattle.module_machines.specs.wdg.Table as watchdog_table
+use Rattle.module_machines.specs.declared.wdg.call.Call as watchdog_calls
+use Rattle.module_machines.specs.declared.wdg.call.Call.TheVariants as watchdog_call
+use Rattle.module_machines.specs.declared.wdg.table.WdgTable.{WdgTable}
 use Rattle.mcal_base.specs.declared.config.wdg.WdgMode.{WdgMode}
-use Rattle.port_machine.specs.Machine as pins
-use Rattle.port_machine.specs.Table as pin_table
-use Rattle.port_machine.specs.declared.call.Call as pin_calls
-use Rattle.port_machine.specs.declared.table.PortTable.{PortTable}
-use Rattle.dio_machine.specs.Machine.{does_by}
-use Rattle.dio_machine.specs.Table as port_table
-use Rattle.dio_machine.specs.declared.table.PortPins.{PortPins}
-use Rattle.dio_machine.specs.declared.call.Call as port_calls
-use Rattle.dio_machine.specs.declared.call.Call.TheVariants as port_call
-use Rattle.gpt_machine.specs.Machine as timers
-use Rattle.gpt_machine.specs.declared.call.Call as timer_calls
-use Rattle.gpt_machine.specs.declared.call.Call.TheVariants as timer_call
-use Rattle.gpt_machine.specs.declared.call.ChannelCall.TheVariants as asks
-use Rattle.gpt_machine.specs.declared.call.GptMode.TheVariants as modes
-use Rattle.gpt_machine.specs.declared.call.Change.{Change}
-use Rattle.gpt_machine.specs.declared.table.Channel as timer_channels
-use Rattle.gpt_machine.specs.declared.table.GptTable.{GptTable}
-use Rattle.gpt_machine.specs.Table as timer_table
-use Rattle.pwm_machine.specs.Machine as pulses
-use Rattle.pwm_machine.specs.Table as pulse_table
-use Rattle.pwm_machine.specs.declared.call.Call as pulse_calls
-use Rattle.pwm_machine.specs.declared.call.Call.TheVariants as pulse_call
-use Rattle.pwm_machine.specs.declared.table.PwmTable.{PwmTable}
-use Rattle.icu_machine.specs.Edges.{Edge}
-use Rattle.icu_machine.specs.Machine as captures
-use Rattle.icu_machine.specs.Table as capture_table
-use Rattle.icu_machine.specs.declared.call.Call as capture_calls
-use Rattle.icu_machine.specs.declared.call.Call.TheVariants as capture_call
-use Rattle.icu_machine.specs.declared.call.ChannelCall as capture_asks
-use Rattle.icu_machine.specs.declared.table.Channel as capture_channels
-use Rattle.icu_machine.specs.declared.table.IcuTable.{IcuTable}
+use Rattle.module_machines.specs.port.Machine as pins
+use Rattle.module_machines.specs.port.Table as pin_table
+use Rattle.module_machines.specs.declared.port.call.Call as pin_calls
+use Rattle.module_machines.specs.declared.port.table.PortTable.{PortTable}
+use Rattle.module_machines.specs.dio.Machine.{does_by}
+use Rattle.module_machines.specs.dio.Table as port_table
+use Rattle.module_machines.specs.declared.dio.table.PortPins.{PortPins}
+use Rattle.module_machines.specs.declared.dio.call.Call as port_calls
+use Rattle.module_machines.specs.declared.dio.call.Call.TheVariants as port_call
+use Rattle.module_machines.specs.gpt.Machine as timers
+use Rattle.module_machines.specs.declared.gpt.call.Call as timer_calls
+use Rattle.module_machines.specs.declared.gpt.call.Call.TheVariants as timer_call
+use Rattle.module_machines.specs.declared.gpt.call.ChannelCall.TheVariants as asks
+use Rattle.module_machines.specs.declared.gpt.call.GptMode.TheVariants as modes
+use Rattle.module_machines.specs.declared.gpt.call.Change.{Change}
+use Rattle.module_machines.specs.declared.gpt.table.Channel as timer_channels
+use Rattle.module_machines.specs.declared.gpt.table.GptTable.{GptTable}
+use Rattle.module_machines.specs.gpt.Table as timer_table
+use Rattle.module_machines.specs.pwm.Machine as pulses
+use Rattle.module_machines.specs.pwm.Table as pulse_table
+use Rattle.module_machines.specs.declared.pwm.call.Call as pulse_calls
+use Rattle.module_machines.specs.declared.pwm.call.Call.TheVariants as pulse_call
+use Rattle.module_machines.specs.declared.pwm.table.PwmTable.{PwmTable}
+use Rattle.module_machines.specs.icu.Edges.{Edge}
+use Rattle.module_machines.specs.icu.Machine as captures
+use Rattle.module_machines.specs.icu.Table as capture_table
+use Rattle.module_machines.specs.declared.icu.call.Call as capture_calls
+use Rattle.module_machines.specs.declared.icu.call.Call.TheVariants as capture_call
+use Rattle.module_machines.specs.declared.icu.call.ChannelCall as capture_asks
+use Rattle.module_machines.specs.declared.icu.table.Channel as capture_channels
+use Rattle.module_machines.specs.declared.icu.table.IcuTable.{IcuTable}
 use Rattle.adc_machine.specs.Groups.{Round, Status, Idle, Busy, Completed, StreamCompleted}
 use Rattle.adc_machine.specs.Machine as converters
 use Rattle.adc_machine.specs.Table as converter_table

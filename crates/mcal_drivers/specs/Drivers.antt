@@ -5,31 +5,31 @@ use Rattle.service_outline.specs.Services.{services_driver}
 use Rattle.service_outline.specs.ShortServices as short
 use Rattle.step_runner.specs.Driver.{Driver}
 use Rattle.step_runner.specs.Union.{union_of}
-use Rattle.guest_runner.specs.Guest.{guest_of}
-use Rattle.mcu_machine.specs.Machine.{McuState}
-use Rattle.mcu_machine.specs.Table as clock_table
-use Rattle.mcu_machine.specs.declared.call.Call as clock_calls
+use Rattle.service_outline.specs.guests.Guest.{guest_of}
+use Rattle.module_machines.specs.mcu.Machine.{McuState}
+use Rattle.module_machines.specs.mcu.Table as clock_table
+use Rattle.module_machines.specs.declared.mcu.call.Call as clock_calls
 use Rattle.mcu_driver.specs.laws.Lawful.{mcu}
-use Rattle.wdg_machine.specs.Machine.{WdgState}
-use Rattle.wdg_machine.specs.Table as watchdog_table
-use Rattle.wdg_machine.specs.declared.call.Call as watchdog_calls
+use Rattle.module_machines.specs.wdg.Machine.{WdgState}
+use Rattle.module_machines.specs.wdg.Table as watchdog_table
+use Rattle.module_machines.specs.declared.wdg.call.Call as watchdog_calls
 use Rattle.wdg_driver.specs.laws.Lawful.{wdg}
-use Rattle.port_machine.specs.Machine.{PortState}
-use Rattle.port_machine.specs.Table as pin_table
-use Rattle.port_machine.specs.declared.call.Call as pin_calls
+use Rattle.module_machines.specs.port.Machine.{PortState}
+use Rattle.module_machines.specs.port.Table as pin_table
+use Rattle.module_machines.specs.declared.port.call.Call as pin_calls
 use Rattle.port_driver.specs.laws.Lawful.{port}
-use Rattle.dio_machine.specs.Table as port_table
-use Rattle.gpt_machine.specs.Machine.{GptState}
-use Rattle.gpt_machine.specs.Table as timer_table
-use Rattle.gpt_machine.specs.declared.call.Call as timer_calls
+use Rattle.module_machines.specs.dio.Table as port_table
+use Rattle.module_machines.specs.gpt.Machine.{GptState}
+use Rattle.module_machines.specs.gpt.Table as timer_table
+use Rattle.module_machines.specs.declared.gpt.call.Call as timer_calls
 use Rattle.gpt_driver.specs.laws.Lawful.{gpt}
-use Rattle.pwm_machine.specs.Machine.{PwmState}
-use Rattle.pwm_machine.specs.Table as pulse_table
-use Rattle.pwm_machine.specs.declared.call.Call as pulse_calls
+use Rattle.module_machines.specs.pwm.Machine.{PwmState}
+use Rattle.module_machines.specs.pwm.Table as pulse_table
+use Rattle.module_machines.specs.declared.pwm.call.Call as pulse_calls
 use Rattle.pwm_driver.specs.laws.Lawful.{pwm}
-use Rattle.icu_machine.specs.Machine.{IcuState}
-use Rattle.icu_machine.specs.Table as capture_table
-use Rattle.icu_machine.specs.declared.call.Call as capture_calls
+use Rattle.module_machines.specs.icu.Machine.{IcuState}
+use Rattle.module_machines.specs.icu.Table as capture_table
+use Rattle.module_machines.specs.declared.icu.call.Call as capture_calls
 use Rattle.icu_driver.specs.laws.Lawful.{icu}
 use Rattle.adc_driver.specs.laws.bookkeeping.Joined.{joined as converters_of}
 use Rattle.adc_machine.specs.Table as converter_table

@@ -11,7 +11,7 @@ use Rattle.service_outline.specs.laws.ShortServices.{short_lawful}
 use Rattle.step_runner.specs.Driver.{Driver, IsLawful}
 use Rattle.step_runner.specs.Union.{either, either_left, either_gave, AreApart, union_of}
 use Rattle.step_runner.specs.UnionLaws.{union-lawful}
-use Rattle.guest_runner.specs.GuestLaws.{guest-lawful}
+use Rattle.service_outline.specs.guests.GuestLaws.{guest-lawful}
 use Rattle.mcu_driver.specs.laws.Lawful as clock_laws
 use Rattle.mcu_driver.specs.laws.Lawful.{mcu}
 use Rattle.wdg_driver.specs.laws.Lawful as watchdog_laws

@@ -10,47 +10,47 @@ use Rattle.run_model.specs.World.{World}
 use Rattle.step_runner.specs.Union.{union_setting}
 use Rattle.step_runner.specs.declared.either.Either.{Either}
 use Rattle.step_runner.specs.declared.either.Either.TheVariants.{Left, Right}
-use Rattle.guest_runner.specs.Guest.{Guest, guest_setting}
-use Rattle.mcu_machine.specs.Bounds.{mcu_setting}
-use Rattle.mcu_machine.specs.Machine.{McuState}
-use Rattle.mcu_machine.specs.Requests as clock_requests
-use Rattle.mcu_machine.specs.Table as clock_table
-use Rattle.mcu_machine.specs.declared.call.Call as clock_calls
-use Rattle.wdg_machine.specs.Bounds.{wdg_setting}
-use Rattle.wdg_machine.specs.Machine.{WdgState}
-use Rattle.wdg_machine.specs.Requests as watchdog_requests
-use Rattle.wdg_machine.specs.Table as watchdog_table
-use Rattle.wdg_machine.specs.declared.call.Call as watchdog_calls
-use Rattle.port_machine.specs.Bounds.{port_setting}
-use Rattle.port_machine.specs.Machine.{PortState, Put, Inverted, with_change}
-use Rattle.port_machine.specs.Machine as pins
-use Rattle.port_machine.specs.Requests as pin_requests
-use Rattle.port_machine.specs.Table as pin_table
-use Rattle.port_machine.specs.declared.call.Call as pin_calls
+use Rattle.service_outline.specs.guests.Guest.{Guest, guest_setting}
+use Rattle.module_machines.specs.mcu.Bounds.{mcu_setting}
+use Rattle.module_machines.specs.mcu.Machine.{McuState}
+use Rattle.module_machines.specs.mcu.Requests as clock_requests
+use Rattle.module_machines.specs.mcu.Table as clock_table
+use Rattle.module_machines.specs.declared.mcu.call.Call as clock_calls
+use Rattle.module_machines.specs.wdg.Bounds.{wdg_setting}
+use Rattle.module_machines.specs.wdg.Machine.{WdgState}
+use Rattle.module_machines.specs.wdg.Requests as watchdog_requests
+use Rattle.module_machines.specs.wdg.Table as watchdog_table
+use Rattle.module_machines.specs.declared.wdg.call.Call as watchdog_calls
+use Rattle.module_machines.specs.port.Bounds.{port_setting}
+use Rattle.module_machines.specs.port.Machine.{PortState, Put, Inverted, with_change}
+use Rattle.module_machines.specs.port.Machine as pins
+use Rattle.module_machines.specs.port.Requests as pin_requests
+use Rattle.module_machines.specs.port.Table as pin_table
+use Rattle.module_machines.specs.declared.port.call.Call as pin_calls
 use Rattle.dio_driver.specs.Guest.{dio}
-use Rattle.dio_machine.specs.Machine.{HostPins}
-use Rattle.dio_machine.specs.Requests as port_requests
-use Rattle.dio_machine.specs.Table as port_table
-use Rattle.dio_machine.specs.declared.call.Call as port_calls
-use Rattle.dio_machine.specs.declared.table.DioTable.{DioTable}
+use Rattle.module_machines.specs.dio.Machine.{HostPins}
+use Rattle.module_machines.specs.dio.Requests as port_requests
+use Rattle.module_machines.specs.dio.Table as port_table
+use Rattle.module_machines.specs.declared.dio.call.Call as port_calls
+use Rattle.module_machines.specs.declared.dio.table.DioTable.{DioTable}
 use Rattle.dio_driver.specs.declared.frame.DioFrame.{DioFrame}
-use Rattle.gpt_machine.specs.Bounds.{gpt_setting}
-use Rattle.gpt_machine.specs.Machine.{GptState}
-use Rattle.gpt_machine.specs.Requests as timer_requests
-use Rattle.gpt_machine.specs.Table as timer_table
-use Rattle.gpt_machine.specs.declared.call.Call as timer_calls
-use Rattle.pwm_machine.specs.Bounds.{pwm_setting}
-use Rattle.pwm_machine.specs.Machine.{PwmState}
-use Rattle.pwm_machine.specs.Machine as pulses
-use Rattle.pwm_machine.specs.Requests as pulse_requests
-use Rattle.pwm_machine.specs.Table as pulse_table
-use Rattle.pwm_machine.specs.declared.call.Call as pulse_calls
-use Rattle.pwm_machine.specs.declared.table.PwmTable.{PwmTable}
-use Rattle.icu_machine.specs.Bounds.{icu_setting}
-use Rattle.icu_machine.specs.Machine.{IcuState}
-use Rattle.icu_machine.specs.Requests as capture_requests
-use Rattle.icu_machine.specs.Table as capture_table
-use Rattle.icu_machine.specs.declared.call.Call as capture_calls
+use Rattle.module_machines.specs.gpt.Bounds.{gpt_setting}
+use Rattle.module_machines.specs.gpt.Machine.{GptState}
+use Rattle.module_machines.specs.gpt.Requests as timer_requests
+use Rattle.module_machines.specs.gpt.Table as timer_table
+use Rattle.module_machines.specs.declared.gpt.call.Call as timer_calls
+use Rattle.module_machines.specs.pwm.Bounds.{pwm_setting}
+use Rattle.module_machines.specs.pwm.Machine.{PwmState}
+use Rattle.module_machines.specs.pwm.Machine as pulses
+use Rattle.module_machines.specs.pwm.Requests as pulse_requests
+use Rattle.module_machines.specs.pwm.Table as pulse_table
+use Rattle.module_machines.specs.declared.pwm.call.Call as pulse_calls
+use Rattle.module_machines.specs.declared.pwm.table.PwmTable.{PwmTable}
+use Rattle.module_machines.specs.icu.Bounds.{icu_setting}
+use Rattle.module_machines.specs.icu.Machine.{IcuState}
+use Rattle.module_machines.specs.icu.Requests as capture_requests
+use Rattle.module_machines.specs.icu.Table as capture_table
+use Rattle.module_machines.specs.declared.icu.call.Call as capture_calls
 use Rattle.adc_driver.specs.Requests as converter_requests
 use Rattle.adc_machine.specs.Bounds.{adc_setting}
 use Rattle.adc_machine.specs.Requests.{has_service as has_converter}

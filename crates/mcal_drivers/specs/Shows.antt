@@ -6,17 +6,17 @@ use Rattle.mcal_base.specs.declared.config.whole.Config.{Config}
 use Rattle.mcal_base.specs.declared.layout.Array.{Array}
 use Rattle.mcal_base.specs.declared.layout.Array.TheVariants.{Round, Stamps, Source, Destination}
 use Rattle.run_model.specs.World.{World}
-use Rattle.mcu_machine.specs.Machine as clock
-use Rattle.port_machine.specs.Machine as pins
-use Rattle.pwm_machine.specs.Machine as pulses
-use Rattle.pwm_machine.specs.Table as pulse_table
-use Rattle.icu_machine.specs.Shown as captures
+use Rattle.module_machines.specs.mcu.Machine as clock
+use Rattle.module_machines.specs.port.Machine as pins
+use Rattle.module_machines.specs.pwm.Machine as pulses
+use Rattle.module_machines.specs.pwm.Table as pulse_table
+use Rattle.module_machines.specs.icu.Shown as captures
 use Rattle.adc_machine.specs.Machine as converters
 use Rattle.adc_machine.specs.Table as converter_table
 use Rattle.adc_machine.specs.Words.{buffer_number, place_count}
 use Rattle.adc_machine.specs.declared.call.ResultBuffer.{ResultBuffer}
 use Rattle.adc_machine.specs.declared.call.ResultBuffer.TheVariants.{Zero, One}
-use Rattle.spi_jobs.specs.declared.channel.Channel as serial_channels
+use Rattle.word_shapes.specs.declared.jobs.channel.Channel as serial_channels
 use Rattle.spi_machine.specs.Numbered.{word_at}
 use Rattle.spi_machine.specs.State as serial
 use Rattle.spi_machine.specs.Table as serial_table

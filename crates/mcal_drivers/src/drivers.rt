@@ -100,7 +100,7 @@ type HostCall = Either<
 >;
 
 /// A call of one of them, or of their guest.
-type Call = Either<HostCall, dio_machine::Call>;
+type Call = Either<HostCall, module_machines::dio::Call>;
 
 /// The states of their machines.
 type States = (
@@ -398,7 +398,7 @@ impl Caller for Drivers {
                     self.converters.call(request),
                 ))))
             }
-            ModuleName::Dio => Either::Right(dio_machine::call_of(request)),
+            ModuleName::Dio => Either::Right(module_machines::dio::call_of(request)),
             _ => Either::Left(Either::Right(Either::Right(Either::Right(
                 self.serial.call(request),
             )))),

@@ -21,18 +21,18 @@ use Rattle.serial_devices.specs.Lines.{Line}
 use Rattle.service_outline.specs.Services.{entering}
 use Rattle.step_runner.specs.Driver.{Driver}
 use Rattle.step_runner.specs.Union.{either_handler, has_handler, union_setting, union_of}
-use Rattle.guest_runner.specs.Guest.{guest_setting}
-use Rattle.gpt_machine.specs.Table as timer_table
+use Rattle.service_outline.specs.guests.Guest.{guest_setting}
+use Rattle.module_machines.specs.gpt.Table as timer_table
 use Rattle.gpt_driver.specs.declared.asked.Asked as timer_asked
-use Rattle.gpt_machine.specs.declared.table.Channel as timer_channels
+use Rattle.module_machines.specs.declared.gpt.table.Channel as timer_channels
 use Rattle.gpt_driver.specs.laws.Lawful as timer_laws
-use Rattle.icu_machine.specs.Table as capture_table
+use Rattle.module_machines.specs.icu.Table as capture_table
 use Rattle.icu_driver.specs.declared.asked.Asked as capture_asked
-use Rattle.icu_machine.specs.declared.table.Channel as capture_channels
+use Rattle.module_machines.specs.declared.icu.table.Channel as capture_channels
 use Rattle.icu_driver.specs.laws.Handler as capture_laws
-use Rattle.pwm_machine.specs.Table as pulse_table
+use Rattle.module_machines.specs.pwm.Table as pulse_table
 use Rattle.pwm_driver.specs.declared.asked.Asked as pulse_asked
-use Rattle.pwm_machine.specs.declared.table.Channel as pulse_channels
+use Rattle.module_machines.specs.declared.pwm.table.Channel as pulse_channels
 use Rattle.pwm_driver.specs.laws.Lawful as pulse_laws
 use Rattle.adc_driver.specs.Handlers.{handled_by as handled_converter}
 use Rattle.adc_groups.specs.declared.asked.Asked as converter_asked

@@ -20,10 +20,10 @@ use Rattle.mcu_driver.specs.laws.Lawful.{mcu}
 use Rattle.wdg_driver.specs.laws.Lawful.{wdg}
 use Rattle.port_driver.specs.laws.Lawful.{port}
 use Rattle.pwm_driver.specs.laws.Lawful.{pwm}
-use Rattle.icu_machine.specs.Shown.{size_of}
+use Rattle.module_machines.specs.icu.Shown.{size_of}
 use Rattle.icu_driver.specs.Refinement.{settled, IcuRepresents}
-use Rattle.icu_machine.specs.Machine.{IcuState}
-use Rattle.icu_machine.specs.declared.table.IcuTable.{IcuTable}
+use Rattle.module_machines.specs.icu.Machine.{IcuState}
+use Rattle.module_machines.specs.declared.icu.table.IcuTable.{IcuTable}
 use Rattle.icu_driver.specs.laws.Lawful.{icu}
 use Rattle.adc_driver.specs.declared.driver.AdcDriver.{AdcDriver}
 use Rattle.adc_driver.specs.laws.words.ConfigurationFits as converter_fits
@@ -37,7 +37,7 @@ use Rattle.adc_machine.specs.declared.call.ResultBuffer.{ResultBuffer}
 use Rattle.spi_driver.specs.declared.driver.SpiDriver.{SpiDriver}
 use Rattle.spi_driver.specs.laws.words.ConfigurationFits as serial_fits
 use Rattle.spi_driver.specs.laws.bookkeeping.Joined.{joined as serial_of}
-use Rattle.spi_jobs.specs.declared.channel.Channel.{Channel}
+use Rattle.word_shapes.specs.declared.jobs.channel.Channel.{Channel}
 use Rattle.spi_machine.specs.Fits.{FitsSpi}
 use Rattle.spi_machine.specs.State.{SpiState, internal_word}
 use Rattle.spi_machine.specs.Table.{channel_of, is_internal_channel, length_by}

@@ -4,11 +4,11 @@ use Rattle.std.specs.Prelude.{if◌then◌else◌}
 use Rattle.std.proofs.lemmas.Bool.Decides.{nat_tests}
 use Rattle.std.proofs.lemmas.List.{map-append, take_rest}
 use Rattle.mcal_base.specs.facts.Numbers.{same_or_other}
-use Rattle.chip_units.proofs.SerialLaws.{has_unit-after, unit_at-with_unit_same, unit_at-with_unit_other}
-use Rattle.chip_units.specs.SerialAccesses.{Access, Writes, Words, Faults, Passes, HasUnit, after as after_access}
-use Rattle.chip_units.specs.Serials as serials
-use Rattle.chip_units.specs.Serials.{Serials, acknowledged, begun, faulted, unit_at, with_unit}
-use Rattle.chip_units.specs.declared.serial.Serial.{Serial}
+use Rattle.chip_blocks.proofs.of_units.SerialLaws.{has_unit-after, unit_at-with_unit_same, unit_at-with_unit_other}
+use Rattle.chip_blocks.specs.units.SerialAccesses.{Access, Writes, Words, Faults, Passes, HasUnit, after as after_access}
+use Rattle.chip_blocks.specs.units.Serials as serials
+use Rattle.chip_blocks.specs.units.Serials.{Serials, acknowledged, begun, faulted, unit_at, with_unit}
+use Rattle.chip_blocks.specs.declared.units.serial.Serial.{Serial}
 use Rattle.chip_model.specs.Chip.{Chip, after_read, after_write, chip_after, happened}
 use Rattle.chip_model.proofs.HistoryLaws.{level_leaves}
 use Rattle.mcal_base.specs.declared.config.whole.Config.{Config}

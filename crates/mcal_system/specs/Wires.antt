@@ -1,7 +1,7 @@
 -- What a journal tells of the wire of a serial unit since the last reset: each word that was written to it, and what
 -- came in with the word, by the width that the unit had.
 use Rattle.std.specs.Prelude.{ℕ, ◌==◌, ◌++◌, if◌then◌else◌, List, [], ◌∷◌}
-use Rattle.chip_units.specs.Serials.{masked, refused}
+use Rattle.chip_blocks.specs.units.Serials.{masked, refused}
 use Rattle.mcal_base.specs.declared.moves.Move.{Move}
 use Rattle.mcal_base.specs.declared.moves.Move.TheVariants.{Write}
 use Rattle.mcal_base.specs.declared.register.Reg.TheVariants.{SerialWidth, SerialData}

@@ -12,9 +12,9 @@ use mcal_base::{Config, Directive};
 use run_model::Journal;
 use shown_rows::{Exchange, ShownBoard, Words};
 use spi_driver::SpiDriver;
-use spi_jobs::Channel;
 use std::alloc::{AllocError, Global};
 use std::marker::Model;
+use word_shapes::jobs::Channel;
 
 /// A run while no frame is under way: its journal, the chip, and the drivers that a show asks. It holds no frame, so
 /// that a proof about it doesn't pay for those of all modules.

@@ -1,5 +1,5 @@
 ghost use Rattle.std.specs.Prelude.{◌≡◌, ℕ, List, IfOk, OnOk};
-ghost use Rattle.chip_units.specs.Serials.{masked as masked_of};
+ghost use Rattle.chip_blocks.specs.units.Serials.{masked as masked_of};
 ghost use Rattle.run_model.specs.Entry.{said_at};
 ghost use Rattle.mcal_system.specs.Wires as spec;
 

@@ -6,8 +6,8 @@ use Rattle.std.proofs.lemmas.Option.{slice_get_within, get_or_from_slice_get}
 use Rattle.mcal_base.specs.declared.config.mcu.McuClockSetting.{McuClockSetting}
 use Rattle.mcal_base.specs.declared.config.mcu.McuRamSection.{McuRamSection}
 use Rattle.mcal_base.specs.declared.config.mcu.McuConfig.{McuConfig}
-use Rattle.mcu_machine.specs.Table.{multiplier_in, taken, taken_if, section_in, table_of, multiplier_of, section_of, is_within, FitsMcu}
-use Rattle.mcu_machine.specs.declared.table.Section.{Section}
+use Rattle.module_machines.specs.mcu.Table.{multiplier_in, taken, taken_if, section_in, table_of, multiplier_of, section_of, is_within, FitsMcu}
+use Rattle.module_machines.specs.declared.mcu.table.Section.{Section}
 
 -- the multiplier is one that the PLL has
 pub record IsSoundSetting (x : McuClockSetting) : Type 0 where

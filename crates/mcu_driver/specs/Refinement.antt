@@ -2,18 +2,18 @@
 use Rattle.std.specs.Prelude.{◌≡◌, ℕ, ◌+◌, ◌<◌, ◌≤◌, nat_lt, Bool, true, false, ◌&&◌, List, [], ◌∷◌, Option, Some, None, slice_index, if◌then◌else◌}
 use Rattle.chip_model.specs.Chip.{Chip, word_of}
 use Rattle.chip_model.specs.Histories.{HasAll}
-use Rattle.chip_units.specs.Clock.{Clock}
-use Rattle.chip_units.specs.declared.clock.Pll as chips
+use Rattle.chip_blocks.specs.units.Clock.{Clock}
+use Rattle.chip_blocks.specs.declared.units.clock.Pll as chips
 use Rattle.run_model.specs.World.{World}
 use Rattle.run_model.specs.Frame.{Called}
 use Rattle.service_outline.specs.Services.{ReservedBy, SharedRefinement}
-use Rattle.mcu_machine.specs.Bounds.{owns, mcu_setting}
-use Rattle.mcu_machine.specs.Machine.{Pll, McuState, ram_at}
-use Rattle.mcu_machine.specs.Table.{section_of, is_within}
-use Rattle.mcu_machine.specs.declared.call.Call.{Call}
-use Rattle.mcu_machine.specs.declared.call.Call.TheVariants.{InitRamSection}
-use Rattle.mcu_machine.specs.declared.table.McuTable.{McuTable}
-use Rattle.mcu_machine.specs.declared.table.Section.{Section}
+use Rattle.module_machines.specs.mcu.Bounds.{owns, mcu_setting}
+use Rattle.module_machines.specs.mcu.Machine.{Pll, McuState, ram_at}
+use Rattle.module_machines.specs.mcu.Table.{section_of, is_within}
+use Rattle.module_machines.specs.declared.mcu.call.Call.{Call}
+use Rattle.module_machines.specs.declared.mcu.call.Call.TheVariants.{InitRamSection}
+use Rattle.module_machines.specs.declared.mcu.table.McuTable.{McuTable}
+use Rattle.module_machines.specs.declared.mcu.table.Section.{Section}
 use Rattle.mcu_driver.specs.declared.words.TheConstants.{STATE, MODE}
 
 -- ---- what is held

@@ -26,9 +26,9 @@ pub use Rattle.mcal_base.specs.{declared.register.Reg.TheVariants.{PulseCommit, 
 pub use Rattle.mcal_base.specs.{declared.register.Reg.TheVariants.{ResetRequest, TimerHigh, TimerLow}}
 pub use Rattle.mcal_base.specs.There.{names_there}
 pub use Rattle.mcal_base.specs.laws.There.{move_there}
-pub use Rattle.det_errors.proofs.RowLaws.{none_holds}
-pub use Rattle.det_errors.specs.Rows.{errors_of, first_error}
-pub use Rattle.chip_units.specs.Clock.{Clock as ClockBlock, is_locked as locked_in, is_locked_at, number_of, ticked}
+pub use Rattle.mcal_base.proofs.RowLaws.{none_holds}
+pub use Rattle.mcal_base.specs.det_errors.Rows.{errors_of, first_error}
+pub use Rattle.chip_blocks.specs.units.Clock.{Clock as ClockBlock, is_locked as locked_in, is_locked_at, number_of, ticked}
 pub use Rattle.chip_model.proofs.{HistoryLaws.{clock-left, level_leaves, ram-reset}, WholeLaws.{all-step}}
 pub use Rattle.chip_model.proofs.{WordLaws.{slice_index-blank}}
 pub use Rattle.chip_model.specs.{Chip.{after_read, Chip, chip_after, happened, is_masked, register_of, reset_chip}}
@@ -62,22 +62,22 @@ pub use Rattle.service_outline.specs.laws.{Reports.{error_told}, Seen.{free_wind
 pub use Rattle.service_outline.specs.laws.{ShortServices.{plain_turns}, StepKinds.{or_true}, SweepRight.{sweep_right}}
 pub use Rattle.service_outline.specs.laws.Words.{fills_there, stored_other, stored_same}
 pub use Rattle.service_outline.specs.laws.{Words.{stores_in, word_apart, word_later}}
-pub use Rattle.mcu_machine.specs.{Classes.{class_of}}
-pub use Rattle.mcu_machine.specs.Bounds.{call_steps, is_own_word, is_register, may, mcu_setting, owns}
-pub use Rattle.mcu_machine.specs.{Checks.{answer_refused, error_by, facts_by, reporting, service_of}}
-pub use Rattle.mcu_machine.specs.Bounds.{size_of}
-pub use Rattle.mcu_machine.specs.{Machine.{acts_by, after_reset, clocked, distributed, filled, fills_with, happens}}
-pub use Rattle.mcu_machine.specs.{Machine.{is_locked, mcu_machine, McuState, Pll, ram_at, reason_name, status_name}}
-pub use Rattle.mcu_machine.specs.{Machine.{word_in, work}}
+pub use Rattle.module_machines.specs.mcu.{Classes.{class_of}}
+pub use Rattle.module_machines.specs.mcu.Bounds.{call_steps, is_own_word, is_register, may, mcu_setting, owns}
+pub use Rattle.module_machines.specs.mcu.{Checks.{answer_refused, error_by, facts_by, reporting, service_of}}
+pub use Rattle.module_machines.specs.mcu.Bounds.{size_of}
+pub use Rattle.module_machines.specs.mcu.{Machine.{acts_by, after_reset, clocked, distributed, filled, fills_with, happens}}
+pub use Rattle.module_machines.specs.mcu.{Machine.{is_locked, mcu_machine, McuState, Pll, ram_at, reason_name, status_name}}
+pub use Rattle.module_machines.specs.mcu.{Machine.{word_in, work}}
 pub use Rattle.mcu_driver.specs.{Refinement.{AllRight, clock_of, done_by, is_done, IsSlowPll}}
 pub use Rattle.mcu_driver.specs.{Refinement.{mcu_basis, McuRepresents, Part, pll_of, Reservations, state_word, want}}
-pub use Rattle.mcu_machine.specs.{Table.{FitsMcu, is_within, multiplier_of, section_of}}
+pub use Rattle.module_machines.specs.mcu.{Table.{FitsMcu, is_within, multiplier_of, section_of}}
 pub use Rattle.mcu_driver.specs.{declared.asked.Asked.{Asked}}
-pub use Rattle.mcu_machine.specs.{declared.call.Call.{Call}, declared.call.Call.TheVariants.{Clock, GetPllStatus}}
-pub use Rattle.mcu_machine.specs.{declared.call.Call.TheVariants.{GetResetReason, Init, InitRamSection, PerformReset}}
-pub use Rattle.mcu_machine.specs.{declared.call.Call.TheVariants.{SetMode}}
-pub use Rattle.mcu_machine.specs.{declared.call.ClockCall.TheVariants.{DistributePllClock, InitClock}}
-pub use Rattle.mcu_machine.specs.{declared.table.McuTable.{McuTable}, declared.table.Section.{Section}}
+pub use Rattle.module_machines.specs.declared.mcu.{call.Call.{Call}, call.Call.TheVariants.{Clock, GetPllStatus}}
+pub use Rattle.module_machines.specs.declared.mcu.{call.Call.TheVariants.{GetResetReason, Init, InitRamSection, PerformReset}}
+pub use Rattle.module_machines.specs.declared.mcu.{call.Call.TheVariants.{SetMode}}
+pub use Rattle.module_machines.specs.declared.mcu.{call.ClockCall.TheVariants.{DistributePllClock, InitClock}}
+pub use Rattle.module_machines.specs.declared.mcu.{table.McuTable.{McuTable}, table.Section.{Section}}
 pub use Rattle.mcu_driver.specs.{declared.service.clock.ClockBody.{ClockBody}}
 pub use Rattle.mcu_driver.specs.{declared.service.clock.ClockBody.TheVariants.{Look, Start, Take}}
 pub use Rattle.mcu_driver.specs.{declared.service.fill.Fill.{Fill}, declared.service.fill.FilledBody.{FilledBody}}

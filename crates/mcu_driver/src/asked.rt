@@ -1,6 +1,6 @@
 ghost use Rattle.std.specs.Prelude.{◌≡◌};
 ghost use Rattle.mcu_driver.specs.laws.Look as spec;
-ghost use Rattle.mcu_machine.specs.Checks as checks;
+ghost use Rattle.module_machines.specs.mcu.Checks as checks;
 
 use crate::driver::McuDriver;
 use crate::service::clock::ClockBody;
@@ -10,9 +10,9 @@ use crate::service::reset::ResetBody;
 use crate::service::state::StateBody;
 use crate::service::{self, McuBody};
 use crate::words::STATE;
-use det_errors::{Facts, first_error};
+use mcal_base::det_errors::{Facts, first_error};
 use mcal_base::{Answer, AnswerName, ErrorName, Service};
-use mcu_machine::{Call, ClockCall, Section};
+use module_machines::mcu::{Call, ClockCall, Section};
 use service_outline::{Done, Epilogue, Looked, Reply, named, nothing};
 
 /// A call with the driver that it is made of.

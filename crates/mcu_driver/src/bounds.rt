@@ -1,9 +1,9 @@
 ghost use Rattle.std.specs.Prelude.{◌≡◌, ◌≤◌};
-ghost use Rattle.mcu_machine.specs.Bounds as spec;
-ghost use Rattle.mcu_machine.specs.Table.{FitsMcu, section_of};
+ghost use Rattle.module_machines.specs.mcu.Bounds as spec;
+ghost use Rattle.module_machines.specs.mcu.Table.{FitsMcu, section_of};
 
 use crate::driver::McuDriver;
-use mcu_machine::Call;
+use module_machines::mcu::Call;
 
 impl McuDriver {
     /// The most steps of a call's frame.

@@ -1,13 +1,13 @@
 use crate::driver::McuDriver;
 use mcal_base::{ModuleName, Request, Service};
-use mcu_machine::{Call, call_of};
+use module_machines::mcu::{Call, call_of};
 use script_runner::Caller;
 
 /// The most steps of a handler's frame. The module has none.
 const LINE_STEPS: u32 = 64;
 
 impl Caller for McuDriver {
-    ghost use Rattle.mcu_machine.specs.Requests.{has_service, asked_for};
+    ghost use Rattle.module_machines.specs.mcu.Requests.{has_service, asked_for};
     ghost use Rattle.mcu_driver.specs.laws.Lawful.{slow_clock};
 
     ghost has_service = { λ _. has_service };

@@ -1,11 +1,11 @@
 ghost use Rattle.std.specs.Prelude.{◌≡◌};
 ghost use Rattle.service_outline.specs.Done.{owed_error};
-ghost use Rattle.mcu_machine.specs.Checks.{reporting};
-ghost use Rattle.mcu_machine.specs.Table as spec;
-ghost use Rattle.mcu_machine.specs.Bounds as bounds;
+ghost use Rattle.module_machines.specs.mcu.Checks.{reporting};
+ghost use Rattle.module_machines.specs.mcu.Table as spec;
+ghost use Rattle.module_machines.specs.mcu.Bounds as bounds;
 
 use mcal_base::{Config, ErrorName, ModuleName, Service};
-use mcu_machine::McuTable;
+use module_machines::mcu::McuTable;
 use service_outline::Epilogue;
 use std::marker::Model;
 use std::ops::Deref;
@@ -17,7 +17,7 @@ pub struct McuDriver {
 }
 
 impl Model for McuDriver {
-    ghost use Rattle.mcu_machine.specs.declared.table.McuTable.{McuTable};
+    ghost use Rattle.module_machines.specs.declared.mcu.table.McuTable.{McuTable};
 
     ghost Value = { McuTable };
 

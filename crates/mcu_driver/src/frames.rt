@@ -3,7 +3,7 @@ use crate::driver::McuDriver;
 use crate::service::McuBody;
 use chip_model::Bus;
 use mcal_base::ModuleName;
-use mcu_machine::Call;
+use module_machines::mcu::Call;
 use run_model::Class;
 use service_outline::Short;
 use std::marker::Model;
@@ -16,7 +16,7 @@ pub type McuFrame = Short<Asked, McuBody>;
 pub struct McuMachine;
 
 impl Model for McuMachine {
-    ghost use Rattle.mcu_machine.specs.Machine.{McuState, first_state};
+    ghost use Rattle.module_machines.specs.mcu.Machine.{McuState, first_state};
 
     ghost Value = { McuState };
 

@@ -7,8 +7,8 @@ use Rattle.mcal_base.specs.declared.config.port.PortPin.{PortPin}
 use Rattle.mcal_base.specs.declared.config.port.PortPinMode.{PortPinMode}
 use Rattle.mcal_base.specs.declared.config.port.PortPinMode.TheVariants.{Adc, Dio, Icu, Pwm, Spi}
 use Rattle.mcal_base.specs.declared.config.port.PortConfig.{PortConfig}
-use Rattle.port_machine.specs.Table.{lists, modes_of, taken, pin_in, pins_by_number, table_of, pin_of, is_among, FitsPort}
-use Rattle.port_machine.specs.declared.table.Pin.{Pin}
+use Rattle.module_machines.specs.port.Table.{lists, modes_of, taken, pin_in, pins_by_number, table_of, pin_of, is_among, FitsPort}
+use Rattle.module_machines.specs.declared.port.table.Pin.{Pin}
 
 -- the pin's initial mode is one of its modes
 abbrev pub IsSoundPin : PortPin → Type 0

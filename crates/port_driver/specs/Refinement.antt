@@ -2,20 +2,20 @@
 use Rattle.std.specs.Prelude.{◌≡◌, ℕ, ◌+◌, ◌*◌, ◌/◌, ◌-◌, ◌<◌, nat_lt, min, Bool, false, not, List, [], ◌∷◌, length, Option, Some, None, if◌then◌else◌}
 use Rattle.chip_model.specs.Chip.{Chip, word_of}
 use Rattle.chip_model.specs.Histories.{HasAll}
-use Rattle.chip_units.specs.Pins as pins
+use Rattle.chip_blocks.specs.units.Pins as pins
 use Rattle.mcal_base.specs.Bits.{bit_of}
 use Rattle.mcal_base.specs.declared.config.port.PortPinMode.{PortPinMode}
 use Rattle.run_model.specs.World.{World}
 use Rattle.run_model.specs.Frame.{Called}
 use Rattle.service_outline.specs.Services.{ReservedBy, SharedRefinement}
-use Rattle.port_machine.specs.Bounds.{owns, port_setting}
-use Rattle.port_machine.specs.Machine.{PortState, pin_at, is_out}
-use Rattle.port_machine.specs.Table.{pin_of}
+use Rattle.module_machines.specs.port.Bounds.{owns, port_setting}
+use Rattle.module_machines.specs.port.Machine.{PortState, pin_at, is_out}
+use Rattle.module_machines.specs.port.Table.{pin_of}
 use Rattle.port_driver.specs.Writes.{wants, configured, rank_of}
-use Rattle.port_machine.specs.declared.call.Call.{Call}
-use Rattle.port_machine.specs.declared.call.Call.TheVariants.{Init}
-use Rattle.port_machine.specs.declared.table.Pin.{Pin}
-use Rattle.port_machine.specs.declared.table.PortTable.{PortTable}
+use Rattle.module_machines.specs.declared.port.call.Call.{Call}
+use Rattle.module_machines.specs.declared.port.call.Call.TheVariants.{Init}
+use Rattle.module_machines.specs.declared.port.table.Pin.{Pin}
+use Rattle.module_machines.specs.declared.port.table.PortTable.{PortTable}
 use Rattle.port_driver.specs.declared.words.TheConstants.{STATE}
 use Rattle.port_driver.specs.declared.writes.Side.TheVariants.{Levels, Directions, Fixed}
 

@@ -28,10 +28,10 @@ pub use Rattle.mcal_base.specs.{declared.register.Reg.TheVariants.{PinMode, PinO
 pub use Rattle.mcal_base.specs.{declared.register.Reg.TheVariants.{PulseCommit, PulseIdle, TimerHigh, TimerLow}}
 pub use Rattle.mcal_base.specs.There.{names_there}
 pub use Rattle.mcal_base.specs.laws.There.{move_there}
-pub use Rattle.det_errors.proofs.RowLaws.{none_holds}
-pub use Rattle.det_errors.specs.Rows.{errors_of}
-pub use Rattle.chip_units.proofs.WriteLaws.{bit_at-clear, bit_at-set, clear-spared, set-spared}
-pub use Rattle.chip_units.specs.Pins.{bit_at, ones_clear, ones_set}
+pub use Rattle.mcal_base.proofs.RowLaws.{none_holds}
+pub use Rattle.mcal_base.specs.det_errors.Rows.{errors_of}
+pub use Rattle.chip_blocks.proofs.of_units.WriteLaws.{bit_at-clear, bit_at-set, clear-spared, set-spared}
+pub use Rattle.chip_blocks.specs.units.Pins.{bit_at, ones_clear, ones_set}
 pub use Rattle.chip_model.proofs.{HistoryLaws.{level_leaves, rate-left, words-write}, WholeLaws.{all-step}}
 pub use Rattle.chip_model.proofs.{WordLaws.{slice_index-blank}}
 pub use Rattle.chip_model.specs.Chip.{after_read, Chip, chip_after, happened, is_masked, reset_chip, value_of, word_of}
@@ -64,31 +64,31 @@ pub use Rattle.service_outline.specs.laws.{Duties.{none_on, none_unless}, Lawful
 pub use Rattle.service_outline.specs.laws.{Reports.{error_told}, Seen.{free_windows}, StepKinds.{or_true}}
 pub use Rattle.service_outline.specs.laws.{SweepWords.{each_but, next_by}, SweepRight.{sweep_right}}
 pub use Rattle.service_outline.specs.laws.{Words.{fills_there, stored_same, stores_in, word_apart, word_later}}
-pub use Rattle.port_machine.specs.{Classes.{class_of}}
-pub use Rattle.port_machine.specs.Bounds.{call_steps, is_alone, is_guests, is_of_init, is_own_word, is_register}
-pub use Rattle.port_machine.specs.Bounds.{latch_duty, may, must_by, owns, pin_count, PinsAgree, port_may, port_setting}
-pub use Rattle.port_machine.specs.{Checks.{error_by, facts_by, has_mode, reporting}}
-pub use Rattle.port_machine.specs.Bounds.{puts_latch, writes_latches}
-pub use Rattle.port_machine.specs.{Checks.{service_of}, Machine.{acts_by, changed, first_state, happens, initial}}
-pub use Rattle.port_machine.specs.{Machine.{is_out, is_pulse, level_at, pin_at, PinState, port_machine, PortState}}
-pub use Rattle.port_machine.specs.{Machine.{refreshed, work}}
+pub use Rattle.module_machines.specs.port.{Classes.{class_of}}
+pub use Rattle.module_machines.specs.port.Bounds.{call_steps, is_alone, is_guests, is_of_init, is_own_word, is_register}
+pub use Rattle.module_machines.specs.port.Bounds.{latch_duty, may, must_by, owns, pin_count, PinsAgree, port_may, port_setting}
+pub use Rattle.module_machines.specs.port.{Checks.{error_by, facts_by, has_mode, reporting}}
+pub use Rattle.module_machines.specs.port.Bounds.{puts_latch, writes_latches}
+pub use Rattle.module_machines.specs.port.{Checks.{service_of}, Machine.{acts_by, changed, first_state, happens, initial}}
+pub use Rattle.module_machines.specs.port.{Machine.{is_out, is_pulse, level_at, pin_at, PinState, port_machine, PortState}}
+pub use Rattle.module_machines.specs.port.{Machine.{refreshed, work}}
 pub use Rattle.port_driver.specs.{Refinement.{Alone, DirectionsAgree, HeldRight, Is_alone}}
 pub use Rattle.port_driver.specs.{Refinement.{IsWhole, LatchesAgree, ModesAgree, port_basis, PortRepresents, put}}
 pub use Rattle.port_driver.specs.{Refinement.{put_mode, Reservations, turn, Written, written, written_in}}
-pub use Rattle.port_machine.specs.{Table.{FitsPort, pin_of}}
+pub use Rattle.module_machines.specs.port.{Table.{FitsPort, pin_of}}
 pub use Rattle.port_driver.specs.{Writes.{asks, chosen, configured, half_write, initial_mode}}
 pub use Rattle.port_driver.specs.{Writes.{is_configured, mode_number, mode_of, mode_write, ones, rank_of, ranked}}
 pub use Rattle.port_driver.specs.{Writes.{register, sets, wanted_of, wants}, declared.asked.Asked.{Asked}}
-pub use Rattle.port_machine.specs.{declared.call.Call.{Call}, declared.call.Call.TheVariants.{Init}}
-pub use Rattle.port_machine.specs.{declared.call.Call.TheVariants.{RefreshPortDirection}}
-pub use Rattle.port_machine.specs.{declared.call.PinCall.{PinCall}, declared.call.PinCall.TheVariants.{SetPinDirection}}
-pub use Rattle.port_machine.specs.{declared.call.PinCall.TheVariants.{SetPinMode}, declared.table.Pin.{Pin}}
-pub use Rattle.port_machine.specs.{declared.table.PortTable.{PortTable}}
+pub use Rattle.module_machines.specs.declared.port.{call.Call.{Call}, call.Call.TheVariants.{Init}}
+pub use Rattle.module_machines.specs.declared.port.{call.Call.TheVariants.{RefreshPortDirection}}
+pub use Rattle.module_machines.specs.declared.port.{call.PinCall.{PinCall}, call.PinCall.TheVariants.{SetPinDirection}}
+pub use Rattle.module_machines.specs.declared.port.{call.PinCall.TheVariants.{SetPinMode}, table.Pin.{Pin}}
+pub use Rattle.module_machines.specs.declared.port.{table.PortTable.{PortTable}}
 pub use Rattle.port_driver.specs.{declared.service.init.InitDone.{InitDone}}
 pub use Rattle.port_driver.specs.{declared.service.init.Setup.{Setup}, declared.service.pin.PinBody.{PinBody}}
 pub use Rattle.port_driver.specs.{declared.service.pin.PinBody.TheVariants.{Direction, Mode}}
 pub use Rattle.port_driver.specs.{declared.service.refresh.RefreshBody.{RefreshBody}}
 pub use Rattle.port_driver.specs.{declared.words.TheConstants.{STATE}, declared.writes.Side.{Side}}
 pub use Rattle.port_driver.specs.{declared.writes.Side.TheVariants.{Directions, Fixed, Levels}}
-unfoldable pub use Rattle.port_machine.specs.Bounds.{latch_duties}
+unfoldable pub use Rattle.module_machines.specs.port.Bounds.{latch_duties}
 unfoldable pub use Rattle.port_driver.specs.Writes.{counted, with_rank}

@@ -7,10 +7,10 @@ use Rattle.mcal_base.specs.declared.moves.Move.{Move}
 use Rattle.mcal_base.specs.declared.moves.Move.TheVariants.{Write}
 use Rattle.mcal_base.specs.declared.register.Reg.{Reg}
 use Rattle.mcal_base.specs.declared.register.Reg.TheVariants.{PinDirectionSet, PinDirectionClear, PinOutSet, PinOutClear, PinMode}
-use Rattle.port_machine.specs.Machine.{is_out}
-use Rattle.port_machine.specs.Table.{pin_of}
-use Rattle.port_machine.specs.declared.table.Pin.{Pin}
-use Rattle.port_machine.specs.declared.table.PortTable.{PortTable}
+use Rattle.module_machines.specs.port.Machine.{is_out}
+use Rattle.module_machines.specs.port.Table.{pin_of}
+use Rattle.module_machines.specs.declared.port.table.Pin.{Pin}
+use Rattle.module_machines.specs.declared.port.table.PortTable.{PortTable}
 use Rattle.port_driver.specs.declared.writes.Side.{Side}
 use Rattle.port_driver.specs.declared.writes.Side.TheVariants.{Levels, Directions, Fixed}
 

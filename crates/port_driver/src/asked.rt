@@ -1,6 +1,6 @@
 ghost use Rattle.std.specs.Prelude.{◌≡◌};
 ghost use Rattle.port_driver.specs.laws.Look as spec;
-ghost use Rattle.port_machine.specs.Checks as checks;
+ghost use Rattle.module_machines.specs.port.Checks as checks;
 
 use crate::driver::PortDriver;
 use crate::service::init::Setup;
@@ -8,9 +8,9 @@ use crate::service::pin::PinBody;
 use crate::service::refresh::RefreshBody;
 use crate::service::{self, PortBody};
 use crate::words::STATE;
-use det_errors::{Facts, first_error};
+use mcal_base::det_errors::{Facts, first_error};
 use mcal_base::{Answer, ErrorName, PortPinMode};
-use port_machine::{Call, Pin, PinCall};
+use module_machines::port::{Call, Pin, PinCall};
 use service_outline::{Done, Epilogue, Looked, error, nothing};
 
 /// A call with the driver that it is made of.

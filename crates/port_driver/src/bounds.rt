@@ -2,10 +2,10 @@
 
 ghost use Rattle.std.specs.Prelude.{◌≡◌, ◌≤◌, sum_by};
 ghost use Rattle.run_model.specs.Frame.{Called, Entered};
-ghost use Rattle.port_machine.specs.Bounds as spec;
+ghost use Rattle.module_machines.specs.port.Bounds as spec;
 
 use crate::driver::PortDriver;
-use port_machine::{Call, Pin};
+use module_machines::port::{Call, Pin};
 
 /// The most steps of a call but `Port_Init`.
 const MOST_STEPS: u32 = 64;

@@ -1,10 +1,10 @@
 use crate::driver::PortDriver;
 use mcal_base::{ModuleName, Request, Service};
-use port_machine::{Call, call_of};
+use module_machines::port::{Call, call_of};
 use script_runner::Caller;
 
 impl Caller for PortDriver {
-    ghost use Rattle.port_machine.specs.Requests.{has_service, asked_for};
+    ghost use Rattle.module_machines.specs.port.Requests.{has_service, asked_for};
     ghost use Rattle.port_driver.specs.laws.Lawful.{slow_pins};
 
     ghost has_service = { λ _. has_service };

@@ -1,9 +1,9 @@
 ghost use Rattle.std.specs.Prelude.{◌≡◌};
-ghost use Rattle.port_machine.specs.Table as spec;
-ghost use Rattle.port_machine.specs.Bounds as bounds;
+ghost use Rattle.module_machines.specs.port.Table as spec;
+ghost use Rattle.module_machines.specs.port.Bounds as bounds;
 
 use mcal_base::{Config, ModuleName};
-use port_machine::PortTable;
+use module_machines::port::PortTable;
 use std::marker::Model;
 use std::ops::Deref;
 
@@ -14,7 +14,7 @@ pub struct PortDriver {
 }
 
 impl Model for PortDriver {
-    ghost use Rattle.port_machine.specs.declared.table.PortTable.{PortTable};
+    ghost use Rattle.module_machines.specs.declared.port.table.PortTable.{PortTable};
 
     ghost Value = { PortTable };
 

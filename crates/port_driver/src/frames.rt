@@ -3,7 +3,7 @@ use crate::driver::PortDriver;
 use crate::service::PortBody;
 use chip_model::Bus;
 use mcal_base::ModuleName;
-use port_machine::Call;
+use module_machines::port::Call;
 use run_model::Class;
 use service_outline::Short;
 use std::marker::Model;
@@ -16,7 +16,7 @@ pub type PortFrame = Short<Asked, PortBody>;
 pub struct PortMachine;
 
 impl Model for PortMachine {
-    ghost use Rattle.port_machine.specs.Machine.{PortState, first_state};
+    ghost use Rattle.module_machines.specs.port.Machine.{PortState, first_state};
 
     ghost Value = { PortState };
 

@@ -2,12 +2,12 @@
 
 ghost use Rattle.std.specs.Prelude.{◌≡◌, ◌≤◌, ◌^◌, ◌%◌, is_some};
 ghost use Rattle.mcal_base.specs.Bits.{bit_of};
-ghost use Rattle.port_machine.specs.Machine as machine;
+ghost use Rattle.module_machines.specs.port.Machine as machine;
 ghost use Rattle.port_driver.specs.Writes as spec;
 
 use crate::driver::PortDriver;
 use mcal_base::{Move, PortPinDirection, PortPinMode, Reg};
-use port_machine::Pin;
+use module_machines::port::Pin;
 
 /// What is written by halves of the pins.
 #[derive(Clone, Copy)]

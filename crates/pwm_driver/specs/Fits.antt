@@ -4,9 +4,9 @@ use Rattle.std.specs.Prelude.{if◌then◌else◌}
 use Rattle.std.proofs.lemmas.Bool.Decides.{nat_tests}
 use Rattle.mcal_base.specs.declared.config.pwm.PwmChannel.{PwmChannel}
 use Rattle.mcal_base.specs.declared.config.pwm.PwmConfig.{PwmConfig}
-use Rattle.pwm_machine.specs.Table.{taken, channel_in, table_of, channel_of, FitsPwm}
-use Rattle.pwm_machine.specs.declared.table.Channel.{Channel}
-use Rattle.pwm_machine.specs.laws.Channels.{by_eight}
+use Rattle.module_machines.specs.pwm.Table.{taken, channel_in, table_of, channel_of, FitsPwm}
+use Rattle.module_machines.specs.declared.pwm.table.Channel.{Channel}
+use Rattle.module_machines.specs.pwm.laws.Channels.{by_eight}
 
 -- a channel that was found has the number that was sought
 found_by : (x : PwmChannel) (o : Option Channel) (c : ℕ) (k : Channel) (q : Bool) → (o ≡ Some k → k.number ≡ c) → (if q then Some (taken x c) else o) ≡ Some k → k.number ≡ c

@@ -1,9 +1,9 @@
 -- What frames hold, and how words and registers stand for the machine's state.
 use Rattle.std.specs.Prelude.{◌≡◌, ℕ, ◌+◌, ◌*◌, ◌<◌, ◌≤◌, ◌%◌, ◌==◌, nat_lt, Bool, true, false, ◌&&◌, ◌||◌, not, List, [], ◌∷◌, Option, Some, None, is_some, length}
 use Rattle.chip_model.specs.Chip.{Chip, word_of}
-use Rattle.chip_pulses.specs.Pulses as pulses
-use Rattle.chip_pulses.specs.declared.pulse.Pulse as unit
-use Rattle.chip_pulses.specs.declared.regime.Wave.{Wave}
+use Rattle.chip_blocks.specs.pulses.Pulses as pulses
+use Rattle.chip_blocks.specs.declared.pulses.pulse.Pulse as unit
+use Rattle.chip_blocks.specs.declared.pulses.regime.Wave.{Wave}
 use Rattle.mcal_base.specs.Bits.{has_bit}
 use Rattle.mcal_base.specs.declared.moves.Move.{Move}
 use Rattle.mcal_base.specs.declared.moves.Move.TheVariants.{Read, Write, Load, Store}
@@ -13,17 +13,17 @@ use Rattle.run_model.specs.Frame.{Called}
 use Rattle.run_model.specs.Outside.{StandsIn}
 use Rattle.run_model.specs.World.{World}
 use Rattle.service_outline.specs.Services.{ReservedBy, SharedRefinement}
-use Rattle.pwm_machine.specs.Units.{IsBegun, output_in, chosen}
-use Rattle.pwm_machine.specs.Bounds.{is_pulse, is_own_word, pwm_setting}
-use Rattle.pwm_machine.specs.Machine.{Pulse, PwmState, pulse_at}
-use Rattle.pwm_machine.specs.Output.{Idle, absolute}
-use Rattle.pwm_machine.specs.Table.{channel_of, polarity_of}
+use Rattle.module_machines.specs.pwm.Units.{IsBegun, output_in, chosen}
+use Rattle.module_machines.specs.pwm.Bounds.{is_pulse, is_own_word, pwm_setting}
+use Rattle.module_machines.specs.pwm.Machine.{Pulse, PwmState, pulse_at}
+use Rattle.module_machines.specs.pwm.Output.{Idle, absolute}
+use Rattle.module_machines.specs.pwm.Table.{channel_of, polarity_of}
 use Rattle.pwm_driver.specs.Words.{period_word}
-use Rattle.pwm_machine.specs.declared.call.Call.{Call}
-use Rattle.pwm_machine.specs.declared.call.Call.TheVariants.{Init}
-use Rattle.pwm_machine.specs.declared.call.PwmEdge.{PwmEdge}
-use Rattle.pwm_machine.specs.declared.table.Channel.{Channel}
-use Rattle.pwm_machine.specs.declared.table.PwmTable.{PwmTable}
+use Rattle.module_machines.specs.declared.pwm.call.Call.{Call}
+use Rattle.module_machines.specs.declared.pwm.call.Call.TheVariants.{Init}
+use Rattle.module_machines.specs.declared.pwm.call.PwmEdge.{PwmEdge}
+use Rattle.module_machines.specs.declared.pwm.table.Channel.{Channel}
+use Rattle.module_machines.specs.declared.pwm.table.PwmTable.{PwmTable}
 use Rattle.pwm_driver.specs.declared.words.TheConstants.{STATE, KINDS}
 
 -- ---- what is the module's

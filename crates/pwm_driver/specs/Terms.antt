@@ -25,14 +25,14 @@ pub use Rattle.mcal_base.specs.{declared.register.Reg.TheVariants.{PulseFlags, P
 pub use Rattle.mcal_base.specs.{declared.register.Reg.TheVariants.{PulsePolarity, ResetRequest, SerialData, TimerLow}}
 pub use Rattle.mcal_base.specs.There.{names_there}
 pub use Rattle.mcal_base.specs.laws.There.{move_there}
-pub use Rattle.det_errors.proofs.RowLaws.{none_holds}
-pub use Rattle.det_errors.specs.Rows.{errors_of}
-pub use Rattle.chip_pulses.proofs.FlagLaws.{Begun, changes-output, output-changes}
-pub use Rattle.chip_pulses.proofs.PulseLaws.{has_channel-cleared, pulse_at-cleared, pulse_at-other, pulse_at-same}
-pub use Rattle.chip_pulses.specs.{Accesses.{HasChannel}, Pulses.{after_write, changed_between, cleared, commit_over}}
-pub use Rattle.chip_pulses.specs.{Pulses.{committed, flags_of, flags_to, is_flagged, output_level, Pulses}}
-pub use Rattle.chip_pulses.specs.{Pulses.{pulses_fresh}, Regime.{next_of, period_begin, regime_at, turn_of, turns_to}}
-pub use Rattle.chip_pulses.specs.{declared.regime.Wave.{Wave}}
+pub use Rattle.mcal_base.proofs.RowLaws.{none_holds}
+pub use Rattle.mcal_base.specs.det_errors.Rows.{errors_of}
+pub use Rattle.chip_blocks.proofs.of_pulses.FlagLaws.{Begun, changes-output, output-changes}
+pub use Rattle.chip_blocks.proofs.of_pulses.PulseLaws.{has_channel-cleared, pulse_at-cleared, pulse_at-other, pulse_at-same}
+pub use Rattle.chip_blocks.specs.pulses.{Accesses.{HasChannel}, Pulses.{after_write, changed_between, cleared, commit_over}}
+pub use Rattle.chip_blocks.specs.pulses.{Pulses.{committed, flags_of, flags_to, is_flagged, output_level, Pulses}}
+pub use Rattle.chip_blocks.specs.pulses.{Pulses.{pulses_fresh}, Regime.{next_of, period_begin, regime_at, turn_of, turns_to}}
+pub use Rattle.chip_blocks.specs.declared.pulses.{regime.Wave.{Wave}}
 pub use Rattle.chip_model.proofs.{HistoryLaws.{level_leaves, rate-left}, PinLaws.{line-pulse}}
 pub use Rattle.chip_model.proofs.{WordLaws.{slice_index-blank}}
 pub use Rattle.chip_model.specs.{Chip.{after_read, Chip, chip_after, happened, is_masked, is_pending, reset_chip}}
@@ -73,36 +73,36 @@ pub use Rattle.service_outline.specs.laws.{ShortServices.{plain_makes, plain_tur
 pub use Rattle.service_outline.specs.laws.{StepKinds.{or_true}, SweepWords.{each_but}, SweepRight.{sweep_right}}
 pub use Rattle.service_outline.specs.laws.Words.{fills_there, stored_other, stored_same}
 pub use Rattle.service_outline.specs.laws.{Words.{stores_in, word_apart, word_later}}
-pub use Rattle.pwm_machine.specs.{Classes.{class_of}}
-pub use Rattle.pwm_machine.specs.Bounds.{commits_at, duty_of, idles_at, is_for_lines, is_own_word, is_pulse}
-pub use Rattle.pwm_machine.specs.Bounds.{may_name, may_write, must_by, pwm_may, pwm_setting, steps_of}
-pub use Rattle.pwm_machine.specs.{Checks.{answer_refused, error_by, facts_by, has_notification, level_answer, reporting}}
-pub use Rattle.pwm_machine.specs.{Checks.{service_of}, Machine.{acts_by, channel_work, ended, first_state, forgotten}}
-pub use Rattle.pwm_machine.specs.{Machine.{happens, is_marked_by, is_notified, level_at, notes, Pulse, pulse_at}}
-pub use Rattle.pwm_machine.specs.{Machine.{put_out, pwm_machine, PwmState, ready, ready_by, served, set_to, silent}}
-pub use Rattle.pwm_machine.specs.{Machine.{started, switched, table, with_pulse, work}, Output.{absolute, GivesWay}}
-pub use Rattle.pwm_machine.specs.{Output.{Idle, level_of, Output, period_end, Regime, regime_level, Runs, standing}}
-pub use Rattle.pwm_machine.specs.{Output.{succeeded, turns, turns_between, turns_within, with_new}}
-pub use Rattle.pwm_machine.specs.{Units.{chosen, IsBegun}}
+pub use Rattle.module_machines.specs.pwm.{Classes.{class_of}}
+pub use Rattle.module_machines.specs.pwm.Bounds.{commits_at, duty_of, idles_at, is_for_lines, is_own_word, is_pulse}
+pub use Rattle.module_machines.specs.pwm.Bounds.{may_name, may_write, must_by, pwm_may, pwm_setting, steps_of}
+pub use Rattle.module_machines.specs.pwm.{Checks.{answer_refused, error_by, facts_by, has_notification, level_answer, reporting}}
+pub use Rattle.module_machines.specs.pwm.{Checks.{service_of}, Machine.{acts_by, channel_work, ended, first_state, forgotten}}
+pub use Rattle.module_machines.specs.pwm.{Machine.{happens, is_marked_by, is_notified, level_at, notes, Pulse, pulse_at}}
+pub use Rattle.module_machines.specs.pwm.{Machine.{put_out, pwm_machine, PwmState, ready, ready_by, served, set_to, silent}}
+pub use Rattle.module_machines.specs.pwm.{Machine.{started, switched, table, with_pulse, work}, Output.{absolute, GivesWay}}
+pub use Rattle.module_machines.specs.pwm.{Output.{Idle, level_of, Output, period_end, Regime, regime_level, Runs, standing}}
+pub use Rattle.module_machines.specs.pwm.{Output.{succeeded, turns, turns_between, turns_within, with_new}}
+pub use Rattle.module_machines.specs.pwm.{Units.{chosen, IsBegun}}
 pub use Rattle.pwm_driver.specs.{Refinement.{AllRight, AllSetUp, behind, duty_in, falls, has_lines}}
 pub use Rattle.pwm_driver.specs.{Refinement.{IsQuiet, IsSetUp, KindAgrees, Lag, LinesAgree, MarkAgrees, MarksAgree}}
-pub use Rattle.pwm_machine.specs.{Units.{output_in}}
+pub use Rattle.module_machines.specs.pwm.{Units.{output_in}}
 pub use Rattle.pwm_driver.specs.{Refinement.{none, only, owns_written, Part, period_in, pwm_basis, pwm_owns}}
-pub use Rattle.pwm_machine.specs.{Units.{regime_in}}
+pub use Rattle.module_machines.specs.pwm.{Units.{regime_in}}
 pub use Rattle.pwm_driver.specs.{Refinement.{PwmRepresents, Reservations, rises, settled, state_word}}
-pub use Rattle.pwm_machine.specs.{Runs.{TurnsBetween}, Table.{channel_number}}
+pub use Rattle.module_machines.specs.pwm.{Runs.{TurnsBetween}, Table.{channel_number}}
 pub use Rattle.pwm_driver.specs.{Refinement.{UnitAgrees, UnitsAgree}}
-pub use Rattle.pwm_machine.specs.{Table.{channel_of, channel_of_line, FitsPwm, polarity_of}}
+pub use Rattle.module_machines.specs.pwm.{Table.{channel_of, channel_of_line, FitsPwm, polarity_of}}
 pub use Rattle.pwm_driver.specs.{Words.{both, kinds, level}}
 pub use Rattle.pwm_driver.specs.{Words.{period_word, stands, with_kinds}, declared.asked.Asked.{Asked}}
-pub use Rattle.pwm_machine.specs.{declared.call.Call.{Call}, declared.call.Call.TheVariants.{DeInit, GetOutputState}}
-pub use Rattle.pwm_machine.specs.{declared.call.Call.TheVariants.{Init}, declared.call.ChannelCall.{ChannelCall}}
-pub use Rattle.pwm_machine.specs.{declared.call.ChannelCall.TheVariants.{DisableNotification, EnableNotification}}
-pub use Rattle.pwm_machine.specs.{declared.call.ChannelCall.TheVariants.{SetDutyCycle, SetOutputToIdle}}
-pub use Rattle.pwm_machine.specs.{declared.call.ChannelCall.TheVariants.{SetPeriodAndDuty}}
-pub use Rattle.pwm_machine.specs.{declared.call.PwmEdge.{PwmEdge}, declared.call.PwmEdge.TheVariants.{Both, Falling}}
-pub use Rattle.pwm_machine.specs.{declared.call.PwmEdge.TheVariants.{Rising}, declared.table.Channel.{Channel}}
-pub use Rattle.pwm_machine.specs.{declared.table.PwmTable.{PwmTable}}
+pub use Rattle.module_machines.specs.declared.pwm.{call.Call.{Call}, call.Call.TheVariants.{DeInit, GetOutputState}}
+pub use Rattle.module_machines.specs.declared.pwm.{call.Call.TheVariants.{Init}, call.ChannelCall.{ChannelCall}}
+pub use Rattle.module_machines.specs.declared.pwm.{call.ChannelCall.TheVariants.{DisableNotification, EnableNotification}}
+pub use Rattle.module_machines.specs.declared.pwm.{call.ChannelCall.TheVariants.{SetDutyCycle, SetOutputToIdle}}
+pub use Rattle.module_machines.specs.declared.pwm.{call.ChannelCall.TheVariants.{SetPeriodAndDuty}}
+pub use Rattle.module_machines.specs.declared.pwm.{call.PwmEdge.{PwmEdge}, call.PwmEdge.TheVariants.{Both, Falling}}
+pub use Rattle.module_machines.specs.declared.pwm.{call.PwmEdge.TheVariants.{Rising}, table.Channel.{Channel}}
+pub use Rattle.module_machines.specs.declared.pwm.{table.PwmTable.{PwmTable}}
 pub use Rattle.pwm_driver.specs.{declared.service.deinit.DeInitBody.{DeInitBody}}
 pub use Rattle.pwm_driver.specs.{declared.service.deinit.DeInitBody.TheVariants.{Disable}}
 pub use Rattle.pwm_driver.specs.{declared.service.init.InitBody.{InitBody}}
@@ -116,10 +116,10 @@ pub use Rattle.pwm_driver.specs.{declared.service.rest.RestBody.TheVariants.{Ask
 pub use Rattle.pwm_driver.specs.{declared.service.serve.ServeBody.{ServeBody}}
 pub use Rattle.pwm_driver.specs.{declared.service.serve.ServeBody.TheVariants.{Kinds}}
 pub use Rattle.pwm_driver.specs.{declared.words.TheConstants.{KINDS, LINES, STATE}}
-unfoldable pub use Rattle.pwm_machine.specs.Bounds.{duties}
-pub use Rattle.pwm_machine.specs.laws.Channels.{by_eight, channel_other}
+unfoldable pub use Rattle.module_machines.specs.pwm.Bounds.{duties}
+pub use Rattle.module_machines.specs.pwm.laws.Channels.{by_eight, channel_other}
 pub use Rattle.pwm_driver.specs.laws.Parts.{below_test, both_falling, both_other, both_rising}
-pub use Rattle.pwm_machine.specs.laws.Channels.{channel_same, known_within}
+pub use Rattle.module_machines.specs.pwm.laws.Channels.{channel_same, known_within}
 pub use Rattle.pwm_driver.specs.laws.Parts.{has_one, has_other, Is_own, not_it, not_low}
-pub use Rattle.pwm_machine.specs.laws.Channels.{some_is, table_at, within as within_eight, within}
+pub use Rattle.module_machines.specs.pwm.laws.Channels.{some_is, table_at, within as within_eight, within}
 pub use Rattle.pwm_driver.specs.laws.Parts.{Own, past_it}

@@ -1,8 +1,8 @@
 -- The driver words of the module, and the bits of channels.
 use Rattle.std.specs.Prelude.{ℕ, ◌+◌, ◌^◌, Bool, ◌&&◌, ◌||◌, nat_lt, if◌then◌else◌, bit_or}
 use Rattle.mcal_base.specs.Bits.{has_bit, bit_of, without}
-use Rattle.pwm_machine.specs.declared.call.PwmEdge.{PwmEdge}
-use Rattle.pwm_machine.specs.declared.call.PwmEdge.TheVariants.{Rising, Falling, Both}
+use Rattle.module_machines.specs.declared.pwm.call.PwmEdge.{PwmEdge}
+use Rattle.module_machines.specs.declared.pwm.call.PwmEdge.TheVariants.{Rising, Falling, Both}
 use Rattle.pwm_driver.specs.declared.words.TheConstants.{PERIODS}
 
 -- the word of a channel's period

@@ -1,6 +1,6 @@
 ghost use Rattle.std.specs.Prelude.{◌≡◌};
 ghost use Rattle.pwm_driver.specs.laws.Look as spec;
-ghost use Rattle.pwm_machine.specs.Checks as checks;
+ghost use Rattle.module_machines.specs.pwm.Checks as checks;
 
 use crate::driver::PwmDriver;
 use crate::service::deinit::DeInitBody;
@@ -10,9 +10,9 @@ use crate::service::output::{OutputBody, Want};
 use crate::service::rest::RestBody;
 use crate::service::{self, PwmBody};
 use crate::words::STATE;
-use det_errors::{Facts, first_error};
+use mcal_base::det_errors::{Facts, first_error};
 use mcal_base::{Answer, AnswerName, ErrorName};
-use pwm_machine::{Call, Channel, ChannelCall};
+use module_machines::pwm::{Call, Channel, ChannelCall};
 use service_outline::{Done, Epilogue, Looked, Reply, named, nothing};
 
 /// A call with the driver that it is made of.

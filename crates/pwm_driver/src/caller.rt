@@ -1,16 +1,16 @@
 ghost use Rattle.std.specs.Prelude.{◌≡◌, ◌≤◌};
-ghost use Rattle.pwm_machine.specs.Bounds as bounds;
+ghost use Rattle.module_machines.specs.pwm.Bounds as bounds;
 
 use crate::driver::PwmDriver;
 use mcal_base::{ModuleName, Request, Service};
-use pwm_machine::{Call, call_of};
+use module_machines::pwm::{Call, call_of};
 use script_runner::Caller;
 
 /// The most steps of a call about a channel, and of a handler.
 const MOST_STEPS: u32 = 64;
 
 impl Caller for PwmDriver {
-    ghost use Rattle.pwm_machine.specs.Requests.{asked_call, has_service};
+    ghost use Rattle.module_machines.specs.pwm.Requests.{asked_call, has_service};
     ghost use Rattle.pwm_driver.specs.laws.Lawful.{slow_pulses};
 
     ghost has_service = { λ _. has_service };

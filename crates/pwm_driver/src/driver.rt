@@ -1,10 +1,10 @@
 ghost use Rattle.std.specs.Prelude.{◌≡◌};
 ghost use Rattle.service_outline.specs.Done.{owed_error};
-ghost use Rattle.pwm_machine.specs.Checks.{reporting};
-ghost use Rattle.pwm_machine.specs.Table as spec;
+ghost use Rattle.module_machines.specs.pwm.Checks.{reporting};
+ghost use Rattle.module_machines.specs.pwm.Table as spec;
 
 use mcal_base::{Config, ErrorName, Service};
-use pwm_machine::PwmTable;
+use module_machines::pwm::PwmTable;
 use service_outline::Epilogue;
 use std::marker::Model;
 use std::ops::Deref;
@@ -16,7 +16,7 @@ pub struct PwmDriver {
 }
 
 impl Model for PwmDriver {
-    ghost use Rattle.pwm_machine.specs.declared.table.PwmTable.{PwmTable};
+    ghost use Rattle.module_machines.specs.declared.pwm.table.PwmTable.{PwmTable};
 
     ghost Value = { PwmTable };
 

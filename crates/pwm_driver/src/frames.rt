@@ -4,7 +4,7 @@ use crate::service::serve::ServeBody;
 use crate::service::{self, PwmBody};
 use chip_model::Bus;
 use mcal_base::ModuleName;
-use pwm_machine::Call;
+use module_machines::pwm::Call;
 use run_model::Class;
 use service_outline::Short;
 use std::marker::Model;
@@ -17,7 +17,7 @@ pub type PwmFrame = Short<Asked, PwmBody>;
 pub struct PwmMachine;
 
 impl Model for PwmMachine {
-    ghost use Rattle.pwm_machine.specs.Machine.{PwmState, first_state};
+    ghost use Rattle.module_machines.specs.pwm.Machine.{PwmState, first_state};
 
     ghost Value = { PwmState };
 

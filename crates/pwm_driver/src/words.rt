@@ -1,9 +1,9 @@
 ghost use Rattle.std.specs.Prelude.{◌≡◌};
 ghost use Rattle.mcal_base.specs.Bits.{has_bit, without as cleared};
-ghost use Rattle.pwm_machine.specs.Output as output;
+ghost use Rattle.module_machines.specs.pwm.Output as output;
 ghost use Rattle.pwm_driver.specs.Words as spec;
 
-use pwm_machine::PwmEdge;
+use module_machines::pwm::PwmEdge;
 
 /// The module's state: 0 uninitialised, 1 initialised.
 pub const STATE: u32 = 24_576;

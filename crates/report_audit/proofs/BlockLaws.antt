@@ -7,7 +7,7 @@ use Rattle.mcal_base.specs.declared.directive.Directive.{Directive}
 use Rattle.mcal_base.specs.declared.directive.Request.{Request}
 use Rattle.mcal_base.specs.facts.Truths.{off_on, on_off}
 use Rattle.run_model.specs.Moment.{Setting}
-use Rattle.report_reading.specs.Blocks.{AuditState, IsBlock, begins_with, behind, block_lines, own_lines, place_after, printed}
+use Rattle.report_text.specs.reading.Blocks.{AuditState, IsBlock, begins_with, behind, block_lines, own_lines, place_after, printed}
 use Rattle.report_text.specs.Unread.{Unread, begun, is_empty, own, own_text}
 use Rattle.report_text.proofs.Owning.{over, over_is}
 use Rattle.trace_reader.specs.Reading.{parts_of}

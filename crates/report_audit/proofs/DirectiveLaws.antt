@@ -30,9 +30,9 @@ use Rattle.run_model.specs.Script.{order_at, deed_of}
 use Rattle.run_model.specs.declared.stop_condition.StopCondition.{StopCondition}
 use Rattle.run_model.specs.declared.stop_condition.StopCondition.TheVariants.{Count, Until, Whole}
 use Rattle.run_model.proofs.LegalLaws.{served-first}
-use Rattle.report_reading.specs.Blocks.{AuditState, block_lines, counted, place_after}
-use Rattle.report_reading.specs.Steps.{Comes, HasSteps}
-use Rattle.report_reading.proofs.Printing.{has_items, are_printed}
+use Rattle.report_text.specs.reading.Blocks.{AuditState, block_lines, counted, place_after}
+use Rattle.report_text.specs.reading.Steps.{Comes, HasSteps}
+use Rattle.report_text.proofs.Printing.{has_items, are_printed}
 use Rattle.report_audit.specs.Directives.{PrintsBeginning, PrintsGoingOver, PrintsHardware, PrintsOrder, PrintsShowOver, PrintsThrough, PrintsTicksTo, begun_to}
 use Rattle.report_steps.specs.Going.{waited_to}
 use Rattle.report_auditor.specs.Deeds.{beginning, restarted}

@@ -11,7 +11,7 @@ use Rattle.audit_base.specs.declared.outside.Outside.{Outside}
 use Rattle.audit_frames.specs.Kept.{Kept}
 use Rattle.audit_frames.specs.StackRules.{StandAll}
 use Rattle.audit_subject.specs.Product.{member_of}
-use Rattle.report_reading.specs.Blocks.{AuditState, place_from}
+use Rattle.report_text.specs.reading.Blocks.{AuditState, place_from}
 use Rattle.report_auditor.specs.Auditing.{AllCommitted, Auditing, IsSound, Stands, purposes_by}
 use Rattle.report_auditor.specs.Seeing.{Agreeing, IsSeen, nothing}
 use Rattle.report_auditor.proofs.SeenLaws.{seen_nothing}

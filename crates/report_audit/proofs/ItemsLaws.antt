@@ -17,8 +17,8 @@ use Rattle.run_model.specs.Follows.{BeginsOnly, Gives, HappensOnly, IsOne, deeds
 use Rattle.run_model.specs.Frame.{Origin}
 use Rattle.run_model.specs.Legal.{IsLegal, IsServed}
 use Rattle.run_model.specs.Moment.{Moment, Setting, Transition, Happens, Resets, after, after_all}
-use Rattle.report_reading.specs.Blocks.{AuditState, block_lines, counted, place_after}
-use Rattle.report_reading.specs.Steps.{Comes}
+use Rattle.report_text.specs.reading.Blocks.{AuditState, block_lines, counted, place_after}
+use Rattle.report_text.specs.reading.Steps.{Comes}
 use Rattle.report_auditor.specs.Auditing.{moved_to}
 use Rattle.report_audit.specs.Directives.{PrintsBeginning, PrintsDeed, PrintsHappening, PrintsHeld, begun_to}
 use Rattle.report_steps.specs.Going.{PrintsReset}

@@ -14,10 +14,10 @@ use Rattle.run_model.specs.Moment.{Setting}
 use Rattle.run_model.proofs.LegalLaws.{served-first, served-last}
 use Rattle.script_runner.specs.Scripts.{words_given}
 use Rattle.script_runner.specs.Standing.{words_by}
-use Rattle.report_reading.specs.Audits.{Audits, Ends, Unended, Unserved, Next, Refused}
-use Rattle.report_reading.specs.Blocks.{AuditState, IsBlock, behind, own_lines, place_after, text_of}
-use Rattle.report_reading.specs.declared.verdict.Verdict.{Verdict}
-use Rattle.report_reading.specs.declared.verdict.Verdict.TheVariants.{Passed, Fault}
+use Rattle.report_text.specs.reading.Audits.{Audits, Ends, Unended, Unserved, Next, Refused}
+use Rattle.report_text.specs.reading.Blocks.{AuditState, IsBlock, behind, own_lines, place_after, text_of}
+use Rattle.report_text.specs.declared.reading.verdict.Verdict.{Verdict}
+use Rattle.report_text.specs.declared.reading.verdict.Verdict.TheVariants.{Passed, Fault}
 use Rattle.report_text.specs.Unread as unread
 use Rattle.report_text.specs.Unread.{Unread}
 use Rattle.report_text.specs.declared.ending.Ending.{Ending}

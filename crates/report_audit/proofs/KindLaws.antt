@@ -21,8 +21,8 @@ use Rattle.run_model.specs.declared.stop_condition.StopCondition.{StopCondition}
 use Rattle.run_model.specs.declared.stop_condition.StopCondition.TheVariants.{Count, Until, Whole}
 use Rattle.audit_frames.specs.Kept.{Kept}
 use Rattle.audit_frames.specs.StackRules.{StandAll}
-use Rattle.report_reading.specs.Blocks.{AuditState}
-use Rattle.report_reading.specs.Steps.{Comes}
+use Rattle.report_text.specs.reading.Blocks.{AuditState}
+use Rattle.report_text.specs.reading.Steps.{Comes}
 use Rattle.script_runner.specs.Standing.{makes_no_step}
 use Rattle.report_auditor.specs.Auditing.{NamesThere, moved_to}
 use Rattle.report_auditor.specs.Deeds.{Judges, beginning, restarted}

@@ -19,7 +19,7 @@ use Rattle.run_model.specs.Moment.{Setting}
 use Rattle.script_runner.specs.Standing.{is_built}
 use Rattle.audit_frames.specs.Kept.{Kept}
 use Rattle.audit_frames.specs.StackRules.{StandAll}
-use Rattle.report_reading.specs.Blocks.{AuditState}
+use Rattle.report_text.specs.reading.Blocks.{AuditState}
 use Rattle.report_steps.specs.Going.{PrintsReset}
 use Rattle.report_steps.specs.Taking.{Takes}
 use Rattle.report_audit.specs.Directives.{PrintsHardware, PrintsOrder}

@@ -14,7 +14,7 @@ use Rattle.mcal_base.specs.declared.directive.Reason.TheVariants as reasons
 use Rattle.mcal_base.specs.declared.service.Service.{Service}
 use Rattle.script_runner.specs.Scripts.{LinesRise, is_offered}
 use Rattle.script_runner.specs.Standing.{is_built}
-use Rattle.report_reading.specs.Fits.{DirectiveFits, OrderFits}
+use Rattle.report_text.specs.reading.Fits.{DirectiveFits, OrderFits}
 use Rattle.report_audit.specs.Judged.{CanAudit}
 use Rattle.report_audit.specs.Obeying.{CanObey, CanObeyAll, HandlesLine, NamesKnown}
 

@@ -5,8 +5,8 @@ use Rattle.std.proofs.lemmas.List.Sums.{sum_by-append, sum_by-cons}
 use Rattle.bench_report.specs.Lines.{Line, Shows, numbered}
 use Rattle.bench_report.specs.Rows.{Row, row_text}
 use Rattle.bench_report.specs.Shown.{rows_text}
-use Rattle.report_reading.specs.Blocks.{begins_with, printed, text_of}
-use Rattle.report_reading.proofs.RowLaws.{feedless, row_feedless}
+use Rattle.report_text.specs.reading.Blocks.{begins_with, printed, text_of}
+use Rattle.report_text.proofs.RowLaws.{feedless, row_feedless}
 use Rattle.trace_reader.specs.Reading.{line_with, parts_of}
 use Rattle.trace_reader.proofs.Digits.{none, none_append}
 use Rattle.trace_reader.proofs.FeedLaws.{nl}
@@ -21,7 +21,7 @@ use Rattle.report_text.proofs.Owning.{takes}
 use Rattle.report_text.proofs.Taking.{comes_again, comes_is, took_more, took_none, took_text}
 use Rattle.bench_report.specs.Lines.{Done}
 use Rattle.bench_report.specs.Report.{with_done}
-use Rattle.report_reading.specs.Blocks.{AuditState}
+use Rattle.report_text.specs.reading.Blocks.{AuditState}
 use Rattle.report_text.proofs.Nexts.{some_bytes}
 use Rattle.report_steps.specs.Lines.{Advances, TakesLine}
 use Rattle.report_steps.specs.Taking.{Takes}

@@ -9,7 +9,7 @@ use Rattle.bench_report.specs.declared.tally.Tally.{Tally}
 use Rattle.chip_model.specs.Chip.{incoming_at}
 use Rattle.irq_control.specs.declared.held.Held.{Held}
 use Rattle.run_model.specs.Moment.{Setting}
-use Rattle.report_reading.specs.Blocks.{AuditState, counted, printed}
+use Rattle.report_text.specs.reading.Blocks.{AuditState, counted, printed}
 use Rattle.report_text.specs.Unread.{Unread, own_text}
 use Rattle.audit_base.specs.declared.outside.Outside.{Outside}
 use Rattle.report_auditor.specs.Auditing.{Auditing, IsReady, Stands}

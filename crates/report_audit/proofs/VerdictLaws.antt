@@ -10,14 +10,14 @@ use Rattle.run_model.specs.Entry.{Entry}
 use Rattle.run_model.specs.Moment.{Setting, start_moment}
 use Rattle.script_runner.specs.Scripts.{LinesRise}
 use Rattle.trace_reader.specs.Reading.{parts_of}
-use Rattle.report_reading.specs.Audits.{AuditsReport, IsReportOf}
-use Rattle.report_reading.specs.Blocks.{place_from}
-use Rattle.report_reading.specs.Fits.{DirectiveFits}
-use Rattle.report_reading.specs.Reading.{read_report}
-use Rattle.report_reading.specs.declared.verdict.Verdict.{Verdict}
-use Rattle.report_reading.specs.declared.verdict.Verdict.TheVariants.{Passed, Fault}
-use Rattle.report_reading.proofs.Reports.{reads_reports}
-use Rattle.report_reading.proofs.Verdicts.{answers_once, passes_runs, runs_pass}
+use Rattle.report_text.specs.reading.Audits.{AuditsReport, IsReportOf}
+use Rattle.report_text.specs.reading.Blocks.{place_from}
+use Rattle.report_text.specs.reading.Fits.{DirectiveFits}
+use Rattle.report_text.specs.reading.Reading.{read_report}
+use Rattle.report_text.specs.declared.reading.verdict.Verdict.{Verdict}
+use Rattle.report_text.specs.declared.reading.verdict.Verdict.TheVariants.{Passed, Fault}
+use Rattle.report_text.proofs.Reports.{reads_reports}
+use Rattle.report_text.proofs.Verdicts.{answers_once, passes_runs, runs_pass}
 use Rattle.report_audit.specs.Judged.{IsAudited, IsPassed}
 
 module _ {State Call : Type 0} (g : Setting State Call) (call_of : Request → Call) (showing : Showing State) (first : Chip) (script : List Directive) (text : List ℕ) (rise : LinesRise 0 script) (fits : Each DirectiveFits script) where

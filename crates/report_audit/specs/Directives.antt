@@ -20,8 +20,8 @@ use Rattle.run_model.specs.Moment.{Setting, Happens, Resets, after}
 use Rattle.run_model.specs.declared.stop_condition.StopCondition.{StopCondition}
 use Rattle.run_model.specs.declared.stop_condition.StopCondition.TheVariants.{Count, Until, Whole}
 use Rattle.bench_report.specs.declared.frames.Purpose.{Purpose}
-use Rattle.report_reading.specs.Blocks.{AuditState, counted}
-use Rattle.report_reading.specs.Steps.{Comes}
+use Rattle.report_text.specs.reading.Blocks.{AuditState, counted}
+use Rattle.report_text.specs.reading.Steps.{Comes}
 use Rattle.report_text.specs.Unread.{Unread}
 use Rattle.report_auditor.specs.Auditing.{Auditing, moved_to}
 use Rattle.report_steps.specs.Going.{PrintsReset, waited_to}

@@ -12,11 +12,11 @@ use Rattle.run_model.specs.World.{world_start}
 use Rattle.script_runner.specs.Scripts.{LinesRise}
 use Rattle.audit_base.specs.Outside.{IsWorld}
 use Rattle.audit_base.specs.declared.outside.Outside.{Outside}
-use Rattle.report_reading.specs.Audits.{IsReportOf}
-use Rattle.report_reading.specs.Fits.{DirectiveFits}
-use Rattle.report_reading.specs.Reading.{read_report}
-use Rattle.report_reading.specs.declared.verdict.Verdict.{Verdict}
-use Rattle.report_reading.specs.declared.verdict.Verdict.TheVariants.{Passed, Fault}
+use Rattle.report_text.specs.reading.Audits.{IsReportOf}
+use Rattle.report_text.specs.reading.Fits.{DirectiveFits}
+use Rattle.report_text.specs.reading.Reading.{read_report}
+use Rattle.report_text.specs.declared.reading.verdict.Verdict.{Verdict}
+use Rattle.report_text.specs.declared.reading.verdict.Verdict.TheVariants.{Passed, Fault}
 use Rattle.report_audit.specs.Obeying.{CanObeyAll}
 
 -- ---- what it is given

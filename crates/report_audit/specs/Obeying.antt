@@ -9,10 +9,10 @@ use Rattle.run_model.specs.Moment.{Setting}
 use Rattle.script_runner.specs.Scripts.{is_offered}
 use Rattle.script_runner.specs.Standing.{is_built}
 use Rattle.trace_reader.specs.Reading.{parts_of}
-use Rattle.report_reading.specs.Blocks.{AuditState, IsBlock, place_after, own_lines, behind, text_of, block_lines}
-use Rattle.report_reading.specs.Audits.{Audits}
-use Rattle.report_reading.specs.declared.verdict.Verdict.{Verdict}
-use Rattle.report_reading.specs.declared.verdict.Verdict.TheVariants.{Passed, Fault}
+use Rattle.report_text.specs.reading.Blocks.{AuditState, IsBlock, place_after, own_lines, behind, text_of, block_lines}
+use Rattle.report_text.specs.reading.Audits.{Audits}
+use Rattle.report_text.specs.declared.reading.verdict.Verdict.{Verdict}
+use Rattle.report_text.specs.declared.reading.verdict.Verdict.TheVariants.{Passed, Fault}
 use Rattle.report_text.specs.declared.ending.Ending.{Ending}
 use Rattle.report_text.specs.declared.ending.Ending.TheVariants.{Alone, Followed, Missing}
 use Rattle.report_text.specs.Unread.{Unread}

@@ -1,7 +1,7 @@
 ghost use Rattle.std.specs.Prelude.{◌≡◌, ◌+◌, ◌-◌, ◌<◌, ◌≤◌, ℕ, IfOk, true};
 ghost use Rattle.std.specs.Bool.{OnTrue};
 ghost use Rattle.run_model.specs.Legal.{IsServed};
-ghost use Rattle.report_reading.specs.Blocks.{AuditState};
+ghost use Rattle.report_text.specs.reading.Blocks.{AuditState};
 ghost use Rattle.report_text.specs.Unread.{own_text};
 ghost use Rattle.script_runner.specs.Standing.{makes_no_step, words_by};
 ghost use Rattle.report_auditor.specs.Auditing.{IsReady, Stands};

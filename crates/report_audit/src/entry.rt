@@ -5,8 +5,8 @@ ghost use Rattle.chip_model.specs.Chip.{hung};
 ghost use Rattle.run_model.specs.Entry.{Entry};
 ghost use Rattle.run_model.specs.Moment.{start_moment};
 ghost use Rattle.script_runner.specs.Scripts.{words_given};
-ghost use Rattle.report_reading.specs.Audits.{AuditsReport, IsReportOf};
-ghost use Rattle.report_reading.specs.declared.verdict.Verdict.TheVariants.{Passed};
+ghost use Rattle.report_text.specs.reading.Audits.{AuditsReport, IsReportOf};
+ghost use Rattle.report_text.specs.declared.reading.verdict.Verdict.TheVariants.{Passed};
 ghost use Rattle.report_audit.specs.Judged as spec;
 
 use crate::judging::judges;
@@ -16,8 +16,8 @@ use bench_report::Tally;
 use chip_model::Bus;
 use mcal_base::{Directive, NoMemory};
 use report_auditor::{Auditor, Seen, Whole, used_lines};
-use report_reading::Verdict;
 use report_text::Report;
+use report_text::reading::Verdict;
 use std::alloc::Global;
 
 /// A bench at power on: its modules, what stands outside, the chip, and how many serial devices hang on it.

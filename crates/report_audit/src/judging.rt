@@ -1,13 +1,13 @@
 ghost use Rattle.std.specs.Prelude.{◌≡◌, ◌+◌, ℕ, IfOk};
 ghost use Rattle.std.specs.Bool.{OnTrue};
 ghost use Rattle.run_model.specs.Legal.{IsServed};
-ghost use Rattle.report_reading.specs.Blocks.{AuditState};
+ghost use Rattle.report_text.specs.reading.Blocks.{AuditState};
 ghost use Rattle.report_text.specs.Unread.{own_text};
 ghost use Rattle.script_runner.specs.Scripts.{words_given};
 ghost use Rattle.script_runner.specs.Standing.{words_by};
 ghost use Rattle.trace_reader.specs.Reading.{parts_of};
 ghost use Rattle.report_auditor.specs.Auditing.{IsReady, IsSound, Stands};
-ghost use Rattle.report_reading.specs.Audits.{Audits};
+ghost use Rattle.report_text.specs.reading.Audits.{Audits};
 ghost use Rattle.report_audit.specs.Obeying as spec;
 ghost use Rattle.report_steps.specs.Lines.{Advances};
 ghost use Rattle.report_steps.specs.Taking.{Takes};
@@ -16,8 +16,8 @@ ghost use Rattle.report_audit.specs.Obeying.{PrintsItems};
 use crate::directives::{call, enter, goes, hardware, show, ticks};
 use mcal_base::{Directive, NoMemory, Order};
 use report_auditor::{Auditor, Whole};
-use report_reading::Verdict;
 use report_steps::says_reset;
+use report_text::reading::Verdict;
 use report_text::{Ending, Report};
 use run_model::StopCondition;
 

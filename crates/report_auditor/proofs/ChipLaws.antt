@@ -2,8 +2,8 @@
 use Rattle.std.proofs.Common.{◌≡◌, ℕ, ◌≤◌, Bool, true, false, ◌==◌, Option, Some, None, sym, subst}
 use Rattle.std.specs.Prelude.{min, nat_le, MatchBool, option_map, if◌then◌else◌}
 use Rattle.chip_model.specs.Chip.{Chip, has_device, names_device, next_word}
-use Rattle.chip_units.specs.Serials.{unit_at, outgoing}
-use Rattle.chip_units.specs.declared.serial.Serial.{Serial}
+use Rattle.chip_blocks.specs.units.Serials.{unit_at, outgoing}
+use Rattle.chip_blocks.specs.declared.units.serial.Serial.{Serial}
 use Rattle.mcal_base.specs.declared.moves.Move.{Move}
 use Rattle.mcal_base.specs.declared.moves.Move.TheVariants.{Read, Write, Load, Store, Mask, Unmask, Note, Report}
 use Rattle.mcal_base.specs.declared.register.Reg.TheVariants as regs

@@ -20,8 +20,8 @@ use Rattle.audit_frames.specs.StandsFor.{IsBegun, StandsFor}
 use Rattle.audit_frames.specs.declared.terms.Terms.{Terms}
 use Rattle.audit_frames.proofs.StackLaws.{begins}
 use Rattle.mcal_base.specs.facts.Truths.{off_on}
-use Rattle.report_reading.specs.Blocks.{AuditState}
-use Rattle.report_reading.specs.Steps.{Comes}
+use Rattle.report_text.specs.reading.Blocks.{AuditState}
+use Rattle.report_text.specs.reading.Steps.{Comes}
 use Rattle.report_auditor.specs.Auditing.{Auditing, Stands, moved_to, purpose_by, purposes_by}
 use Rattle.report_auditor.specs.Deeds.{Judges, Moves, beginning, opening, restarted}
 use Rattle.report_auditor.specs.Seeing.{Agreeing, IsSeen, moved_in, nothing}

@@ -20,7 +20,7 @@ use Rattle.audit_frames.specs.StandsFor.{IsTask}
 use Rattle.audit_frames.specs.declared.terms.Task.{Task}
 use Rattle.audit_frames.specs.declared.terms.Task.TheVariants.{Call, Line}
 use Rattle.audit_frames.proofs.StackLaws.{full, holds}
-use Rattle.report_reading.specs.Blocks.{AuditState}
+use Rattle.report_text.specs.reading.Blocks.{AuditState}
 use Rattle.report_auditor.specs.Auditing.{Auditing, Stands, purpose_by}
 use Rattle.report_auditor.specs.Deeds.{filled, other_cause}
 use Rattle.report_auditor.specs.Seeing.{Agreeing}

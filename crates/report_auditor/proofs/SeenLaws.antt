@@ -14,7 +14,7 @@ use Rattle.run_model.specs.Frame.{Open, state_after, state_by}
 use Rattle.run_model.specs.Machine.{Moves}
 use Rattle.run_model.specs.Moment.{Setting}
 use Rattle.run_model.specs.World.{World, world_after}
-use Rattle.report_reading.specs.Blocks.{AuditState}
+use Rattle.report_text.specs.reading.Blocks.{AuditState}
 use Rattle.report_auditor.specs.Auditing.{Auditing, Stands, seeing}
 use Rattle.report_auditor.specs.Seeing.{Agreeing, IsSeen, keeps_units, moved_in, nothing, saw, stepped_in, told_in, touched_if_told, touched_in}
 use Rattle.audit_whole.specs.Touching.{by_event, by_move, by_order, is_touched}

@@ -22,7 +22,7 @@ use Rattle.audit_frames.proofs.Deciding.{equal, valued, worded, yes}
 use Rattle.audit_frames.proofs.StepLaws.{goes}
 use Rattle.audit_subject.specs.Product.{member_of}
 use Rattle.mcal_base.specs.facts.Truths.{and_first, and_second, off_on}
-use Rattle.report_reading.specs.Blocks.{AuditState}
+use Rattle.report_text.specs.reading.Blocks.{AuditState}
 use Rattle.report_auditor.specs.Auditing.{Auditing, Stands, below}
 use Rattle.report_auditor.specs.Seeing.{Agreeing, is_open_seen, is_rest_seen, saw}
 use Rattle.audit_whole.specs.Whole.{is_serial_line}

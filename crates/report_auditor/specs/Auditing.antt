@@ -19,7 +19,7 @@ use Rattle.audit_frames.specs.Kept.{Kept}
 use Rattle.audit_frames.specs.StackRules.{StandAll}
 use Rattle.audit_frames.specs.declared.terms.Task.{Task}
 use Rattle.audit_frames.specs.declared.terms.Task.TheVariants.{Call, Line}
-use Rattle.report_reading.specs.Blocks.{AuditState}
+use Rattle.report_text.specs.reading.Blocks.{AuditState}
 use Rattle.report_auditor.specs.Seeing.{Agreeing, IsSeen}
 use Rattle.report_auditor.specs.declared.seen.Seen.{Seen}
 

@@ -1,8 +1,8 @@
 -- What the chip says of a step: which words may come in and go out there.
 use Rattle.std.specs.Prelude.{ℕ, min, nat_le, Bool, true, false, ◌&&◌, ◌==◌, Option, Some, None, if◌then◌else◌}
 use Rattle.chip_model.specs.Chip.{Chip, has_device, next_word}
-use Rattle.chip_units.specs.Serials.{unit_at, outgoing}
-use Rattle.chip_units.specs.declared.serial.Serial.{Serial}
+use Rattle.chip_blocks.specs.units.Serials.{unit_at, outgoing}
+use Rattle.chip_blocks.specs.declared.units.serial.Serial.{Serial}
 use Rattle.mcal_base.specs.declared.moves.Move.{Move}
 use Rattle.mcal_base.specs.declared.moves.Move.TheVariants.{Write}
 use Rattle.mcal_base.specs.declared.register.Reg.TheVariants.{SerialData}

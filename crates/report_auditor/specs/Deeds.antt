@@ -8,7 +8,7 @@ use Rattle.mcal_base.specs.declared.directive.Reason.{Reason}
 use Rattle.run_model.specs.Frame.{Open, Origin, Called, Entered, opened}
 use Rattle.run_model.specs.Machine as machines
 use Rattle.run_model.specs.Moment.{Moment, Setting, Transition, Begins, Enters, Resets, after, call_tag, line_tag}
-use Rattle.report_reading.specs.Blocks.{AuditState}
+use Rattle.report_text.specs.reading.Blocks.{AuditState}
 
 -- A deed is right: it comes, and then what is kept stands for the moment after it. Or it isn't, and doesn't come.
 abbrev pub Judges : (right : Bool) → (Comes After : Type 0) → Type 0

@@ -70,7 +70,7 @@ touched_in Words seen = record seen { stamps = false; results = false; arrays = 
 abbrev pub told_in : Touched → Seen → Seen
 told_in touched seen = touched_in touched (record seen { due = None; units = false })
 
--- ticks leave units so that may neither start nor abort
+-- units that may neither start nor abort stay so through ticks
 abbrev pub keeps_units : Order → Bool
 keeps_units (Tick n) = true
 keeps_units order = false

@@ -6,7 +6,7 @@ ghost use Rattle.audit_base.specs.Outside.{IsWorld};
 ghost use Rattle.audit_frames.specs.Decides.{Decides};
 ghost use Rattle.audit_frames.specs.StandsFor.{StandsFor};
 ghost use Rattle.audit_subject.specs.Origins.{origin_of};
-ghost use Rattle.report_reading.specs.Reading as reading;
+ghost use Rattle.report_text.specs.reading.Reading as reading;
 ghost use Rattle.report_auditor.specs.Asking as spec;
 
 use audit_base::Outside;

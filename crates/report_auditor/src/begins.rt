@@ -7,8 +7,8 @@ ghost use Rattle.run_model.specs.Legal.{IsLegalDeed, IsServed};
 ghost use Rattle.run_model.specs.Moment.{after};
 ghost use Rattle.audit_frames.specs.StandsFor.{IsBegun};
 ghost use Rattle.audit_subject.specs.Origins.{origin_of};
-ghost use Rattle.report_reading.specs.Blocks.{AuditState};
-ghost use Rattle.report_reading.specs.Steps.{Comes};
+ghost use Rattle.report_text.specs.reading.Blocks.{AuditState};
+ghost use Rattle.report_text.specs.reading.Steps.{Comes};
 ghost use Rattle.report_auditor.specs.Auditing.{IsReady, Stands, purpose_by};
 ghost use Rattle.report_auditor.specs.Deeds.{Judges, beginning, opening};
 

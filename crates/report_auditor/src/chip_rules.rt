@@ -1,5 +1,5 @@
 ghost use Rattle.std.specs.Prelude.{◌≡◌, ◌<◌};
-ghost use Rattle.chip_units.specs.Serials.{unit_at};
+ghost use Rattle.chip_blocks.specs.units.Serials.{unit_at};
 ghost use Rattle.mcal_base.specs.Reach.{CanApply};
 ghost use Rattle.run_model.specs.Machine.{select_of};
 ghost use Rattle.report_auditor.specs.ChipRules as spec;

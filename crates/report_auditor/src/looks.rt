@@ -3,7 +3,7 @@ ghost use Rattle.std.specs.Bool.{OnTrue};
 ghost use Rattle.mcal_base.specs.Bits.{bits_of};
 ghost use Rattle.mcal_base.specs.declared.moves.Unit.{Unit};
 ghost use Rattle.audit_frames.specs.Decides.{Decides};
-ghost use Rattle.report_reading.specs.Blocks.{AuditState};
+ghost use Rattle.report_text.specs.reading.Blocks.{AuditState};
 ghost use Rattle.report_auditor.specs.Auditing.{IsSound, Stands, seeing};
 ghost use Rattle.report_auditor.specs.Seeing.{IsSeen};
 

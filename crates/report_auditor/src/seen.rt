@@ -182,7 +182,7 @@ fn by_order(order: &Order) -> Touched
     }
 }
 
-/// Whether units are left so that may neither start nor abort: by ticks.
+/// Whether units that may neither start nor abort stay so: through ticks.
 fn keeps_units(order: &Order) -> bool
     ensures { result ≡ spec.keeps_units order.now }
 {

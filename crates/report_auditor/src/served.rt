@@ -8,7 +8,7 @@ ghost use Rattle.run_model.specs.World.{World};
 ghost use Rattle.audit_base.specs.Outside.{IsWorld};
 ghost use Rattle.audit_frames.specs.Decides.{Decides};
 ghost use Rattle.audit_frames.specs.Masks as masks;
-ghost use Rattle.report_reading.specs.Blocks.{AuditState};
+ghost use Rattle.report_text.specs.reading.Blocks.{AuditState};
 ghost use Rattle.report_auditor.specs.Auditing.{IsSound, Stands, seeing};
 ghost use Rattle.report_auditor.specs.Serving.{KeepsTime, LinesAgree, OpenRight};
 

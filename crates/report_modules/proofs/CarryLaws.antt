@@ -8,11 +8,11 @@ use Rattle.mcal_base.specs.declared.directive.Directive.{Directive}
 use Rattle.script_runner.specs.Scripts.{chip_for, words_given}
 use Rattle.shown_rows.specs.Shows.{show_rows}
 use Rattle.audit_machines.specs.Requests.{call_of}
-use Rattle.audit_laws.specs.Bench.{Bench}
-use Rattle.audit_laws.specs.System.{all_setting}
-use Rattle.audit_laws.proofs.Systems.{benches_are_one}
-use Rattle.report_reading.specs.Audits.{AuditsReport}
-use Rattle.report_reading.specs.declared.verdict.Verdict.{Verdict}
+use Rattle.report_modules.specs.machines.Bench.{Bench}
+use Rattle.report_modules.specs.machines.System.{all_setting}
+use Rattle.report_modules.proofs.Systems.{benches_are_one}
+use Rattle.report_text.specs.reading.Audits.{AuditsReport}
+use Rattle.report_text.specs.declared.reading.verdict.Verdict.{Verdict}
 use Rattle.report_modules.specs.Judged.{IsVerdict}
 
 module _ (devices : ℕ) (config : Config) (script : List Directive) (text : List ℕ) where

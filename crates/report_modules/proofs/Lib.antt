@@ -1,3 +1,9 @@
 pub mod CarryLaws
 pub mod FreshLaws
+pub mod Guests
+pub mod Names
+pub mod Products
+pub mod Renaming
+pub mod Settings
+pub mod Systems
 pub mod VerdictLaws

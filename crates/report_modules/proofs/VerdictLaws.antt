@@ -9,10 +9,10 @@ use Rattle.run_model.specs.Moment.{start_moment}
 use Rattle.script_runner.specs.Scripts.{chip_for}
 use Rattle.shown_rows.specs.Shows.{show_rows}
 use Rattle.trace_reader.specs.Reading.{parts_of}
-use Rattle.report_reading.specs.Blocks.{place_from}
-use Rattle.report_reading.proofs.Verdicts.{answers_once}
-use Rattle.report_reading.specs.declared.verdict.Verdict.{Verdict}
-use Rattle.report_reading.specs.declared.verdict.Verdict.TheVariants.{Passed}
+use Rattle.report_text.specs.reading.Blocks.{place_from}
+use Rattle.report_text.proofs.Verdicts.{answers_once}
+use Rattle.report_text.specs.declared.reading.verdict.Verdict.{Verdict}
+use Rattle.report_text.specs.declared.reading.verdict.Verdict.TheVariants.{Passed}
 use Rattle.report_audit.specs.Judged.{IsPassed}
 pub use Rattle.report_audit.specs.Judged.{CanAudit}
 pub use Rattle.report_audit.proofs.ReadLaws.{can_audit}

@@ -7,9 +7,9 @@ use Rattle.run_model.specs.Entry.{Entry}
 use Rattle.run_model.specs.Moment.{start_moment}
 use Rattle.script_runner.specs.Scripts.{chip_for}
 use Rattle.shown_rows.specs.Shows.{show_rows}
-use Rattle.report_reading.specs.Audits.{AuditsReport, IsReportOf}
-use Rattle.report_reading.specs.Reading.{read_report}
-use Rattle.report_reading.specs.declared.verdict.Verdict.{Verdict}
+use Rattle.report_text.specs.reading.Audits.{AuditsReport, IsReportOf}
+use Rattle.report_text.specs.reading.Reading.{read_report}
+use Rattle.report_text.specs.declared.reading.verdict.Verdict.{Verdict}
 
 -- the journal that a report tells
 abbrev pub journal_of : (devices : ℕ) → Config → List Directive → (text : List ℕ) → List Entry

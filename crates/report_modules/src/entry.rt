@@ -14,7 +14,7 @@ use audit_subject::Subject;
 use chip_model::Bus;
 use mcal_base::{Config, Directive, NoMemory};
 use report_audit::{Bench, Whole, tables_are_within};
-use report_reading::Verdict;
+use report_text::reading::Verdict;
 use script_runner::words_given;
 use std::alloc::Global;
 

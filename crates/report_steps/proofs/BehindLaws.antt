@@ -6,8 +6,8 @@ use Rattle.mcal_base.specs.declared.directive.Order.TheVariants.{Tick}
 use Rattle.mcal_base.specs.facts.Truths.{off_on}
 use Rattle.run_model.specs.Moment.{Setting, Happens, after}
 use Rattle.run_model.specs.declared.item.Stepped.{Stepped}
-use Rattle.report_reading.specs.Blocks.{AuditState, printed}
-use Rattle.report_reading.specs.Steps.{Comes, StepComes, AtOnce}
+use Rattle.report_text.specs.reading.Blocks.{AuditState, printed}
+use Rattle.report_text.specs.reading.Steps.{Comes, StepComes, AtOnce}
 use Rattle.report_text.specs.Unread.{Unread, after_told, own_text, told_next}
 use Rattle.report_text.proofs.Owning.{reads}
 use Rattle.trace_reader.specs.declared.told.Step.{Step}

@@ -23,7 +23,7 @@ use Rattle.audit_frames.specs.Kept.{Kept}
 use Rattle.audit_frames.specs.Told.{answer_of}
 use Rattle.audit_frames.specs.declared.terms.Task.{Task}
 use Rattle.audit_frames.specs.declared.terms.Task.TheVariants as tasks
-use Rattle.report_reading.specs.Blocks.{counted, printed}
+use Rattle.report_text.specs.reading.Blocks.{counted, printed}
 use Rattle.report_text.specs.Unread.{Unread, own_text}
 use Rattle.report_auditor.specs.Auditing.{Auditing, purpose_by, purposes_by}
 use Rattle.report_steps.specs.Lines.{Past, TakesLine, TakesLines}

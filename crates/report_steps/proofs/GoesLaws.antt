@@ -22,7 +22,7 @@ use Rattle.audit_frames.specs.Told.{step_of}
 use Rattle.audit_frames.specs.declared.terms.Step.{Step}
 use Rattle.audit_frames.proofs.Deciding.{and_join}
 use Rattle.audit_subject.specs.declared.hearing.Heard.{Heard}
-use Rattle.report_reading.specs.Blocks.{AuditState}
+use Rattle.report_text.specs.reading.Blocks.{AuditState}
 use Rattle.report_text.specs.Unread.{Unread, own_text}
 use Rattle.trace_reader.specs.declared.told.Step as read
 use Rattle.report_auditor.specs.Auditing.{Auditing, Stands, StillSeen, purposes_by}

@@ -16,8 +16,8 @@ use Rattle.run_model.specs.Frame.{resets_chip}
 use Rattle.run_model.specs.Moment.{Moment, Setting, Steps, Happens, Resets, after}
 use Rattle.run_model.specs.declared.item.Stepped.{Stepped}
 use Rattle.run_model.specs.declared.stop_condition.StopCondition.{StopCondition}
-use Rattle.report_reading.specs.Blocks.{counted, printed}
-use Rattle.report_reading.specs.Steps.{Comes, PrintsSteps, StepComes, WaitComes, AtOnce, Awaited, LastStep, ResetStep, MoreSteps, RunsOut, done_behind, is_silent, lines_at}
+use Rattle.report_text.specs.reading.Blocks.{counted, printed}
+use Rattle.report_text.specs.reading.Steps.{Comes, PrintsSteps, StepComes, WaitComes, AtOnce, Awaited, LastStep, ResetStep, MoreSteps, RunsOut, done_behind, is_silent, lines_at}
 use Rattle.report_steps.specs.Going.{ok_where}
 use Rattle.report_steps.specs.StepRules.{NoEnd, lines_behind}
 use Rattle.report_steps.proofs.StepMade.{same_tally}

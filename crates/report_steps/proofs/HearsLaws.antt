@@ -16,7 +16,7 @@ use Rattle.audit_frames.specs.StandsFor.{StandsFor}
 use Rattle.audit_subject.specs.Hearings.{Hears}
 use Rattle.audit_subject.specs.Product.{member_of}
 use Rattle.audit_subject.specs.declared.hearing.Heard.{Heard}
-use Rattle.report_reading.specs.Blocks.{AuditState}
+use Rattle.report_text.specs.reading.Blocks.{AuditState}
 use Rattle.trace_reader.specs.declared.told.Step as read
 use Rattle.report_auditor.specs.Asking.{StartRight}
 use Rattle.report_auditor.specs.Auditing.{AllCommitted, Auditing, HasCommitted, Stands}

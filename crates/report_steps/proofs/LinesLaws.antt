@@ -5,7 +5,7 @@ use Rattle.std.proofs.lemmas.List.{append-nil}
 use Rattle.bench_report.specs.Lines.{Line, numbered}
 use Rattle.bench_report.specs.Numbers.{IsNumber, Each}
 use Rattle.mcal_base.specs.facts.Truths.{off_on}
-use Rattle.report_reading.specs.Blocks.{behind, printed}
+use Rattle.report_text.specs.reading.Blocks.{behind, printed}
 use Rattle.report_text.specs.Unread.{Unread, after_told, comes, own, passed, taken, told_next}
 use Rattle.report_text.proofs.Counting.{count_printed, count_told}
 use Rattle.report_text.proofs.Owning.{past_printed, past_told, takes, took_printed}

@@ -17,8 +17,8 @@ use Rattle.run_model.specs.declared.stop_condition.StopCondition.{StopCondition}
 use Rattle.audit_base.specs.declared.outside.Outside.{Outside}
 use Rattle.audit_frames.specs.Kept.{Kept}
 use Rattle.audit_frames.specs.StackRules.{StandAll}
-use Rattle.report_reading.specs.Blocks.{AuditState, printed}
-use Rattle.report_reading.specs.Steps.{Comes, PrintsSteps, StepComes, WaitComes, LastStep, ResetStep, MoreSteps, RunsOut, is_silent, lines_at}
+use Rattle.report_text.specs.reading.Blocks.{AuditState, printed}
+use Rattle.report_text.specs.reading.Steps.{Comes, PrintsSteps, StepComes, WaitComes, LastStep, ResetStep, MoreSteps, RunsOut, is_silent, lines_at}
 use Rattle.report_text.specs.Unread.{Unread, own_text}
 use Rattle.report_auditor.specs.Auditing.{Auditing, IsReady, Stands, moved_to, purpose_by, purposes_by}
 use Rattle.report_auditor.specs.Deeds.{Judges, restarted}

@@ -11,8 +11,8 @@ use Rattle.run_model.specs.Frame.{Open}
 use Rattle.run_model.specs.Legal.{LegalStep}
 use Rattle.run_model.specs.Moment.{Moment, Setting, Happens, after}
 use Rattle.run_model.specs.declared.item.Stepped.{Stepped}
-use Rattle.report_reading.specs.Blocks.{AuditState, printed}
-use Rattle.report_reading.specs.Steps.{StepComes, AtOnce, Awaited, lines_at}
+use Rattle.report_text.specs.reading.Blocks.{AuditState, printed}
+use Rattle.report_text.specs.reading.Steps.{StepComes, AtOnce, Awaited, lines_at}
 use Rattle.report_text.specs.Unread.{Unread, after_told, own_text, told_next}
 use Rattle.report_text.proofs.Owning.{read_reset, read_wait, reads}
 use Rattle.trace_reader.specs.declared.told.Step.{Step}

@@ -12,7 +12,7 @@ use Rattle.audit_frames.specs.Decides.{Decides}
 use Rattle.audit_frames.specs.Kept.{Kept}
 use Rattle.audit_frames.specs.StandsFor.{StandsFor}
 use Rattle.audit_frames.proofs.Deciding.{both, equal, valued, worded}
-use Rattle.report_reading.specs.Blocks.{AuditState}
+use Rattle.report_text.specs.reading.Blocks.{AuditState}
 use Rattle.trace_reader.specs.declared.told.Step.{Step}
 use Rattle.report_auditor.specs.Auditing.{Auditing, Stands}
 use Rattle.report_auditor.specs.ChipRules.{received_right}

@@ -9,7 +9,7 @@ use Rattle.audit_base.specs.Deeds.{Member}
 use Rattle.audit_frames.specs.Decides.{Decides}
 use Rattle.audit_frames.specs.Parts.{IsAllowed}
 use Rattle.audit_subject.specs.Product.{member_of}
-use Rattle.report_reading.specs.Blocks.{AuditState}
+use Rattle.report_text.specs.reading.Blocks.{AuditState}
 use Rattle.trace_reader.specs.declared.told.Step as read
 use Rattle.report_auditor.specs.Auditing.{Auditing, Stands}
 use Rattle.report_auditor.specs.Seeing.{Agreeing}

@@ -8,8 +8,8 @@ use Rattle.run_model.specs.Follows.{MayWait}
 use Rattle.run_model.specs.Frame.{Open, Origin}
 use Rattle.run_model.specs.Moment.{Setting, Happens, Resets}
 use Rattle.audit_frames.specs.Decides.{Decides}
-use Rattle.report_reading.specs.Blocks.{AuditState}
-use Rattle.report_reading.specs.Steps.{Comes}
+use Rattle.report_text.specs.reading.Blocks.{AuditState}
+use Rattle.report_text.specs.reading.Steps.{Comes}
 use Rattle.report_auditor.specs.Deeds.{Judges, restarted}
 use Rattle.report_steps.specs.Going.{EndsWaiting, IsShort, RunsOut, RunsOutRight, waited_to}
 use Rattle.report_steps.proofs.ComeLaws.{fails, same_some, some_none}

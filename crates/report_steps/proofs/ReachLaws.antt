@@ -15,8 +15,8 @@ use Rattle.run_model.specs.Moment.{Moment, Setting}
 use Rattle.run_model.specs.declared.item.Stepped.{Stepped}
 use Rattle.run_model.specs.declared.stop_condition.StopCondition.{StopCondition}
 use Rattle.run_model.specs.declared.stop_condition.StopCondition.TheVariants.{Count, Until, Whole}
-use Rattle.report_reading.specs.Steps as steps
-use Rattle.report_reading.specs.Steps.{StepComes, AtOnce, Awaited, lines_at}
+use Rattle.report_text.specs.reading.Steps as steps
+use Rattle.report_text.specs.reading.Steps.{StepComes, AtOnce, Awaited, lines_at}
 use Rattle.report_steps.specs.Reaching.{has_line, is_reached, is_silent, stops_at}
 use Rattle.report_steps.specs.StepRules.{made_of}
 

@@ -17,8 +17,8 @@ use Rattle.run_model.specs.Legal.{IsServed}
 use Rattle.run_model.specs.Moment.{Moment, Setting, Steps, Happens, Resets, after}
 use Rattle.run_model.specs.declared.item.Stepped.{Stepped}
 use Rattle.run_model.specs.declared.stop_condition.StopCondition.{StopCondition}
-use Rattle.report_reading.specs.Blocks.{AuditState, counted, printed}
-use Rattle.report_reading.specs.Steps.{Comes, PrintsSteps, StepComes, WaitComes, AtOnce, Awaited, LastStep, ResetStep, MoreSteps, is_silent, lines_at}
+use Rattle.report_text.specs.reading.Blocks.{AuditState, counted, printed}
+use Rattle.report_text.specs.reading.Steps.{Comes, PrintsSteps, StepComes, WaitComes, AtOnce, Awaited, LastStep, ResetStep, MoreSteps, is_silent, lines_at}
 use Rattle.report_auditor.specs.Auditing.{moved_to}
 use Rattle.report_steps.specs.Going.{GoesBack, PrintsReset, SoFar, ok_where}
 use Rattle.report_steps.specs.StepRules.{NoEnd, lines_behind, stepped_to}

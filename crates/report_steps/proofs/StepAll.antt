@@ -19,7 +19,7 @@ use Rattle.audit_frames.specs.StandsFor.{StandsFor}
 use Rattle.audit_frames.specs.Told.{IsAround, ended_of, step_of}
 use Rattle.audit_frames.specs.declared.terms.Step.{Step}
 use Rattle.audit_subject.specs.declared.hearing.Heard.{Heard}
-use Rattle.report_reading.specs.Blocks.{AuditState, printed}
+use Rattle.report_text.specs.reading.Blocks.{AuditState, printed}
 use Rattle.trace_reader.specs.declared.told.Step as read
 use Rattle.report_auditor.specs.Auditing.{Auditing, Stands, StillSeen, purposes_by}
 use Rattle.report_auditor.specs.Seeing.{Agreeing}

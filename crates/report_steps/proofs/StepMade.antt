@@ -27,7 +27,7 @@ use Rattle.audit_frames.specs.declared.terms.Around.{Around}
 use Rattle.audit_frames.specs.declared.terms.Step.{Step}
 use Rattle.audit_subject.specs.declared.hearing.Heard.{Heard}
 use Rattle.run_model.specs.Machine.{Told}
-use Rattle.report_reading.specs.Blocks.{AuditState, counted}
+use Rattle.report_text.specs.reading.Blocks.{AuditState, counted}
 use Rattle.trace_reader.specs.declared.told.Step as read
 use Rattle.report_auditor.specs.Auditing.{Auditing, Stands, StillSeen, below, purpose_by, purposes_by}
 use Rattle.report_auditor.specs.Seeing.{Agreeing, IsSeen}

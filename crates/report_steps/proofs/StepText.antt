@@ -13,7 +13,7 @@ use Rattle.mcal_base.specs.declared.service.Service.{Service}
 use Rattle.mcal_base.specs.facts.Truths.{off_on}
 use Rattle.run_model.specs.Machine.{Told}
 use Rattle.audit_frames.specs.Kept.{Kept}
-use Rattle.report_reading.specs.Blocks.{printed}
+use Rattle.report_text.specs.reading.Blocks.{printed}
 use Rattle.report_auditor.specs.Auditing.{purpose_by, purposes_by}
 use Rattle.report_steps.specs.StepParts.{end_answer, end_by}
 use Rattle.report_steps.specs.StepRules.{NoEnd, moves_on}

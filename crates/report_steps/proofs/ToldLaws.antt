@@ -16,7 +16,7 @@ use Rattle.run_model.specs.Legal.{EventRight, IsLegalStep, ReceivedRight, Stands
 use Rattle.run_model.specs.Moment.{Moment, Setting}
 use Rattle.run_model.specs.World.{World}
 use Rattle.run_model.specs.declared.item.Stepped.{Stepped}
-use Rattle.report_reading.specs.Reading.{aborted_by, converter_at, event_of, serial_at, started_by}
+use Rattle.report_text.specs.reading.Reading.{aborted_by, converter_at, event_of, serial_at, started_by}
 use Rattle.trace_reader.specs.Told.{given, incoming, mark_of}
 use Rattle.trace_reader.specs.declared.told.Mark.{Mark}
 use Rattle.trace_reader.specs.declared.told.Mark.TheVariants as marks

@@ -12,7 +12,7 @@ use Rattle.mcal_base.specs.facts.Truths.{off_on}
 use Rattle.run_model.specs.Follows.{MayWait, awaits, ends_within}
 use Rattle.run_model.specs.Moment.{Moment, Setting, Steps, Happens, after}
 use Rattle.run_model.specs.declared.item.Stepped.{Stepped}
-use Rattle.report_reading.specs.Steps.{Comes, StepComes, AtOnce, Awaited}
+use Rattle.report_text.specs.reading.Steps.{Comes, StepComes, AtOnce, Awaited}
 use Rattle.report_steps.specs.Going.{WaitsRight}
 
 module _ {State Call : Type 0} (g : Setting State Call) (m : Moment State Call) (ticks : ℕ) where

@@ -14,8 +14,8 @@ use Rattle.run_model.specs.Legal.{IsServed}
 use Rattle.run_model.specs.Moment.{Moment, Setting, Happens, Resets, after}
 use Rattle.run_model.specs.declared.item.Stepped.{Stepped}
 use Rattle.run_model.specs.declared.stop_condition.StopCondition.{StopCondition}
-use Rattle.report_reading.specs.Blocks.{AuditState, printed}
-use Rattle.report_reading.specs.Steps.{Comes, StepComes, lines_at}
+use Rattle.report_text.specs.reading.Blocks.{AuditState, printed}
+use Rattle.report_text.specs.reading.Steps.{Comes, StepComes, lines_at}
 use Rattle.report_text.specs.Unread.{Unread, own_text}
 use Rattle.trace_reader.specs.declared.told.Step.{Step}
 use Rattle.trace_reader.specs.declared.told.Told.{Told}

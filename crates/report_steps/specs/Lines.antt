@@ -1,7 +1,7 @@
 -- What is made of the next line of a block.
 use Rattle.std.specs.Prelude.{◌≡◌, ℕ, ◌+◌, Bool, true, false, List, [], ◌∷◌, ◌++◌, length}
 use Rattle.bench_report.specs.Lines.{Line, numbered}
-use Rattle.report_reading.specs.Blocks.{behind, printed}
+use Rattle.report_text.specs.reading.Blocks.{behind, printed}
 use Rattle.report_text.specs.Unread.{Unread, own, own_text}
 use Rattle.trace_reader.specs.Reading.{parts_of}
 

@@ -25,8 +25,8 @@ use Rattle.audit_frames.specs.declared.terms.Task.{Task}
 use Rattle.audit_frames.specs.declared.terms.Task.TheVariants as tasks
 use Rattle.audit_subject.specs.Hearings.{Says}
 use Rattle.audit_subject.specs.declared.hearing.Heard.{Heard}
-use Rattle.report_reading.specs.Blocks.{AuditState, counted, printed}
-use Rattle.report_reading.specs.Reading.{event_of}
+use Rattle.report_text.specs.reading.Blocks.{AuditState, counted, printed}
+use Rattle.report_text.specs.reading.Reading.{event_of}
 use Rattle.report_text.specs.Unread.{Unread, own_text}
 use Rattle.trace_reader.specs.declared.told.Mark.{Mark}
 use Rattle.trace_reader.specs.declared.told.Step as read

@@ -6,8 +6,8 @@ use Rattle.bench_report.specs.Report.{end_lines, frames_after_end, move_lines}
 use Rattle.bench_report.specs.declared.frames.Purpose.{Purpose}
 use Rattle.run_model.specs.Moment.{Setting, Steps, after}
 use Rattle.run_model.specs.declared.item.Stepped.{Stepped}
-use Rattle.report_reading.specs.Blocks.{AuditState, counted, printed}
-use Rattle.report_reading.specs.Steps.{Comes}
+use Rattle.report_text.specs.reading.Blocks.{AuditState, counted, printed}
+use Rattle.report_text.specs.reading.Steps.{Comes}
 use Rattle.trace_reader.specs.Told.{given, incoming, mark_of}
 use Rattle.trace_reader.specs.declared.told.Step.{Step}
 use Rattle.report_steps.specs.declared.made.Made.{Made}

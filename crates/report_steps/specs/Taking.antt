@@ -3,8 +3,8 @@ use Rattle.std.specs.Prelude.{◌≡◌, ℕ, Bool, true, false, List, [], ◌++
 use Rattle.bench_report.specs.Lines.{Line}
 use Rattle.run_model.specs.Moment.{Setting}
 use Rattle.run_model.specs.declared.stop_condition.StopCondition.{StopCondition}
-use Rattle.report_reading.specs.Blocks.{AuditState, counted, printed}
-use Rattle.report_reading.specs.Steps.{PrintsSteps}
+use Rattle.report_text.specs.reading.Blocks.{AuditState, counted, printed}
+use Rattle.report_text.specs.reading.Steps.{PrintsSteps}
 
 -- Lines were taken that lead to a place, for which stands what is kept; and where such lines are the whole block, nothing of it is left.
 pub record Took {State Call : Type 0} (Prints : List Line → AuditState State Call → Type 0) (Stands : AuditState State Call → Type 0) (number : ℕ) (text rest : List ℕ) : Type 0 where

@@ -3,7 +3,7 @@ ghost use Rattle.std.specs.Bool.{OnTrue};
 ghost use Rattle.run_model.specs.Follows.{ends_within};
 ghost use Rattle.run_model.specs.Legal.{IsServed};
 ghost use Rattle.audit_frames.specs.Decides.{Decides};
-ghost use Rattle.report_reading.specs.Blocks.{AuditState};
+ghost use Rattle.report_text.specs.reading.Blocks.{AuditState};
 ghost use Rattle.report_text.specs.Unread.{own_text};
 ghost use Rattle.report_auditor.specs.Auditing.{IsReady, Stands};
 ghost use Rattle.report_steps.specs.Going as spec;

@@ -12,7 +12,7 @@ ghost use Rattle.audit_frames.specs.Decides.{Decides};
 ghost use Rattle.audit_frames.specs.FrameRules.{answer_after};
 ghost use Rattle.audit_frames.specs.Told.{answer_of};
 ghost use Rattle.audit_subject.specs.Hearings.{heard_in};
-ghost use Rattle.report_reading.specs.Blocks.{AuditState};
+ghost use Rattle.report_text.specs.reading.Blocks.{AuditState};
 ghost use Rattle.report_text.specs.Unread.{own_text};
 ghost use Rattle.trace_reader.specs.Trace.{HasLineNumbers};
 ghost use Rattle.report_auditor.specs.Auditing.{HasTime, IsReady, IsSound, Stands, StillSeen, purpose_by};

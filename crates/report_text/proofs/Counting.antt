@@ -5,7 +5,7 @@ use Rattle.std.proofs.lemmas.Bool.{false≢true}
 use Rattle.std.proofs.lemmas.List.Sums.{sum_by-append, sum_by-cons}
 use Rattle.bench_report.specs.Lines.{Line, line_text, numbered}
 use Rattle.bench_report.specs.Numbers.{IsNumber, Each}
-use Rattle.report_reading.specs.Blocks.{own_lines, printed}
+use Rattle.report_text.specs.reading.Blocks.{own_lines, printed}
 use Rattle.trace_reader.specs.Reading.{line_with, parts_of}
 use Rattle.trace_reader.specs.Trace.{HasLineNumbers}
 use Rattle.trace_reader.specs.declared.told.Told.{Told}

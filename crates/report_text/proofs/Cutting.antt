@@ -5,7 +5,7 @@ use Rattle.std.proofs.Math.Seq.{drop-append-add}
 use Rattle.std.proofs.lemmas.Bool.{false≢true}
 use Rattle.std.proofs.lemmas.Bool.Decides.{nat_tests}
 use Rattle.std.proofs.lemmas.List.{append-nil}
-use Rattle.report_reading.specs.Blocks.{begins_with, own_lines, behind, text_of}
+use Rattle.report_text.specs.reading.Blocks.{begins_with, own_lines, behind, text_of}
 use Rattle.trace_reader.specs.Reading.{parts_of}
 use Rattle.report_text.specs.Unread.{is_empty}
 use Rattle.report_text.specs.Taken.{Took}

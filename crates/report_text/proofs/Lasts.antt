@@ -7,7 +7,7 @@ use Rattle.std.proofs.lemmas.List.{append-nil}
 use Rattle.std.proofs.lemmas.List.Splits.{join_with_byte-slice_split}
 use Rattle.bench_report.specs.Lines.{end_text}
 use Rattle.bench_report.specs.declared.tally.Tally.{Tally}
-use Rattle.report_reading.specs.Audits.{IsEnd, end_fault}
+use Rattle.report_text.specs.reading.Audits.{IsEnd, end_fault}
 use Rattle.trace_reader.specs.Reading.{parts_of}
 use Rattle.report_text.specs.Unread.{comes, Ends}
 use Rattle.report_text.specs.declared.ending.Ending.TheVariants.{Alone, Followed, Missing}

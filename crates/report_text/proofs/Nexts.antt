@@ -6,7 +6,7 @@ use Rattle.std.proofs.lemmas.Bool.Decides.{nat_tests}
 use Rattle.std.proofs.lemmas.List.{append-nil, length-take-le}
 use Rattle.bench_report.specs.Lines.{Line, line_text, numbered, end_text}
 use Rattle.bench_report.specs.declared.tally.Tally.{Tally}
-use Rattle.report_reading.specs.Blocks.{begins_with, own_lines}
+use Rattle.report_text.specs.reading.Blocks.{begins_with, own_lines}
 use Rattle.trace_reader.specs.Reading.{parts_of, read_line}
 use Rattle.trace_reader.specs.declared.laws.TheConstants.{MOST_MOVING}
 use Rattle.trace_reader.specs.declared.told.Told.{Told}

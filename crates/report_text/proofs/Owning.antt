@@ -12,7 +12,7 @@ use Rattle.mcal_base.specs.declared.moves.Event.TheVariants as events
 use Rattle.mcal_base.specs.declared.moves.Move.{Move}
 use Rattle.mcal_base.specs.declared.moves.Move.TheVariants as moves
 use Rattle.mcal_base.specs.declared.register.Reg.TheVariants as regs
-use Rattle.report_reading.specs.Blocks.{begins_with, own_lines, behind, text_of, printed}
+use Rattle.report_text.specs.reading.Blocks.{begins_with, own_lines, behind, text_of, printed}
 use Rattle.trace_reader.specs.Reading.{line_with, parts_of}
 use Rattle.trace_reader.specs.Told.{told, mark_of, given, incoming}
 use Rattle.trace_reader.specs.Trace.{HasLineNumbers, MovesOn}

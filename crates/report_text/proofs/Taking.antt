@@ -6,7 +6,7 @@ use Rattle.std.proofs.lemmas.List.{take_at, take-append-drop}
 use Rattle.std.proofs.lemmas.Slice.Eq.{bytes_eq-Decides}
 use Rattle.bench_report.specs.Lines.{Line, line_text, numbered}
 use Rattle.bench_report.specs.Numbers.{IsNumber, Each}
-use Rattle.report_reading.specs.Blocks.{begins_with, own_lines, behind, text_of, printed}
+use Rattle.report_text.specs.reading.Blocks.{begins_with, own_lines, behind, text_of, printed}
 use Rattle.trace_reader.specs.Reading.{line_with, parts_of}
 use Rattle.trace_reader.specs.Trace.{HasLineNumbers}
 use Rattle.trace_reader.proofs.Digits.{none_append, no_feed}

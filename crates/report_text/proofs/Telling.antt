@@ -5,7 +5,7 @@ use Rattle.std.proofs.lemmas.Bool.Decides.{nat_tests}
 use Rattle.std.proofs.lemmas.Slice.Eq.{bytes_eq-Decides}
 use Rattle.bench_report.specs.Lines.{Line, numbered}
 use Rattle.bench_report.specs.Numbers.{IsNumber}
-use Rattle.report_reading.specs.Blocks.{begins_with, own_lines}
+use Rattle.report_text.specs.reading.Blocks.{begins_with, own_lines}
 use Rattle.trace_reader.specs.Guess.{words_of, guess}
 use Rattle.trace_reader.specs.Reading.{line_with, told_where, read_number, read_words, read_line, parts_of}
 use Rattle.trace_reader.specs.Told.{told}

@@ -1,7 +1,7 @@
 -- What lines at the front of a report are of the block that is read.
 use Rattle.std.specs.Prelude.{◌≡◌, ℕ, List, [], ◌∷◌, ◌++◌, Some}
 use Rattle.bench_report.specs.Lines.{Line}
-use Rattle.report_reading.specs.Blocks.{own_lines, behind, text_of}
+use Rattle.report_text.specs.reading.Blocks.{own_lines, behind, text_of}
 use Rattle.trace_reader.specs.Reading.{line_with, parts_of}
 use Rattle.trace_reader.specs.Told.{told}
 use Rattle.trace_reader.specs.declared.told.Told.{Told}

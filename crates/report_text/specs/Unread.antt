@@ -2,7 +2,7 @@
 use Rattle.std.specs.Prelude.{◌≡◌, ℕ, ◌+◌, List, [], ◌∷◌, Bool, true, false, length, take, drop, nat_le, Option, Some, None, option_map, bytes_eq, if◌then◌else◌}
 use Rattle.bench_report.specs.Lines.{end_text}
 use Rattle.bench_report.specs.declared.tally.Tally.{Tally}
-use Rattle.report_reading.specs.Blocks.{own_lines, text_of}
+use Rattle.report_text.specs.reading.Blocks.{own_lines, text_of}
 use Rattle.trace_reader.specs.Reading.{parts_of, read_line}
 use Rattle.trace_reader.specs.declared.laws.TheConstants.{MOST_MOVING}
 use Rattle.trace_reader.specs.declared.told.Told.{Told}

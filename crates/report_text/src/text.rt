@@ -1,7 +1,7 @@
 ghost use Rattle.std.specs.Prelude.{◌≡◌, ◌+◌, ◌<◌, ◌++◌, ◌==◌, IfOk, MatchOption, IfSome, OnOk, List, ℕ, [], ◌∷◌, length, take, drop, false, true, count_by, codes, decimal, string_bytes};
 ghost use Rattle.bench_report.specs.Lines.{line_of, line_text, numbered};
 ghost use Rattle.bench_report.specs.Numbers.{IsNumber};
-ghost use Rattle.report_reading.specs.Blocks.{own_lines};
+ghost use Rattle.report_text.specs.reading.Blocks.{own_lines};
 ghost use Rattle.trace_reader.specs.Reading.{parts_of};
 ghost use Rattle.report_text.specs.Unread as spec;
 

@@ -10,7 +10,7 @@ use Rattle.mcal_base.specs.declared.directive.Order.{Order}
 use Rattle.mcal_base.specs.declared.directive.Order.TheVariants.{Tick, Level, Analog, Trigger, Miso, SpiFault, Fill}
 use Rattle.mcal_base.specs.declared.directive.Reason.{Reason}
 use Rattle.mcal_base.specs.declared.moves.Move.{Move}
-use Rattle.chip_converter.specs.Converters.{level_at, with_level}
+use Rattle.chip_blocks.specs.converter.Converters.{level_at, with_level}
 use Rattle.chip_model.specs.Chip.{Chip, power_on, hung, chip_after, happened, reset_chip, levelled, outside_at, now_of}
 use Rattle.chip_model.specs.Histories.{HasAll, Made, Hardware, WasReset, FillsThere}
 use Rattle.chip_model.proofs.HistoryLaws.{level_leaves, level-since_event, outside-move, outside-step, levels-move, levels-pulse, osc-move, now-move}

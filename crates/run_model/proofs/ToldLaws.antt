@@ -5,7 +5,7 @@ use Rattle.std.proofs.lemmas.Bool.Decides.{eqb_tells, nat_tests}
 use Rattle.std.specs.Prelude.{◌==◌, slice_get, option_and_then}
 use Rattle.chip_model.specs.Chip.{Chip, has_device, names_device}
 use Rattle.chip_model.specs.Devices.{CallsRight}
-use Rattle.chip_units.specs.Serials.{outgoing, unit_at}
+use Rattle.chip_blocks.specs.units.Serials.{outgoing, unit_at}
 use Rattle.mcal_base.specs.declared.directive.Order.{Order}
 use Rattle.mcal_base.specs.declared.directive.Order.TheVariants as orders
 use Rattle.mcal_base.specs.declared.moves.Move.{Move}

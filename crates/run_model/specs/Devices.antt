@@ -2,7 +2,7 @@
 use Rattle.std.specs.Prelude.{◌≡◌, ℕ, ◌+◌, ◌-◌, ◌^◌, ◌<◌, ◌≤◌, ◌==◌, ◌&&◌, min, length, take, sum_by, Bool, false, if◌then◌else◌, Some, List, [], ◌∷◌, ◌++◌, Option, None, option_and_then, slice_get}
 use Rattle.chip_model.specs.Chip.{Chip, has_device}
 use Rattle.chip_model.specs.Devices.{CallsRight}
-use Rattle.chip_units.specs.Serials.{outgoing, unit_at}
+use Rattle.chip_blocks.specs.units.Serials.{outgoing, unit_at}
 use Rattle.mcal_base.specs.declared.directive.Order.{Order}
 use Rattle.mcal_base.specs.declared.directive.Order.TheVariants as orders
 use Rattle.mcal_base.specs.declared.moves.Move.{Move}

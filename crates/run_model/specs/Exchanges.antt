@@ -1,7 +1,7 @@
 -- What a journal alone tells of the devices: a step is under a device's select where it writes `S<u>.DATA` while
 -- `S<u>.SELECT` holds the device's place and 1.
 use Rattle.std.specs.Prelude.{◌≡◌, ℕ, ◌+◌, ◌-◌, ◌<◌, ◌==◌, ◌&&◌, nat_lt, Bool, false, if◌then◌else◌, List, [], ◌∷◌, ◌++◌, length, slice_get, sum_by}
-use Rattle.chip_units.specs.Serials.{masked}
+use Rattle.chip_blocks.specs.units.Serials.{masked}
 use Rattle.mcal_base.specs.declared.directive.Order.TheVariants as orders
 use Rattle.mcal_base.specs.declared.moves.Move.{Move}
 use Rattle.mcal_base.specs.declared.moves.Move.TheVariants.{Write}

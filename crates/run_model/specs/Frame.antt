@@ -1,6 +1,6 @@
 -- A frame under way, by what it has done so far, and what a step adds to that.
 use Rattle.std.specs.Prelude.{ℕ, ◌+◌, Bool, true, false, ◌||◌, ◌&&◌, not, cond, is_some, map, List, [], ◌∷◌, ◌++◌, Option, Some, None}
-use Rattle.det_errors.specs.Reports.{reported}
+use Rattle.mcal_base.specs.det_errors.Reports.{reported}
 use Rattle.mcal_base.specs.declared.answer.Answer.{Answer}
 use Rattle.mcal_base.specs.declared.error_name.ErrorName.{ErrorName}
 use Rattle.mcal_base.specs.declared.moves.DevError.{DevError}

@@ -1,8 +1,8 @@
 -- When a run is legal: what each of its deeds has to be, in the moment before it.
 use Rattle.std.specs.Prelude.{◌≡◌, ℕ, ◌<◌, ◌≤◌, min, Bool, true, false, ◌&&◌, ◌||◌, ◌==◌, cond, not, List, [], ◌∷◌, Option, Some, None, IsSome, MatchBool}
 use Rattle.std.specs.List.{Contains, list_any, list_all}
-use Rattle.chip_units.specs.Serials.{unit_at, outgoing}
-use Rattle.chip_units.specs.declared.serial.Serial.{Serial}
+use Rattle.chip_blocks.specs.units.Serials.{unit_at, outgoing}
+use Rattle.chip_blocks.specs.declared.units.serial.Serial.{Serial}
 use Rattle.chip_model.specs.Chip.{Chip, value_of, stall_of, names_device, next_word, expiry_of, is_pending, is_masked}
 use Rattle.mcal_base.specs.Reach.{CanApply}
 use Rattle.irq_control.specs.declared.held.Held.{Held}

@@ -1,6 +1,6 @@
 -- A machine of the specifications: what happens to a module, and what comes of it. It knows no register, no mask and no place in a program.
 use Rattle.std.specs.Prelude.{◌≡◌, ℕ, ◌+◌, List, [], Bool, Option, Some, None, IsSome, ◌∷◌}
-use Rattle.det_errors.specs.Reports.{Reporting}
+use Rattle.mcal_base.specs.det_errors.Reports.{Reporting}
 use Rattle.mcal_base.specs.declared.answer.Answer.{Answer}
 use Rattle.mcal_base.specs.declared.answer.Head.TheVariants.{Nothing, Name, Numbers, ZeroNull}
 use Rattle.mcal_base.specs.declared.directive.Order.{Order}

@@ -1,7 +1,7 @@
 -- A chip in its outside: what every chip of a run is in the world of that run.
 use Rattle.std.specs.Prelude.{◌≡◌, ℕ, ◌<◌, ◌≤◌}
 use Rattle.std.specs.List.{AllByRecursion}
-use Rattle.chip_converter.specs.Converters.{level_at}
+use Rattle.chip_blocks.specs.converter.Converters.{level_at}
 use Rattle.chip_model.specs.Chip.{Chip, now_of, outside_at}
 use Rattle.chip_model.specs.Histories.{HasAll, IsAtOneTime}
 use Rattle.run_model.specs.World.{World, Sample, last_sample}

@@ -4,10 +4,10 @@ use Rattle.std.proofs.Common.{◌≡◌, ℕ, zero, suc, ◌+◌, ◌-◌, ◌*�
 use Rattle.std.specs.Prelude.{max, nat_le, if◌then◌else◌, slice_index_or, slice_set, ◌/◌}
 use Rattle.std.proofs.Math.Nat.{div-eq_of_lt, lt-div-mul-add}
 use Rattle.std.proofs.lemmas.Bool.Decides.{nat_tests}
-use Rattle.chip_units.specs.Serials as serials
-use Rattle.chip_units.specs.Serials.{Serials, is_busy, is_done, in_transfer, left_at, failing, faulted, acknowledged, begun, unit_at, idle}
-use Rattle.chip_units.specs.declared.serial.Serial.{Serial}
-use Rattle.chip_units.specs.declared.serial.Word.{Word}
+use Rattle.chip_blocks.specs.units.Serials as serials
+use Rattle.chip_blocks.specs.units.Serials.{Serials, is_busy, is_done, in_transfer, left_at, failing, faulted, acknowledged, begun, unit_at, idle}
+use Rattle.chip_blocks.specs.declared.units.serial.Serial.{Serial}
+use Rattle.chip_blocks.specs.declared.units.serial.Word.{Word}
 use Rattle.chip_model.specs.Chip.{Chip, after_read, after_write, chip_after, happened, ticked, reset_chip, ticks_for, wait_on}
 use Rattle.chip_model.proofs.HistoryLaws.{level_leaves}
 use Rattle.mcal_base.specs.declared.directive.Order.{Order}

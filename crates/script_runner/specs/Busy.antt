@@ -1,7 +1,7 @@
 -- How many serial units have a word in transfer.
 use Rattle.std.specs.Prelude.{ℕ, ◌+◌, cond, List, slice_index_or}
-use Rattle.chip_units.specs.Serials.{is_busy, idle}
-use Rattle.chip_units.specs.declared.serial.Serial.{Serial}
+use Rattle.chip_blocks.specs.units.Serials.{is_busy, idle}
+use Rattle.chip_blocks.specs.declared.units.serial.Serial.{Serial}
 use Rattle.chip_model.specs.Chip.{Chip}
 
 -- 1 where the unit has one

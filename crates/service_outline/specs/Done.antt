@@ -6,7 +6,7 @@ use Rattle.mcal_base.specs.declared.moves.Event.TheVariants.{Act}
 use Rattle.mcal_base.specs.declared.error_name.ErrorName.{ErrorName}
 use Rattle.mcal_base.specs.declared.moves.DevError.{DevError}
 use Rattle.mcal_base.specs.declared.service.Service.{Service}
-use Rattle.det_errors.specs.Reports.{Reporting, reported}
+use Rattle.mcal_base.specs.det_errors.Reports.{Reporting, reported}
 use Rattle.run_model.specs.Frame.{report_as}
 use Rattle.service_outline.specs.declared.done.Epilogue.{Epilogue}
 use Rattle.service_outline.specs.declared.done.Epilogue.TheVariants.{Nothing, Error}

@@ -13,4 +13,5 @@ pub mod Short
 pub mod ShortServices
 pub mod Sweep
 pub mod SweepServices
+pub mod guests
 pub mod laws

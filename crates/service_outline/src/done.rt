@@ -4,7 +4,7 @@ ghost use Rattle.run_model.specs.Machine.{no_answer};
 ghost use Rattle.run_model.specs.Machine as machine;
 ghost use Rattle.service_outline.specs.Done as spec;
 
-use det_errors::reported;
+use mcal_base::det_errors::reported;
 use mcal_base::{Answer, AnswerName, DevError, ErrorName, Event, Head, Notice, Service, Words};
 use std::marker::Model;
 

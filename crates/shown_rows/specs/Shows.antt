@@ -13,7 +13,7 @@ use Rattle.bench_report.specs.declared.rows.Value.{Value}
 use Rattle.bench_report.specs.declared.rows.Value.TheVariants as values
 use Rattle.mcal_drivers.specs.Setting.{SystemState}
 pub use Rattle.mcal_drivers.specs.Shows.{level_at, results_at, serial_channel, size_at, user_at, wire_at}
-use Rattle.spi_jobs.specs.declared.channel.Channel.{Channel}
+use Rattle.word_shapes.specs.declared.jobs.channel.Channel.{Channel}
 use Rattle.shown_rows.specs.Words.{words, words_row}
 use Rattle.shown_rows.specs.declared.shown.Words.TheVariants as kinds
 

@@ -11,8 +11,8 @@ use crate::shown::{ShownBoard, Words};
 use crate::words::write_words;
 use bench_report::RowName;
 use mcal_base::Array;
-use spi_jobs::Channel;
 use std::alloc::{AllocError, Global};
+use word_shapes::jobs::Channel;
 
 /// Writes the row of a capture channel's stamps, where it was started since the last reset.
 #[tactic(auto, using(crate::proofs::Rows::no_rows))]

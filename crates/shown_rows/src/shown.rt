@@ -10,8 +10,8 @@ ghost use Rattle.shown_rows.specs.Places.{HasPlaces, word_at};
 ghost use Rattle.shown_rows.specs.Wires.{pairs};
 
 use mcal_base::{Array, Config};
-use spi_jobs::Channel;
 use std::alloc::{AllocError, Global};
+use word_shapes::jobs::Channel;
 
 /// What is shown word by word.
 #[derive(Clone, Copy)]

@@ -69,11 +69,11 @@ pub use Rattle.service_outline.specs.laws.{Both.{both_ending, both_right}, Dutie
 pub use Rattle.service_outline.specs.laws.{Lawful.{services_lawful}, Owing.{not_filled, windows_right}}
 pub use Rattle.service_outline.specs.laws.{Reports.{error_told}, Seen.{waiting_windows}, ShortServices.{plain_makes}}
 pub use Rattle.service_outline.specs.laws.{ShortServices.{plain_turns}, StepKinds.{asks_no, same_line}}
-pub use Rattle.spi_jobs.specs.{Parts.{commit_ends, find_gave, gave, has_ended, keep_ends}}
-pub use Rattle.spi_jobs.specs.{Parts.{pinning, releasing}, Placing.{bank_of, bank_word, control_word}}
-pub use Rattle.spi_jobs.specs.{Placing.{trio_of}, declared.channel.Channel.{Channel}, declared.channel.Placed.{Placed}}
-pub use Rattle.spi_jobs.specs.{declared.channel.Side.{Side}, declared.channel.Side.TheVariants.{Received, Sent}}
-pub use Rattle.spi_jobs.specs.{declared.finding.Find.{Find}}
+pub use Rattle.word_shapes.specs.jobs.{Parts.{commit_ends, find_gave, gave, has_ended, keep_ends}}
+pub use Rattle.word_shapes.specs.jobs.{Parts.{pinning, releasing}, Placing.{bank_of, bank_word, control_word}}
+pub use Rattle.word_shapes.specs.{jobs.Placing.{trio_of}, declared.jobs.channel.Channel.{Channel}, declared.jobs.channel.Placed.{Placed}}
+pub use Rattle.word_shapes.specs.declared.jobs.{channel.Side.{Side}, channel.Side.TheVariants.{Received, Sent}}
+pub use Rattle.word_shapes.specs.declared.jobs.{finding.Find.{Find}}
 pub use Rattle.spi_machine.specs.{Bounds.{call_steps, channel_steps, class_of, internal_by, internal_words}}
 pub use Rattle.spi_machine.specs.{Bounds.{is_for_lines, is_own_word, is_serial, is_used, is_users_place, is_users_word}}
 pub use Rattle.spi_machine.specs.{Bounds.{is_word_of, may, may_name, may_write, objects, own_words, spi_setting}}
@@ -192,19 +192,19 @@ pub use Rattle.spi_sequences.specs.laws.{words.JobPlaces.{shares_unit}, words.Wo
 pub use Rattle.spi_sequences.specs.laws.{words.WordsToState.{pending_word}}
 pub use Rattle.spi_sequences.specs.laws.words.Cases.{cases, whether, whether_as}
 pub use Rattle.spi_machine.specs.State.{carries_channel}
-pub use Rattle.spi_starting.specs.Starting.{start_left, start_place}
-pub use Rattle.spi_starting.specs.laws.bookkeeping.RanState.{debt_of}
-pub use Rattle.spi_starting.specs.laws.services.StartAround.{Fewer as StartLess, none_owed, NotStart, owed_left_is}
-pub use Rattle.spi_starting.specs.laws.services.StartAround.{start_calm, start_later, start_may, start_shorter}
-pub use Rattle.spi_starting.specs.laws.services.StartRight.{start_right, StartBegins, StartLeaves}
-pub use Rattle.spi_serving.specs.Serving.{notices_by, serve_ahead, serve_fuel, serve_place, serve_room}
-pub use Rattle.spi_serving.specs.laws.{services.ServeBounds.{place_fits}, services.ServeAround.{NotServing}}
-pub use Rattle.spi_serving.specs.laws.{services.ServeAround.{serve_calm, serve_later}}
-pub use Rattle.spi_serving.specs.laws.services.ServeBounds.{Fewer as ServeLess, fuel_at as serve_fuel_at, less_fuel, less_room}
-pub use Rattle.spi_serving.specs.laws.{services.ServeBounds.{room_at as serve_room_at}, services.ServeMoves.{serve_may}}
-pub use Rattle.spi_serving.specs.laws.{services.ServeRight.{Leaves as ServeLeaves, ServeHappens, ServeOwes, steps_right}}
-pub use Rattle.spi_sending.specs.Sending.{about_sent, SendAbout, SendAhead, ToEnd, ToWait}
-pub use Rattle.spi_sending.specs.Sending.{StandsAbout, StandsAhead, sync_bodies, sync_spot, sync_windows}
-pub use Rattle.spi_sending.specs.laws.services.{SendBegins.{begins_at, begins_few}, SendRight.{sender, sync_opens, sync_right}}
-pub use Rattle.spi_sending.specs.laws.services.{SendAround.{asking_plain, find_plain}}
-pub use Rattle.spi_sending.specs.laws.services.WindowsRight.{windows_are_right}
+pub use Rattle.spi_laws.specs.starting.Starting.{start_left, start_place}
+pub use Rattle.spi_laws.specs.starting.laws.bookkeeping.RanState.{debt_of}
+pub use Rattle.spi_laws.specs.starting.laws.services.StartAround.{Fewer as StartLess, none_owed, NotStart, owed_left_is}
+pub use Rattle.spi_laws.specs.starting.laws.services.StartAround.{start_calm, start_later, start_may, start_shorter}
+pub use Rattle.spi_laws.specs.starting.laws.services.StartRight.{start_right, StartBegins, StartLeaves}
+pub use Rattle.spi_laws.specs.serving.Serving.{notices_by, serve_ahead, serve_fuel, serve_place, serve_room}
+pub use Rattle.spi_laws.specs.serving.laws.{services.ServeBounds.{place_fits}, services.ServeAround.{NotServing}}
+pub use Rattle.spi_laws.specs.serving.laws.{services.ServeAround.{serve_calm, serve_later}}
+pub use Rattle.spi_laws.specs.serving.laws.services.ServeBounds.{Fewer as ServeLess, fuel_at as serve_fuel_at, less_fuel, less_room}
+pub use Rattle.spi_laws.specs.serving.laws.{services.ServeBounds.{room_at as serve_room_at}, services.ServeMoves.{serve_may}}
+pub use Rattle.spi_laws.specs.serving.laws.{services.ServeRight.{Leaves as ServeLeaves, ServeHappens, ServeOwes, steps_right}}
+pub use Rattle.spi_laws.specs.sending.Sending.{about_sent, SendAbout, SendAhead, ToEnd, ToWait}
+pub use Rattle.spi_laws.specs.sending.Sending.{StandsAbout, StandsAhead, sync_bodies, sync_spot, sync_windows}
+pub use Rattle.spi_laws.specs.sending.laws.services.{SendBegins.{begins_at, begins_few}, SendRight.{sender, sync_opens, sync_right}}
+pub use Rattle.spi_laws.specs.sending.laws.services.{SendAround.{asking_plain, find_plain}}
+pub use Rattle.spi_laws.specs.sending.laws.services.WindowsRight.{windows_are_right}

@@ -3,7 +3,7 @@
 ghost use Rattle.std.specs.Prelude.{◌≡◌, ◌==◌, ◌<◌, ◌&&◌, ℕ, true, [], Some, is_some};
 ghost use Rattle.chip_model.specs.Chip.{word_of};
 ghost use Rattle.run_model.specs.World.{World};
-ghost use Rattle.spi_jobs.specs.declared.channel.Channel.{Channel};
+ghost use Rattle.word_shapes.specs.declared.jobs.channel.Channel.{Channel};
 ghost use Rattle.spi_machine.specs.Fits.{FitsSpi};
 ghost use Rattle.spi_machine.specs.State.{SpiState, internal_word};
 ghost use Rattle.spi_machine.specs.Table.{channel_of};
@@ -13,9 +13,9 @@ ghost use Rattle.spi_driver.specs.laws.words.WordsToState as spec;
 use crate::driver::SpiDriver;
 use chip_model::Bus;
 use mcal_base::WORDS;
-use spi_jobs::{Side, bank_of};
 use spi_machine::{ChannelList, JobList};
 use spi_sequences::{PENDING, STATE, sequence_word};
+use word_shapes::jobs::{Side, bank_of};
 
 impl SpiDriver {
     /// A word of an internal channel by its place: one that it sends, as it was last written, or one that may be read

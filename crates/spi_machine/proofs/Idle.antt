@@ -12,7 +12,7 @@ use Rattle.mcal_base.specs.declared.error_name.ErrorName.{ErrorName}
 use Rattle.mcal_base.specs.declared.error_name.ErrorName.TheVariants.{SpiUninit}
 use Rattle.mcal_base.specs.declared.service.Service.TheVariants as services
 use Rattle.mcal_base.specs.declared.moves.Unit as units
-use Rattle.det_errors.specs.Rows.{first_error}
+use Rattle.mcal_base.specs.det_errors.Rows.{first_error}
 use Rattle.run_model.specs.Frame.{state_by}
 use Rattle.run_model.specs.Machine.{Happening, Acts, Serves, Starts, Aborts, Moves, Restarts, Outcome, outcome, answers, named}
 use Rattle.run_model.specs.World.{World}

@@ -29,7 +29,7 @@ use Rattle.spi_machine.specs.declared.call.Call.TheVariants.{Init, DeInit, SetAs
 use Rattle.spi_machine.specs.declared.call.ChannelCall.TheVariants.{WriteIb, ReadIb, SetupEb}
 use Rattle.spi_machine.specs.declared.call.SequenceCall.TheVariants.{AsyncTransmit, Cancel, SyncTransmit}
 use Rattle.spi_machine.specs.declared.call.Pointer.{Pointer}
-use Rattle.spi_jobs.specs.declared.channel.Channel as configured
+use Rattle.word_shapes.specs.declared.jobs.channel.Channel as configured
 use Rattle.spi_machine.specs.declared.table.SpiTable.{SpiTable}
 
 -- ---- a waiting sequence that is cancelled

@@ -29,7 +29,7 @@ use Rattle.spi_machine.specs.declared.call.ChannelCall.{ChannelCall}
 use Rattle.spi_machine.specs.declared.call.ChannelCall.TheVariants.{WriteIb, ReadIb, SetupEb}
 use Rattle.spi_machine.specs.declared.call.SequenceCall.{SequenceCall}
 use Rattle.spi_machine.specs.declared.call.SequenceCall.TheVariants.{AsyncTransmit, Cancel, SyncTransmit}
-use Rattle.spi_jobs.specs.declared.channel.Channel as configured
+use Rattle.word_shapes.specs.declared.jobs.channel.Channel as configured
 use Rattle.spi_machine.specs.declared.table.Sequence as configured_sequence
 use Rattle.spi_machine.specs.declared.table.SpiTable.{SpiTable}
 use Rattle.spi_machine.specs.Machine.{spi_machine, unit_of}

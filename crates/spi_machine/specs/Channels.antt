@@ -2,7 +2,7 @@
 use Rattle.std.specs.Prelude.{ℕ, Bool, true, false, if◌then◌else◌, List, [], ◌++◌, length, take, drop, replicate, Option, Some, None}
 use Rattle.spi_machine.specs.declared.call.Pointer.{Pointer}
 use Rattle.spi_machine.specs.declared.call.Pointer.TheVariants.{Users, Null}
-use Rattle.spi_jobs.specs.declared.channel.Channel.{Channel}
+use Rattle.word_shapes.specs.declared.jobs.channel.Channel.{Channel}
 use Rattle.spi_machine.specs.Numbered.{first_items}
 use Rattle.spi_machine.specs.Table.{length_by}
 

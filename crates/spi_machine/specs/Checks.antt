@@ -5,7 +5,7 @@ use Rattle.mcal_base.specs.declared.answer_name.AnswerName.TheVariants.{ENotOk, 
 use Rattle.mcal_base.specs.declared.error_name.ErrorName.{ErrorName}
 use Rattle.mcal_base.specs.declared.service.Service.{Service}
 use Rattle.mcal_base.specs.declared.service.Service.TheVariants as services
-use Rattle.det_errors.specs.Rows.{first_error}
+use Rattle.mcal_base.specs.det_errors.Rows.{first_error}
 use Rattle.run_model.specs.Machine.{no_answer, named}
 use Rattle.spi_machine.specs.declared.call.Call as calls
 use Rattle.spi_machine.specs.declared.call.Call.TheVariants.{Init, DeInit, SetAsyncMode, MainFunctionHandling, Channel, Sequence, Get}
@@ -15,7 +15,7 @@ use Rattle.spi_machine.specs.declared.call.SequenceCall.{SequenceCall}
 use Rattle.spi_machine.specs.declared.call.SequenceCall.TheVariants.{AsyncTransmit, Cancel, SyncTransmit}
 use Rattle.spi_machine.specs.declared.call.Query.{Query}
 use Rattle.spi_machine.specs.declared.call.Query.TheVariants.{Status, JobResult, SequenceResult, HwUnitStatus}
-use Rattle.spi_jobs.specs.declared.channel.Channel as configured
+use Rattle.word_shapes.specs.declared.jobs.channel.Channel as configured
 use Rattle.spi_machine.specs.declared.table.SpiTable.{SpiTable}
 use Rattle.spi_machine.specs.Table.{channel_of, job_of, sequence_of, length_by, is_internal_channel, is_external_channel}
 use Rattle.spi_machine.specs.Wiring.{is_sync_sequence}

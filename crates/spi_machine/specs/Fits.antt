@@ -1,6 +1,6 @@
 -- What a driver that was made of a sound configuration is.
 use Rattle.std.specs.Prelude.{◌≡◌, ℕ, ◌+◌, ◌<◌, ◌≤◌, true, List, length, Some, slice_get, slice_index_or, Contains}
-use Rattle.spi_jobs.specs.declared.channel.Channel.{Channel}
+use Rattle.word_shapes.specs.declared.jobs.channel.Channel.{Channel}
 use Rattle.spi_machine.specs.Bounds.{own_words}
 use Rattle.spi_machine.specs.Pending.{uses_channel}
 use Rattle.spi_machine.specs.Table.{banked, channel_of, job_of, sequence_of, channels_of, jobs_of}

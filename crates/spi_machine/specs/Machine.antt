@@ -9,7 +9,7 @@ use Rattle.mcal_base.specs.declared.directive.Order.TheVariants.{Fill, SpiFault}
 use Rattle.mcal_base.specs.declared.error_name.ErrorName.{ErrorName}
 use Rattle.mcal_base.specs.declared.moves.Unit as units
 use Rattle.mcal_base.specs.declared.moves.Unit.TheVariants as serial
-use Rattle.det_errors.specs.Reports.{Reporting}
+use Rattle.mcal_base.specs.det_errors.Reports.{Reporting}
 use Rattle.run_model.specs.World.{World}
 use Rattle.run_model.specs.Machine.{Happening, Acts, Serves, Starts, Aborts, Moves, Restarts, Begun, Outcome, Machine, tells_nothing, outcome, outcome_with, answers, named, named_with, tells_error}
 use Rattle.spi_machine.specs.declared.call.Call.{Call}
@@ -21,7 +21,7 @@ use Rattle.spi_machine.specs.declared.call.SequenceCall.{SequenceCall}
 use Rattle.spi_machine.specs.declared.call.SequenceCall.TheVariants.{AsyncTransmit, Cancel, SyncTransmit}
 use Rattle.spi_machine.specs.declared.call.Query.{Query}
 use Rattle.spi_machine.specs.declared.call.Query.TheVariants.{Status, JobResult, SequenceResult, HwUnitStatus}
-use Rattle.spi_jobs.specs.declared.channel.Channel.{Channel}
+use Rattle.word_shapes.specs.declared.jobs.channel.Channel.{Channel}
 use Rattle.spi_machine.specs.declared.table.SpiTable.{SpiTable}
 use Rattle.spi_machine.specs.Channels.{ChannelState, untouched, initialised, written_from, filled}
 use Rattle.spi_machine.specs.Checks.{service_of, error_by, answer_refused}

@@ -8,7 +8,7 @@ use Rattle.mcal_base.specs.declared.config.spi.SpiChannelType.TheVariants.{Inter
 use Rattle.mcal_base.specs.declared.config.spi.SpiConfig.{SpiConfig}
 use Rattle.mcal_base.specs.declared.config.spi.SpiJob.{SpiJob}
 use Rattle.mcal_base.specs.declared.config.spi.SpiSequence.{SpiSequence}
-use Rattle.spi_jobs.specs.declared.channel.Channel.{Channel}
+use Rattle.word_shapes.specs.declared.jobs.channel.Channel.{Channel}
 use Rattle.spi_machine.specs.declared.table.ChannelList.{ChannelList}
 use Rattle.spi_machine.specs.declared.table.Job.{Job}
 use Rattle.spi_machine.specs.declared.table.JobList.{JobList}

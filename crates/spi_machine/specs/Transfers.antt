@@ -3,7 +3,7 @@ use Rattle.std.specs.Prelude.{ℕ, ◌+◌, ◌%◌, ◌^◌, ◌==◌, nat_lt, 
 use Rattle.std.specs.List.{enumerate_from}
 use Rattle.spi_machine.specs.declared.call.Pointer.{Pointer}
 use Rattle.spi_machine.specs.declared.call.Pointer.TheVariants.{Users, Null}
-use Rattle.spi_jobs.specs.declared.channel.Channel.{Channel}
+use Rattle.word_shapes.specs.declared.jobs.channel.Channel.{Channel}
 use Rattle.spi_machine.specs.Channels.{ChannelState, SetUp, set_up_or, words_from}
 
 -- where a word that comes in goes

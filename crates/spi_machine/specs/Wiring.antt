@@ -1,7 +1,7 @@
 -- What frames read of the table: channels with the places of their words, and the jobs and channels that stand at
 -- places.
 use Rattle.std.specs.Prelude.{ℕ, zero, suc, ◌+◌, ◌%◌, ◌^◌, ◌==◌, Bool, false, ◌||◌, if◌then◌else◌, List, take, Option, Some, None, is_some, slice_get, slice_index_or}
-use Rattle.spi_jobs.specs.declared.channel.Placed.{Placed}
+use Rattle.word_shapes.specs.declared.jobs.channel.Placed.{Placed}
 use Rattle.spi_machine.specs.declared.table.ChannelList.{ChannelList}
 use Rattle.spi_machine.specs.declared.table.JobList.{JobList}
 use Rattle.spi_machine.specs.declared.table.Job.{Job}

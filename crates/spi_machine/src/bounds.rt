@@ -4,7 +4,7 @@ ghost use Rattle.spi_machine.specs.Table as rows;
 
 use crate::call::{Call, ChannelCall, SequenceCall};
 use crate::table::{Sequence, SpiTable};
-use spi_jobs::Channel;
+use word_shapes::jobs::Channel;
 
 /// The most steps of a handler, and of a request.
 pub const SERIAL_STEPS: u32 = 144;

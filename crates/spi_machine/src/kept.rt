@@ -4,7 +4,7 @@ ghost use Rattle.spi_machine.specs.Table as spec;
 
 use crate::table::{ChannelList, Job, JobList, Sequence, SpiTable};
 use mcal_base::{Config, Short, SpiChannel, SpiChannelType, SpiJob, SpiSequence};
-use spi_jobs::Channel;
+use word_shapes::jobs::Channel;
 
 impl SpiTable {
     /// What is kept of a configuration. It takes no memory.

@@ -8,7 +8,7 @@ ghost use Rattle.spi_machine.specs.Wiring as wiring;
 
 use crate::call::SequenceCall;
 use mcal_base::ModuleName;
-use spi_jobs::{Channel, Placed};
+use word_shapes::jobs::{Channel, Placed};
 
 /// The numbers of the channels of a job, in their order: so many of these.
 #[derive(Clone, Copy)]

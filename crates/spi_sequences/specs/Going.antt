@@ -1,13 +1,13 @@
 -- A job under way: how its words stand in registers and driver words.
 use Rattle.std.specs.Prelude.{◌≡◌, ℕ, ◌+◌, ◌<◌, ◌≤◌, ◌==◌, nat_lt, Bool, true, false, ◌&&◌, ◌||◌, if◌then◌else◌, List, map, take, drop, length, sum_by, flat_map, Option, Some, None, slice_get, slice_index_or}
-use Rattle.chip_units.specs.declared.serial.Serial.{Serial}
-use Rattle.chip_units.specs.declared.serial.Word as chips
+use Rattle.chip_blocks.specs.declared.units.serial.Serial.{Serial}
+use Rattle.chip_blocks.specs.declared.units.serial.Word as chips
 use Rattle.run_model.specs.Machine.{select_of}
 use Rattle.word_shapes.specs.Playing.{Memory}
-use Rattle.spi_jobs.specs.Placing.{held_word, source_word, packed}
-use Rattle.spi_jobs.specs.declared.channel.Channel.{Channel}
-use Rattle.spi_jobs.specs.declared.channel.Placed.{Placed}
-use Rattle.spi_jobs.specs.declared.set_up.SetUp.{SetUp}
+use Rattle.word_shapes.specs.jobs.Placing.{held_word, source_word, packed}
+use Rattle.word_shapes.specs.declared.jobs.channel.Channel.{Channel}
+use Rattle.word_shapes.specs.declared.jobs.channel.Placed.{Placed}
+use Rattle.word_shapes.specs.declared.jobs.set_up.SetUp.{SetUp}
 use Rattle.spi_machine.specs.Pending.{Pending, next_job}
 use Rattle.spi_machine.specs.Table.{channel_of, channels_of, job_of, select_by}
 use Rattle.spi_machine.specs.Transfers.{Goes, ToDestination, ToChannel, Nowhere, JobWord, Run, Transfer, as_words}

@@ -19,12 +19,12 @@ use Rattle.word_shapes.specs.declared.search.Search.{Search}
 use Rattle.word_shapes.specs.declared.search.Search.TheVariants as search
 use Rattle.word_shapes.specs.declared.take.Take.{Take}
 use Rattle.word_shapes.specs.declared.take.Take.TheVariants as take
-use Rattle.spi_jobs.specs.declared.banks.Commit.{Commit}
-use Rattle.spi_jobs.specs.declared.banks.Commit.TheVariants as commits
-use Rattle.spi_jobs.specs.declared.keeping.Keep.{Keep}
-use Rattle.spi_jobs.specs.declared.keeping.Keep.TheVariants as keeps
-use Rattle.spi_jobs.specs.declared.preparing.Prepare.{Prepare}
-use Rattle.spi_jobs.specs.declared.preparing.Prepare.TheVariants as prepares
+use Rattle.word_shapes.specs.declared.jobs.banks.Commit.{Commit}
+use Rattle.word_shapes.specs.declared.jobs.banks.Commit.TheVariants as commits
+use Rattle.word_shapes.specs.declared.jobs.keeping.Keep.{Keep}
+use Rattle.word_shapes.specs.declared.jobs.keeping.Keep.TheVariants as keeps
+use Rattle.word_shapes.specs.declared.jobs.preparing.Prepare.{Prepare}
+use Rattle.word_shapes.specs.declared.jobs.preparing.Prepare.TheVariants as prepares
 use Rattle.spi_machine.specs.Bounds.{may}
 use Rattle.spi_machine.specs.State.{SpiState}
 use Rattle.spi_machine.specs.Wiring.{channel_number, list_of}

@@ -2,7 +2,7 @@
 use Rattle.std.specs.Prelude.{◌≡◌, ℕ, ◌+◌, ◌<◌, ◌≤◌, ◌==◌, nat_lt, Bool, true, false, ◌&&◌, ◌||◌, not, if◌then◌else◌, List, [], ◌∷◌, map, filter, take, drop, length, replicate, ◌++◌, flat_map, Contains, Option, Some, None, is_some, slice_get, slice_index_or}
 use Rattle.std.specs.List.{list_any}
 use Rattle.chip_model.specs.Chip.{Chip, word_of, source_length}
-use Rattle.chip_units.specs.Serials.{unit_at}
+use Rattle.chip_blocks.specs.units.Serials.{unit_at}
 use Rattle.mcal_base.specs.Bits.{has_bit}
 use Rattle.mcal_base.specs.declared.answer.Answer.{Answer}
 use Rattle.mcal_base.specs.declared.answer_name.AnswerName.{AnswerName}
@@ -21,10 +21,10 @@ use Rattle.word_shapes.specs.Order.{Entry}
 use Rattle.word_shapes.specs.Playing.{Memory}
 use Rattle.word_shapes.specs.PriorityQueue as ranked
 use Rattle.word_shapes.specs.TripleBuffer as trio
-use Rattle.spi_jobs.specs.Placing.{trio_of, held_word, set_up_word, packed}
-use Rattle.spi_jobs.specs.declared.channel.Channel.{Channel}
-use Rattle.spi_jobs.specs.declared.channel.Placed.{Placed}
-use Rattle.spi_jobs.specs.declared.channel.Side.TheVariants.{Sent, Received}
+use Rattle.word_shapes.specs.jobs.Placing.{trio_of, held_word, set_up_word, packed}
+use Rattle.word_shapes.specs.declared.jobs.channel.Channel.{Channel}
+use Rattle.word_shapes.specs.declared.jobs.channel.Placed.{Placed}
+use Rattle.word_shapes.specs.declared.jobs.channel.Side.TheVariants.{Sent, Received}
 use Rattle.spi_machine.specs.Bounds.{HoldsArrays, is_own_word, is_serial, is_word_of, spi_setting}
 use Rattle.spi_machine.specs.Channels.{ChannelState, SetUp, is_users, untouched, words_from}
 use Rattle.spi_sequences.specs.Going.{Part, Going, GoingAgrees, UnitAgrees, CarriesAgrees, is_to_begin, received_of, taken_of}

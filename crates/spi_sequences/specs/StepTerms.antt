@@ -14,13 +14,13 @@ pub use Rattle.run_model.specs.Machine.{named, no_answer, select_of}
 pub use Rattle.service_outline.specs.{declared.done.BodyTaken.{BodyTaken}, declared.done.Epilogue.{Epilogue}}
 pub use Rattle.service_outline.specs.{declared.done.Epilogue.TheVariants.{Nothing, One}, Done.{acts, ends, goes}}
 pub use Rattle.service_outline.specs.Done.{owed_error}
-pub use Rattle.spi_jobs.specs.{declared.banks.Commit.{Commit}, declared.channel.Placed.{Placed}}
-pub use Rattle.spi_jobs.specs.{declared.channel.Side.TheVariants.{Received, Sent}, declared.finding.Find.{Find}}
-pub use Rattle.spi_jobs.specs.{declared.keeping.Keep.{Keep}, declared.keeping.Taker.{Taker}}
-pub use Rattle.spi_jobs.specs.{declared.preparing.Prepare.{Prepare}, Parts.{asking, commit_ends, commit_left}}
-pub use Rattle.spi_jobs.specs.Parts.{commit_move, committing, find_gave, find_left, find_move, finding, finding_first}
-pub use Rattle.spi_jobs.specs.Parts.{gave, has_ended, keep_ends, keep_left, keep_move, keeping, prepare_ends}
-pub use Rattle.spi_jobs.specs.Parts.{prepare_left, prepare_move, preparing, releasing, taker_of}
+pub use Rattle.word_shapes.specs.declared.jobs.{banks.Commit.{Commit}, channel.Placed.{Placed}}
+pub use Rattle.word_shapes.specs.declared.jobs.{channel.Side.TheVariants.{Received, Sent}, finding.Find.{Find}}
+pub use Rattle.word_shapes.specs.declared.jobs.{keeping.Keep.{Keep}, keeping.Taker.{Taker}}
+pub use Rattle.word_shapes.specs.{declared.jobs.preparing.Prepare.{Prepare}, jobs.Parts.{asking, commit_ends, commit_left}}
+pub use Rattle.word_shapes.specs.jobs.Parts.{commit_move, committing, find_gave, find_left, find_move, finding, finding_first}
+pub use Rattle.word_shapes.specs.jobs.Parts.{gave, has_ended, keep_ends, keep_left, keep_move, keeping, prepare_ends}
+pub use Rattle.word_shapes.specs.jobs.Parts.{prepare_left, prepare_move, preparing, releasing, taker_of}
 pub use Rattle.spi_machine.specs.declared.call.AsyncMode.TheVariants.{Interrupt, Polling}
 pub use Rattle.spi_machine.specs.{declared.table.SpiTable.{SpiTable}, Machine.{reporting}, Table.{is_interruptible}}
 pub use Rattle.spi_machine.specs.Table.{is_sync_unit, job_of, notifies_job, notifies_sequence, priority_by, select_by}

@@ -3,7 +3,7 @@ pub use Rattle.chip_model.proofs.HistoryLaws.{level_leaves, rate-left, wiring-le
 pub use Rattle.chip_model.{proofs.PinLaws.{line-serial}, proofs.WordLaws.{slice_index-blank}, specs.Chip.{after_read}}
 pub use Rattle.chip_model.specs.Chip.{Chip, chip_after, happened, is_masked, overwritten, reset_chip, source_length}
 pub use Rattle.chip_model.{specs.Chip.{value_of, word_of}, specs.Histories.{Hardware, Made, sets_rate}}
-pub use Rattle.chip_units.specs.{declared.serial.Serial.{Serial}, Serials.{fresh, idle, is_done_at, unit_at}}
+pub use Rattle.chip_blocks.specs.{declared.units.serial.Serial.{Serial}, units.Serials.{fresh, idle, is_done_at, unit_at}}
 pub use Rattle.mcal_base.proofs.BitLaws.{has_bit-or, has_bit-pow_other, has_bit-without, has_bit-zero}
 pub use Rattle.mcal_base.{specs.Bits.{has_bit}, specs.declared.answer.Answer.{Answer}}
 pub use Rattle.mcal_base.specs.declared.answer_name.AnswerName.TheVariants.{SpiJobFailed, SpiJobOk, SpiJobPending}
@@ -48,9 +48,9 @@ pub use Rattle.service_outline.specs.Services.{Steady, TurnsMask, TurnsTo, with_
 pub use Rattle.service_outline.specs.Short.{ended_by}
 pub use Rattle.shapes_on_chip.{proofs.PartLaws.{differs-after, one_owed, settles_part}, proofs.Steps.{words-same}}
 pub use Rattle.shapes_on_chip.{specs.OnChip.{AreThere, HasWords}, specs.Parts.{CommitsAfter, DiffersIn, IsPart, PartTo}}
-pub use Rattle.spi_jobs.specs.{declared.channel.Channel.{Channel}, declared.channel.Side.{Side}, Parts.{free_bank}}
-pub use Rattle.spi_jobs.specs.{Parts.{pinning}, Placing.{bank_of, bank_word, control_word, first_word, flag, held_word}}
-pub use Rattle.spi_jobs.specs.Placing.{not_set_up, or_none, packed, set_up_word, source_word, trio_of, unpacked}
+pub use Rattle.word_shapes.specs.{declared.jobs.channel.Channel.{Channel}, declared.jobs.channel.Side.{Side}, jobs.Parts.{free_bank}}
+pub use Rattle.word_shapes.specs.jobs.{Parts.{pinning}, Placing.{bank_of, bank_word, control_word, first_word, flag, held_word}}
+pub use Rattle.word_shapes.specs.jobs.Placing.{not_set_up, or_none, packed, set_up_word, source_word, trio_of, unpacked}
 pub use Rattle.spi_machine.{proofs.Acts.{act-leaves}, proofs.Numbers.{channel-seen, item-other, item-same}}
 pub use Rattle.spi_machine.{proofs.Results.{repeats-drop, results-other, results-own}, specs.Bounds.{has_handler}}
 pub use Rattle.spi_machine.specs.Bounds.{HoldsArrays, internal_by, is_for_lines, is_own_word, is_used, is_users_place}

@@ -16,11 +16,11 @@ use crate::service::whole::{Whole, WholeBody};
 use crate::service::write::{WriteBody, Written};
 use crate::service::{self, SpiBody};
 use crate::words::STATE;
-use det_errors::{Facts, first_error};
+use mcal_base::det_errors::{Facts, first_error};
 use mcal_base::{Answer, AnswerName, ErrorName, Words};
 use service_outline::{Done, Epilogue, Looked, Or, Reply, error, named, nothing};
-use spi_jobs::{Channel, SetUp, Side, pin};
 use spi_machine::{Call, ChannelCall, Query, SequenceCall, SpiTable};
+use word_shapes::jobs::{Channel, SetUp, Side, pin};
 
 /// A call with the table that it is made of.
 #[derive(Clone, Copy)]

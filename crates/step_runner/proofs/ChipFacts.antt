@@ -2,7 +2,7 @@
 use Rattle.std.proofs.Common.{◌≡◌, ℕ, ◌≤◌, Bool, true, false, ◌&&◌, ◌||◌, ◌-◌, ◌^◌, refl, ◌∙◌, ap, subst, arith}
 use Rattle.std.specs.Prelude.{MatchBool, bit_or}
 use Rattle.mcal_base.specs.facts.Truths.{and_false}
-use Rattle.chip_units.specs.Serials.{unit_at}
+use Rattle.chip_blocks.specs.units.Serials.{unit_at}
 use Rattle.chip_model.specs.Chip.{Chip, names_device, has_device, next_word, after_read, after_write, chip_after, happened, CanHappen, flag_of, is_masked, is_pending}
 use Rattle.chip_model.specs.Histories.{Made, Hardware, FillsThere}
 use Rattle.chip_model.proofs.HistoryLaws.{mask-left, level_leaves}

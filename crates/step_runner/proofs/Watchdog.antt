@@ -2,10 +2,10 @@
 use Rattle.std.proofs.Common.{◌≡◌, ℕ, ◌+◌, ◌-◌, ◌<◌, ◌==◌, Bool, true, false, Option, Some, None, refl, sym, ◌∙◌, ap, subst, arith}
 use Rattle.std.specs.Prelude.{option_map, if◌then◌else◌}
 use Rattle.std.proofs.lemmas.Bool.Decides.{nat_tests}
-use Rattle.chip_units.specs.Clock.{Clock, after_write as clock_after}
-use Rattle.chip_units.specs.Watchdogs.{expiry, left_of, loaded, after_write as watch_after}
-use Rattle.chip_units.specs.declared.watchdog.Watch.{Watch}
-use Rattle.chip_units.specs.declared.watchdog.WatchdogBlock.{WatchdogBlock}
+use Rattle.chip_blocks.specs.units.Clock.{Clock, after_write as clock_after}
+use Rattle.chip_blocks.specs.units.Watchdogs.{expiry, left_of, loaded, after_write as watch_after}
+use Rattle.chip_blocks.specs.declared.units.watchdog.Watch.{Watch}
+use Rattle.chip_blocks.specs.declared.units.watchdog.WatchdogBlock.{WatchdogBlock}
 use Rattle.chip_model.specs.Chip.{Chip, after_read, after_write, chip_after, expiry_of, happened}
 use Rattle.chip_model.proofs.HistoryLaws.{level_leaves}
 use Rattle.mcal_base.specs.declared.directive.Order.{Order}

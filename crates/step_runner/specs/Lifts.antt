@@ -5,7 +5,7 @@ use Rattle.std.specs.List.{list_all}
 use Rattle.std.proofs.lemmas.Bool.Decides.{nat_tests}
 use Rattle.mcal_base.specs.facts.Truths.{and_first, and_second}
 use Rattle.chip_model.specs.Chip.{Chip}
-use Rattle.det_errors.specs.Reports.{reported}
+use Rattle.mcal_base.specs.det_errors.Reports.{reported}
 use Rattle.mcal_base.specs.declared.answer.Answer.{Answer}
 use Rattle.mcal_base.specs.declared.error_name.ErrorName.{ErrorName}
 use Rattle.mcal_base.specs.declared.moves.DevError.{DevError}

@@ -4,9 +4,9 @@ use Rattle.mcal_base.specs.declared.directive.Directive.{Directive}
 use Rattle.trace_reader.specs.Reading.{read_trace}
 use Rattle.trace_forms.specs.Rows.{rows}
 use Rattle.trace_lanes.specs.Page.{page}
-use Rattle.sign_kinds.specs.Sums.{sum_up}
-use Rattle.trace_signs.specs.Drawing.{Drawing, drawing_of}
-use Rattle.trace_signs.specs.Moments.{moments_of}
+use Rattle.trace_forms.specs.kinds.Sums.{sum_up}
+use Rattle.trace_drawing.specs.signs.Drawing.{Drawing, drawing_of}
+use Rattle.trace_drawing.specs.signs.Moments.{moments_of}
 use Rattle.trace_waves.specs.File.{waves}
 use Rattle.trace_waves.specs.declared.settings.Clock.TheVariants as clocks
 use Rattle.trace_drawing.specs.declared.program.Form.{Form}

@@ -3,6 +3,7 @@
 
 mod input;
 mod program;
+pub mod signs;
 mod transfer;
 
 pub use program::{Form, view};

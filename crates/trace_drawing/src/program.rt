@@ -9,13 +9,13 @@ ghost use Rattle.trace_drawing.specs.Outcomes.{Concludes, EndsOnSome, FrontOf, I
 ghost use Rattle.trace_drawing.specs.Program as spec;
 
 use crate::input::{Given, InputEnd, parts_of};
+use crate::signs::{Drawing, drawing_of, moments_of};
 use crate::transfer::{ReadEnd, read_all, write_all};
 use mcal_base::{Directive, Sink, Source};
 use std::alloc::{AllocError, Global};
 use trace_forms::rows_of;
 use trace_lanes::{InputName, page_of};
 use trace_reader::{TraceFault, read_trace};
-use trace_signs::{Drawing, drawing_of, moments_of};
 use trace_waves::{Clock, waves_of};
 
 /// What is printed where the words are of no form.

@@ -4,11 +4,11 @@ use Rattle.trace_reader.specs.declared.told.Mark.{Mark}
 use Rattle.trace_reader.specs.declared.told.Mark.TheVariants as marks
 use Rattle.trace_forms.specs.Sentences.{sentence}
 use Rattle.trace_forms.specs.declared.rows.TheConstants.{HEAD, FOOT}
-use Rattle.sign_kinds.specs.declared.signs.Ending.{Ending}
-use Rattle.sign_kinds.specs.declared.signs.Ending.TheVariants as endings
-use Rattle.sign_kinds.specs.declared.signs.Sign.{Sign}
-use Rattle.sign_kinds.specs.declared.signs.What.{What}
-use Rattle.sign_kinds.specs.declared.signs.What.TheVariants as whats
+use Rattle.trace_forms.specs.declared.kinds.signs.Ending.{Ending}
+use Rattle.trace_forms.specs.declared.kinds.signs.Ending.TheVariants as endings
+use Rattle.trace_forms.specs.declared.kinds.signs.Sign.{Sign}
+use Rattle.trace_forms.specs.declared.kinds.signs.What.{What}
+use Rattle.trace_forms.specs.declared.kinds.signs.What.TheVariants as whats
 
 -- the spaces before a number, so that those below 100,000 end in one column
 abbrev pub indent : ℕ → List ℕ

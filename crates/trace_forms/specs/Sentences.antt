@@ -16,12 +16,12 @@ use Rattle.bench_report.specs.declared.frames.Purpose.TheVariants as purposes
 use Rattle.trace_reader.specs.declared.told.Mark.{Mark}
 use Rattle.trace_reader.specs.declared.told.Mark.TheVariants as marks
 use Rattle.trace_reader.specs.declared.told.Reply.{Reply}
-use Rattle.sign_kinds.specs.declared.signs.Asked.{Asked}
-use Rattle.sign_kinds.specs.declared.signs.Asked.TheVariants as asks
-use Rattle.sign_kinds.specs.declared.signs.Ending.{Ending}
-use Rattle.sign_kinds.specs.declared.signs.Ending.TheVariants as endings
-use Rattle.sign_kinds.specs.declared.signs.What.{What}
-use Rattle.sign_kinds.specs.declared.signs.What.TheVariants as whats
+use Rattle.trace_forms.specs.declared.kinds.signs.Asked.{Asked}
+use Rattle.trace_forms.specs.declared.kinds.signs.Asked.TheVariants as asks
+use Rattle.trace_forms.specs.declared.kinds.signs.Ending.{Ending}
+use Rattle.trace_forms.specs.declared.kinds.signs.Ending.TheVariants as endings
+use Rattle.trace_forms.specs.declared.kinds.signs.What.{What}
+use Rattle.trace_forms.specs.declared.kinds.signs.What.TheVariants as whats
 use Rattle.trace_forms.specs.declared.sentences.Parts.{Parts}
 use Rattle.trace_forms.specs.declared.sentences.Parts.TheVariants as parts
 

@@ -2,6 +2,7 @@
 #![tactic(auto)]
 
 mod escapes;
+pub mod kinds;
 mod rows;
 mod sentences;
 

@@ -1,8 +1,8 @@
 ghost use Rattle.std.specs.Prelude.{◌≡◌, ◌-◌, ◌++◌, Some, IfOk, OnOk, min, replicate, string_bytes};
 ghost use Rattle.trace_forms.specs.Rows as spec;
 
+use crate::kinds::{Ending, Sign, What};
 use crate::sentences::Sentence;
-use sign_kinds::{Ending, Sign, What};
 use std::alloc::{AllocError, Global};
 use std::fmt;
 use trace_reader::Mark;

@@ -2,9 +2,9 @@ ghost use Rattle.std.specs.Prelude.{◌≡◌, Some};
 ghost use Rattle.bench_report.specs.Lines as lines;
 ghost use Rattle.trace_forms.specs.Sentences as spec;
 
+use crate::kinds::{Asked, Ending, What};
 use bench_report::{Line, Purpose};
 use mcal_base::{Event, Head, Reason, Shown, Stop, Unit};
-use sign_kinds::{Asked, Ending, What};
 use std::fmt;
 use trace_reader::{Mark, Reply};
 

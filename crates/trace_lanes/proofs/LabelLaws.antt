@@ -5,7 +5,7 @@ use Rattle.std.proofs.lemmas.Bool.{false≢true}
 use Rattle.std.proofs.lemmas.Bool.Decides.{nat_tests}
 use Rattle.std.proofs.lemmas.List.{get_or-set_same, get_or-set_other, length-set}
 use Rattle.bench_report.specs.Numbers.{Each}
-use Rattle.sign_kinds.specs.declared.signs.Sign.{Sign}
+use Rattle.trace_forms.specs.declared.kinds.signs.Sign.{Sign}
 use Rattle.trace_lanes.specs.Board.{Board, Stroke, Draws, Says, SaysEither, SaysLine, empty, fits, either, placed_to, placed, using, entered, said, script_row, put, put_all}
 use Rattle.trace_lanes.specs.Captions.{caption_text, width}
 use Rattle.trace_lanes.specs.PageState.{first}

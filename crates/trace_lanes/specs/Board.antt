@@ -1,7 +1,7 @@
 -- How shapes and labels are put on a page: a label stands where its row is free, and is left out where it isn't.
 use Rattle.std.specs.Prelude.{ℕ, ◌+◌, ◌*◌, ◌&&◌, max, nat_le, Bool, true, false, Option, Some, None, List, [], ◌∷◌, ◌++◌, length, slice_index_or, slice_set, replicate, take, drop, is_some, unwrap_or, if◌then◌else◌}
 use Rattle.std.specs.List.{position}
-use Rattle.sign_kinds.specs.Sums.{sum_up}
+use Rattle.trace_forms.specs.kinds.Sums.{sum_up}
 use Rattle.trace_lanes.specs.Captions.{caption_text}
 use Rattle.trace_lanes.specs.Rows.{slot, has_name}
 use Rattle.trace_lanes.specs.declared.board.Label.{Label}

@@ -1,14 +1,14 @@
 -- What each sign of a run puts on the page.
 use Rattle.std.specs.Prelude.{ℕ, ◌-◌, ◌/◌, ◌==◌, ◌&&◌, max, nat_le, nat_lt, not, Bool, true, false, Option, Some, None, List, [], ◌∷◌, ◌++◌, flat_map, if◌then◌else◌}
-use Rattle.sign_kinds.specs.Sums.{sum_up}
-use Rattle.sign_kinds.specs.declared.signs.Asked.{Asked}
+use Rattle.trace_forms.specs.kinds.Sums.{sum_up}
+use Rattle.trace_forms.specs.declared.kinds.signs.Asked.{Asked}
 use Rattle.bench_report.specs.declared.frames.Purpose.{Purpose}
-use Rattle.sign_kinds.specs.declared.signs.Ending.{Ending}
-use Rattle.sign_kinds.specs.declared.signs.Ending.TheVariants as endings
-use Rattle.sign_kinds.specs.declared.signs.Frame.{Frame}
-use Rattle.sign_kinds.specs.declared.signs.Sign.{Sign}
-use Rattle.sign_kinds.specs.declared.signs.What.{What}
-use Rattle.sign_kinds.specs.declared.signs.What.TheVariants as whats
+use Rattle.trace_forms.specs.declared.kinds.signs.Ending.{Ending}
+use Rattle.trace_forms.specs.declared.kinds.signs.Ending.TheVariants as endings
+use Rattle.trace_forms.specs.declared.kinds.signs.Frame.{Frame}
+use Rattle.trace_forms.specs.declared.kinds.signs.Sign.{Sign}
+use Rattle.trace_forms.specs.declared.kinds.signs.What.{What}
+use Rattle.trace_forms.specs.declared.kinds.signs.What.TheVariants as whats
 use Rattle.trace_lanes.specs.Board.{Stroke, Draws, Says, SaysEither, SaysLine}
 use Rattle.trace_lanes.specs.PageState as page_states
 use Rattle.trace_lanes.specs.declared.board.Mark.TheVariants as marks

@@ -6,11 +6,11 @@ use Rattle.trace_reader.specs.declared.told.Mark as told
 use Rattle.trace_reader.specs.declared.told.Mark.TheVariants as events
 use Rattle.trace_forms.specs.Escapes.{escaped}
 use Rattle.trace_forms.specs.Sentences.{sentence}
-use Rattle.sign_kinds.specs.declared.signs.Ending.{Ending}
-use Rattle.sign_kinds.specs.declared.signs.Ending.TheVariants as endings
-use Rattle.sign_kinds.specs.declared.signs.Sign.{Sign}
-use Rattle.sign_kinds.specs.declared.signs.What.{What}
-use Rattle.sign_kinds.specs.declared.signs.What.TheVariants as whats
+use Rattle.trace_forms.specs.declared.kinds.signs.Ending.{Ending}
+use Rattle.trace_forms.specs.declared.kinds.signs.Ending.TheVariants as endings
+use Rattle.trace_forms.specs.declared.kinds.signs.Sign.{Sign}
+use Rattle.trace_forms.specs.declared.kinds.signs.What.{What}
+use Rattle.trace_forms.specs.declared.kinds.signs.What.TheVariants as whats
 use Rattle.trace_lanes.specs.declared.board.Mark.{Mark}
 use Rattle.trace_lanes.specs.declared.board.Mark.TheVariants as marks
 

@@ -1,7 +1,7 @@
 -- The page of the signs of a run.
 use Rattle.std.specs.Prelude.{ℕ, zero, suc, ◌+◌, ◌-◌, ◌==◌, max, Bool, false, List, [], ◌∷◌, ◌++◌, slice_index_or, Option, Some, None, codes, decimal, count_by, flat_map, if◌then◌else◌}
-use Rattle.sign_kinds.specs.Sums.{sum_up}
-use Rattle.sign_kinds.specs.declared.signs.Sign.{Sign}
+use Rattle.trace_forms.specs.kinds.Sums.{sum_up}
+use Rattle.trace_forms.specs.declared.kinds.signs.Sign.{Sign}
 use Rattle.trace_lanes.specs.Board.{Board, Stroke, Says, empty, put_all}
 use Rattle.trace_lanes.specs.Captions.{caption_text}
 use Rattle.trace_lanes.specs.PageState.{first}

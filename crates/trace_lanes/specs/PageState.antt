@@ -7,14 +7,14 @@ use Rattle.mcal_base.specs.declared.register.Reg.TheVariants as regs
 use Rattle.bench_report.specs.declared.frames.Purpose.{Purpose}
 use Rattle.bench_report.specs.declared.frames.Purpose.TheVariants as purposes
 use Rattle.trace_reader.specs.declared.told.Step.{Step}
-use Rattle.sign_kinds.specs.Holds.{may_begin}
-use Rattle.sign_kinds.specs.Sums.{sum_up}
-use Rattle.sign_kinds.specs.declared.signs.Asked.{Asked}
-use Rattle.sign_kinds.specs.declared.signs.Asked.TheVariants as asks
-use Rattle.sign_kinds.specs.declared.signs.Frame.{Frame}
-use Rattle.sign_kinds.specs.declared.signs.Sign.{Sign}
-use Rattle.sign_kinds.specs.declared.signs.What.{What}
-use Rattle.sign_kinds.specs.declared.signs.What.TheVariants as whats
+use Rattle.trace_forms.specs.kinds.Holds.{may_begin}
+use Rattle.trace_forms.specs.kinds.Sums.{sum_up}
+use Rattle.trace_forms.specs.declared.kinds.signs.Asked.{Asked}
+use Rattle.trace_forms.specs.declared.kinds.signs.Asked.TheVariants as asks
+use Rattle.trace_forms.specs.declared.kinds.signs.Frame.{Frame}
+use Rattle.trace_forms.specs.declared.kinds.signs.Sign.{Sign}
+use Rattle.trace_forms.specs.declared.kinds.signs.What.{What}
+use Rattle.trace_forms.specs.declared.kinds.signs.What.TheVariants as whats
 use Rattle.trace_lanes.specs.Rows.{slot}
 use Rattle.trace_lanes.specs.declared.page_state.PageState.{PageState}
 use Rattle.trace_lanes.specs.declared.page_state.Level.{Level}

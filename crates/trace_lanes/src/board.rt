@@ -6,9 +6,9 @@ ghost use Rattle.trace_lanes.specs.Captions.{caption_text};
 use crate::caption::Caption;
 use crate::rows::{ROWS, Row};
 use bench_report::Purpose;
-use sign_kinds::{Ending, Sign, What};
 use std::alloc::{AllocError, Global};
 use std::marker::Model;
+use trace_forms::kinds::{Ending, Sign, What};
 
 /// The last place from left to right.
 pub(crate) const MOST_PLACE: usize = 10_000_000;

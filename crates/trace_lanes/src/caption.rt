@@ -4,8 +4,8 @@ ghost use Rattle.trace_lanes.specs.Captions as spec;
 use crate::input_name::InputName;
 use crate::rows::Row;
 use bench_report::Purpose;
-use sign_kinds::{Asked, What};
 use std::fmt;
+use trace_forms::kinds::{Asked, What};
 use trace_forms::{Answered, Named, Request, Sentence};
 use trace_reader::Reply;
 

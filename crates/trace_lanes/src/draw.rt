@@ -8,8 +8,8 @@ use crate::caption::Caption;
 use crate::page_state::{Level, PageState, Wait, row_of, setting_of};
 use crate::rows::Row;
 use bench_report::Purpose;
-use sign_kinds::{Asked, Ending, Frame, Sign, What};
 use std::alloc::{AllocError, Global};
+use trace_forms::kinds::{Asked, Ending, Frame, Sign, What};
 
 /// The last step for which a page has room.
 pub(crate) const MOST_STEPS: usize = 20_000;

@@ -1,5 +1,5 @@
 ghost use Rattle.std.specs.Prelude.{ℕ, List, Option};
-ghost use Rattle.sign_kinds.specs.declared.signs.Sign.{Sign};
+ghost use Rattle.trace_forms.specs.declared.kinds.signs.Sign.{Sign};
 ghost use Rattle.trace_lanes.specs.PageState.{first};
 ghost use Rattle.trace_lanes.specs.Drawn.{behind_all};
 ghost use Rattle.trace_lanes.specs.Laws.{HasClearLabels};

@@ -3,8 +3,8 @@ ghost use Rattle.trace_lanes.specs.Marks as spec;
 
 use crate::board::Mark;
 use bench_report::Purpose;
-use sign_kinds::{Ending, Sign, What};
 use std::fmt;
+use trace_forms::kinds::{Ending, Sign, What};
 use trace_forms::{Escaped, Sentence};
 
 /// The symbol of a step.

@@ -15,8 +15,8 @@ use crate::marks::{
 };
 use crate::page_state::PageState;
 use crate::rows::{Row, top};
-use sign_kinds::Sign;
 use std::alloc::{AllocError, Global};
+use trace_forms::kinds::Sign;
 
 /// What is set for the whole page, and its symbols.
 const STYLE: &str = "\

@@ -6,7 +6,7 @@ use crate::rows::{ROWS, Row};
 use bench_report::Purpose;
 use irq_control::Held;
 use mcal_base::{Move, Reg};
-use sign_kinds::{Asked, Frame, Sign, What, may_begin};
+use trace_forms::kinds::{Asked, Frame, Sign, What, may_begin};
 use trace_reader::Step;
 
 /// A frame that was asked for waits: since which place, how many steps were made, and how many ticks passed.

@@ -9,19 +9,19 @@ use Rattle.mcal_base.specs.declared.error_name.ErrorName.{ErrorName}
 use Rattle.run_model.specs.Frame.{state_by}
 use Rattle.run_model.specs.Machine.{Happening, Acts, Serves, Starts, Aborts, Moves, Restarts}
 use Rattle.run_model.specs.World.{World}
-use Rattle.icu_machine.specs.Bounds.{icu_setting}
-use Rattle.icu_machine.specs.Checks.{error_by}
-use Rattle.icu_machine.specs.Edges.{Edge, is_same}
-use Rattle.icu_machine.specs.Machine.{IcuState, Capture, Stamp, untouched, capture_at, by_channel, with_capture, edge_queued, edge_taken, edge_at_pin, is_taken, moved, switched, cleared, cleared_all, channel_work, asked, work, acts_by, is_on, stamped, index, is_full, measured, completes, served_by, served_edge, served, ready, happens, stamp_in}
-use Rattle.icu_machine.specs.Table.{channel_of, channel_number, is_counter}
-use Rattle.icu_machine.specs.declared.call.Call.{Call}
-use Rattle.icu_machine.specs.declared.call.Call.TheVariants as calls
-use Rattle.icu_machine.specs.declared.call.ChannelCall.{ChannelCall}
-use Rattle.icu_machine.specs.declared.call.ChannelCall.TheVariants.{SetActivationCondition, EnableNotification, DisableNotification, GetInputState, EnableEdgeDetection, DisableEdgeDetection, ResetEdgeCount, EnableEdgeCount, DisableEdgeCount, GetEdgeNumbers, StartTimestamp, StopTimestamp, GetTimestampIndex, StartSignalMeasurement, StopSignalMeasurement, GetTimeElapsed, GetDutyCycleValues}
-use Rattle.icu_machine.specs.declared.table.Channel.{Channel}
-use Rattle.icu_machine.specs.declared.table.IcuTable.{IcuTable}
+use Rattle.module_machines.specs.icu.Bounds.{icu_setting}
+use Rattle.module_machines.specs.icu.Checks.{error_by}
+use Rattle.module_machines.specs.icu.Edges.{Edge, is_same}
+use Rattle.module_machines.specs.icu.Machine.{IcuState, Capture, Stamp, untouched, capture_at, by_channel, with_capture, edge_queued, edge_taken, edge_at_pin, is_taken, moved, switched, cleared, cleared_all, channel_work, asked, work, acts_by, is_on, stamped, index, is_full, measured, completes, served_by, served_edge, served, ready, happens, stamp_in}
+use Rattle.module_machines.specs.icu.Table.{channel_of, channel_number, is_counter}
+use Rattle.module_machines.specs.declared.icu.call.Call.{Call}
+use Rattle.module_machines.specs.declared.icu.call.Call.TheVariants as calls
+use Rattle.module_machines.specs.declared.icu.call.ChannelCall.{ChannelCall}
+use Rattle.module_machines.specs.declared.icu.call.ChannelCall.TheVariants.{SetActivationCondition, EnableNotification, DisableNotification, GetInputState, EnableEdgeDetection, DisableEdgeDetection, ResetEdgeCount, EnableEdgeCount, DisableEdgeCount, GetEdgeNumbers, StartTimestamp, StopTimestamp, GetTimestampIndex, StartSignalMeasurement, StopSignalMeasurement, GetTimeElapsed, GetDutyCycleValues}
+use Rattle.module_machines.specs.declared.icu.table.Channel.{Channel}
+use Rattle.module_machines.specs.declared.icu.table.IcuTable.{IcuTable}
 use Rattle.bench_report.specs.Numbers.{IsNumber, Each}
-use Rattle.trace_laws.proofs.Within.{each_append}
+use Rattle.trace_promises.proofs.Within.{each_append}
 use Rattle.trace_promises.specs.Keeping.{WorldFits, HappeningFits, Keeps}
 use Rattle.trace_promises.specs.Numbers.{EdgeFits, StampFits, CaptureFits, CapturesFit}
 use Rattle.trace_promises.proofs.Lists.{chosen, at_place}

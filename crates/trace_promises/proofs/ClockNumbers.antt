@@ -7,15 +7,15 @@ use Rattle.mcal_base.specs.declared.error_name.ErrorName.{ErrorName}
 use Rattle.run_model.specs.Frame.{state_by}
 use Rattle.run_model.specs.Machine.{Happening, Acts, Serves, Starts, Aborts, Moves, Restarts}
 use Rattle.run_model.specs.World.{World}
-use Rattle.mcu_machine.specs.Bounds.{mcu_setting}
-use Rattle.mcu_machine.specs.Checks.{error_by}
-use Rattle.mcu_machine.specs.Machine.{McuState, Pll, is_locked, clocked, distributed, fills_with, word_in, ram_at, work, acts_by, happens}
-use Rattle.mcu_machine.specs.Table.{table_of, multiplier_of, section_in, section_of, is_within}
-use Rattle.mcu_machine.specs.declared.call.Call.{Call}
-use Rattle.mcu_machine.specs.declared.call.Call.TheVariants.{Init, InitRamSection, Clock, GetPllStatus, GetResetReason, PerformReset, SetMode}
-use Rattle.mcu_machine.specs.declared.call.ClockCall.TheVariants.{InitClock, DistributePllClock}
-use Rattle.mcu_machine.specs.declared.table.McuTable.{McuTable}
-use Rattle.mcu_machine.specs.declared.table.Section.{Section}
+use Rattle.module_machines.specs.mcu.Bounds.{mcu_setting}
+use Rattle.module_machines.specs.mcu.Checks.{error_by}
+use Rattle.module_machines.specs.mcu.Machine.{McuState, Pll, is_locked, clocked, distributed, fills_with, word_in, ram_at, work, acts_by, happens}
+use Rattle.module_machines.specs.mcu.Table.{table_of, multiplier_of, section_in, section_of, is_within}
+use Rattle.module_machines.specs.declared.mcu.call.Call.{Call}
+use Rattle.module_machines.specs.declared.mcu.call.Call.TheVariants.{Init, InitRamSection, Clock, GetPllStatus, GetResetReason, PerformReset, SetMode}
+use Rattle.module_machines.specs.declared.mcu.call.ClockCall.TheVariants.{InitClock, DistributePllClock}
+use Rattle.module_machines.specs.declared.mcu.table.McuTable.{McuTable}
+use Rattle.module_machines.specs.declared.mcu.table.Section.{Section}
 use Rattle.bench_report.specs.Numbers.{IsNumber, Each}
 use Rattle.trace_promises.specs.Keeping.{WorldFits, HappeningFits, Keeps}
 use Rattle.trace_promises.specs.Numbers.{SectionFits, FillFits, ClockFits}

@@ -4,12 +4,12 @@ use Rattle.std.proofs.Common.{◌≡◌, ℕ, ◌≤◌, Bool, true, false, List
 use Rattle.std.specs.Prelude.{ℤ, pos, negsuc, nat_le, nat_lt, ◌&&◌, ◌||◌, if◌then◌else◌}
 use Rattle.std.proofs.lemmas.Bool.Decides.{nat_tests}
 use Rattle.toml.specs.Data.{Data, Items, no_items, item, Members, no_members, as_table, as_array, as_integer}
-use Rattle.config_rows.proofs.Recorded.{front_passes, rest_passes}
+use Rattle.config_tables.proofs.HasValue.{front_passes, rest_passes}
 use Rattle.config_keys.specs.Checks.{Checks, passes, fails, ◌⨾◌, first}
 use Rattle.config_keys.specs.Kinds.{◌>>=◌, ReadValue, absent, another_kind, out_of_range, good, found, found_or, whole, whole_number, name, truth, count_of, length_checks}
-use Rattle.config_rows.specs.Modules as parts
+use Rattle.config_tables.specs.rows.Modules as parts
 use Rattle.config_keys.specs.Names.{buffer_named}
-use Rattle.config_rows.specs.Rows.{Shape, values_of, element_value, array_kind, found_checks, found_value, array_checks, array_value, elements_from}
+use Rattle.config_tables.specs.rows.Rows.{Shape, values_of, element_value, array_kind, found_checks, found_value, array_checks, array_value, elements_from}
 use Rattle.config_keys.specs.Keys.{entry, read, read_list_or, allowed}
 use Rattle.config_keys.specs.declared.key_name.KeyName.TheVariants as keys
 use Rattle.config_keys.specs.declared.fault.ConfigFault.{ConfigFault}

@@ -22,7 +22,7 @@ use Rattle.adc_machine.specs.declared.call.ResultBuffer.{ResultBuffer}
 use Rattle.adc_machine.specs.declared.table.AdcTable.{AdcTable}
 use Rattle.adc_machine.specs.declared.table.Group as configured
 use Rattle.bench_report.specs.Numbers.{IsNumber, Each}
-use Rattle.trace_laws.proofs.Within.{each_append}
+use Rattle.trace_promises.proofs.Within.{each_append}
 use Rattle.trace_promises.specs.Keeping.{SampleFits, WorldFits, HappeningFits, Keeps}
 use Rattle.trace_promises.specs.Numbers.{RequestFits, GroupFits, RoundFits, StoredFits, ConverterFits}
 use Rattle.trace_promises.proofs.Lists.{chosen, at_place}

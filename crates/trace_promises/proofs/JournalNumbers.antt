@@ -9,7 +9,7 @@ use Rattle.run_model.specs.declared.item.Span.{Span}
 use Rattle.run_model.specs.declared.item.What.{What}
 use Rattle.run_model.specs.declared.item.What.TheVariants as whats
 use Rattle.bench_report.specs.Numbers.{IsNumber, Each, SaidFits, EntryFits}
-use Rattle.trace_laws.proofs.Within.{each_take, each_drop}
+use Rattle.trace_promises.proofs.Within.{each_take, each_drop}
 use Rattle.trace_promises.specs.Keeping.{OrderBrings}
 use Rattle.trace_promises.specs.Numbers.{SaidBrings, BringsNumbers, HardwareBrings, WhatBrings, ItemBrings}
 

@@ -18,7 +18,7 @@ use Rattle.run_model.specs.declared.item.Stepped.{Stepped}
 use Rattle.step_runner.specs.Union.{first_call, second_call, union_setting, lift_out, in_both, in_first}
 use Rattle.step_runner.specs.declared.either.Either.{Either}
 use Rattle.step_runner.specs.declared.either.Either.TheVariants.{Left, Right}
-use Rattle.guest_runner.specs.Guest.{Guest, guest_happens, guest_setting}
+use Rattle.service_outline.specs.guests.Guest.{Guest, guest_happens, guest_setting}
 use Rattle.bench_report.specs.Numbers.{IsNumber, Each}
 use Rattle.bench_report.specs.Rows.{Row}
 use Rattle.bench_report.specs.Showing.{Showing, item_rows, shows_from}

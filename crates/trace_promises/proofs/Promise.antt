@@ -18,11 +18,11 @@ use Rattle.bench_top.specs.Tail.{is_traced}
 use Rattle.bench_top.specs.declared.words.Task.TheVariants.{Run}
 use Rattle.bench_top.specs.declared.words.Printing.{Printing}
 use Rattle.bench_top.specs.declared.words.Printing.TheVariants.{Traced}
-use Rattle.trace_signs.specs.Drawing.{Drawing}
+use Rattle.trace_drawing.specs.signs.Drawing.{Drawing}
 use Rattle.trace_drawing.specs.Judged.{judged}
 use Rattle.trace_drawing.specs.Program.{◌>>=◌, drawing_under, text_under, printed}
 use Rattle.trace_drawing.specs.declared.program.Form.{Form}
-use Rattle.trace_laws.proofs.Promise.{is_drawn}
+use Rattle.trace_promises.proofs.LegalRuns.{is_drawn}
 use Rattle.bench_report.specs.Numbers.{EntryFits, Each}
 use Rattle.trace_promises.specs.Numbers.{BringsNumbers}
 use Rattle.trace_promises.specs.Viewed.{EndsLine, input, IsViewed}

@@ -12,7 +12,7 @@ use Rattle.bench_script.proofs.Whole.{script_is}
 use Rattle.bench_script.specs.Productions.{HoldsOrder, HoldDirectives}
 use Rattle.bench_script.specs.Script.{script}
 use Rattle.bench_top.proofs.Scripts.{lines_few}
-use Rattle.trace_laws.specs.Numbers.{OrderFits, DirectiveFits}
+use Rattle.trace_promises.specs.traces.Numbers.{OrderFits, DirectiveFits}
 use Rattle.bench_report.specs.Numbers.{Each}
 
 order_fits : (line : List ℕ) (order : Order) → HoldsOrder line order → OrderFits order

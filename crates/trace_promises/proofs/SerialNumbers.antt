@@ -11,7 +11,7 @@ use Rattle.mcal_base.specs.declared.error_name.ErrorName.{ErrorName}
 use Rattle.run_model.specs.Frame.{state_by}
 use Rattle.run_model.specs.Machine.{Happening, Acts, Serves, Starts, Aborts, Moves, Restarts}
 use Rattle.run_model.specs.World.{World}
-use Rattle.spi_jobs.specs.declared.channel.Channel.{Channel}
+use Rattle.word_shapes.specs.declared.jobs.channel.Channel.{Channel}
 use Rattle.spi_machine.specs.Bounds.{spi_setting}
 use Rattle.spi_machine.specs.Channels.{ChannelState, SetUp, untouched, words_from, set_up_or, initialised, written_from, filled}
 use Rattle.spi_machine.specs.Checks.{error_by}
@@ -32,7 +32,7 @@ use Rattle.spi_machine.specs.declared.call.SequenceCall.{SequenceCall}
 use Rattle.spi_machine.specs.declared.call.SequenceCall.TheVariants.{AsyncTransmit, Cancel, SyncTransmit}
 use Rattle.spi_machine.specs.declared.table.SpiTable.{SpiTable}
 use Rattle.bench_report.specs.Numbers.{IsNumber, Each}
-use Rattle.trace_laws.proofs.Within.{each_append, each_take, each_drop}
+use Rattle.trace_promises.proofs.Within.{each_append, each_take, each_drop}
 use Rattle.trace_promises.specs.Keeping.{OrderBrings, WorldFits, HappeningFits, Keeps}
 use Rattle.trace_promises.specs.Numbers.{DefaultFits, ChannelFits, SentFits, RunFits, CarryingFits, PairFits, WireFits, SerialFits}
 use Rattle.trace_promises.proofs.Lists.{chosen, at_place}

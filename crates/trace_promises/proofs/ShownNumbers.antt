@@ -11,24 +11,24 @@ use Rattle.run_model.specs.Entry.{Entry}
 use Rattle.run_model.specs.Moment.{Setting, start_moment}
 use Rattle.run_model.specs.World.{World}
 use Rattle.script_runner.specs.Scripts.{chip_for}
-use Rattle.mcu_machine.specs.Table as clock_table
-use Rattle.pwm_machine.specs.Table as pulse_table
-use Rattle.icu_machine.specs.Table as capture_table
+use Rattle.module_machines.specs.mcu.Table as clock_table
+use Rattle.module_machines.specs.pwm.Table as pulse_table
+use Rattle.module_machines.specs.icu.Table as capture_table
 use Rattle.adc_machine.specs.Machine.{chosen_buffer}
 use Rattle.adc_machine.specs.Table as converter_table
 use Rattle.adc_machine.specs.Words.{buffer_number, place_count}
 use Rattle.adc_machine.specs.declared.call.ResultBuffer.{ResultBuffer}
 use Rattle.adc_machine.specs.declared.call.ResultBuffer.TheVariants.{Zero, One}
-use Rattle.spi_jobs.specs.declared.channel.Channel.{Channel}
+use Rattle.word_shapes.specs.declared.jobs.channel.Channel.{Channel}
 use Rattle.spi_machine.specs.Numbered.{word_at}
 use Rattle.spi_machine.specs.State.{channel_at, internal_word, wire_at}
 use Rattle.spi_machine.specs.Table as serial_table
 use Rattle.chip_model.specs.Wiring.{wiring_of}
-use Rattle.dio_machine.specs.Machine.{does_by}
-use Rattle.dio_machine.specs.Table as port_table
-use Rattle.dio_machine.specs.declared.table.PortPins.{PortPins}
-use Rattle.dio_machine.specs.declared.call.Call as port_calls
-use Rattle.dio_machine.specs.declared.call.Call.TheVariants as port_call
+use Rattle.module_machines.specs.dio.Machine.{does_by}
+use Rattle.module_machines.specs.dio.Table as port_table
+use Rattle.module_machines.specs.declared.dio.table.PortPins.{PortPins}
+use Rattle.module_machines.specs.declared.dio.call.Call as port_calls
+use Rattle.module_machines.specs.declared.dio.call.Call.TheVariants as port_call
 use Rattle.bench_report.specs.Numbers.{IsNumber, Each}
 use Rattle.bench_report.specs.Rows.{Row}
 use Rattle.bench_report.specs.declared.rows.RowName.{RowName}
@@ -39,8 +39,8 @@ use Rattle.mcal_drivers.specs.Shows.{level_at, ram_at, size_at, stamp_at, buffer
 use Rattle.bench_top.specs.Runs.{shows_of}
 use Rattle.bench_top.specs.Shows.{level_value, has_pin, level_row, pin_row, section_rows, stamps_row, stamps_rows, results_row, result_rows, channel_rows, serial_rows, wire_row, show_rows}
 use Rattle.trace_reader.specs.Trace.{HasNameNumbers, HasValueNumbers}
-use Rattle.trace_laws.specs.Numbers.{RowFits, RowsFit}
-use Rattle.trace_laws.proofs.Within.{each_append}
+use Rattle.trace_promises.specs.traces.Numbers.{RowFits, RowsFit}
+use Rattle.trace_promises.proofs.Within.{each_append}
 use Rattle.trace_promises.specs.Keeping.{Keeps}
 use Rattle.trace_promises.specs.Numbers.{BringsNumbers, ConfigFits, ClockFits, CapturesFit, ConverterFits, SerialFits, StateFits, WireFits}
 use Rattle.trace_promises.proofs.CaptureNumbers.{captures_keep, stamp_fits}

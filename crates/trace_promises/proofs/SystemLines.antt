@@ -9,11 +9,11 @@ use Rattle.run_model.specs.Moment.{Setting}
 use Rattle.run_model.specs.World.{World}
 use Rattle.step_runner.specs.declared.either.Either.{Either}
 use Rattle.step_runner.specs.declared.either.Either.TheVariants.{Left, Right}
-use Rattle.guest_runner.specs.Guest.{Guest, guest_setting}
+use Rattle.service_outline.specs.guests.Guest.{Guest, guest_setting}
 use Rattle.mcal_drivers.specs.Setting.{clock_setting, watchdog_setting, pin_setting, timer_setting, pulse_setting, capture_setting, converter_setting, serial_setting, joined, host_setting, port_guest, system_setting}
-use Rattle.gpt_machine.specs.Table as timer_table
-use Rattle.pwm_machine.specs.Table as pulse_table
-use Rattle.icu_machine.specs.Table as capture_table
+use Rattle.module_machines.specs.gpt.Table as timer_table
+use Rattle.module_machines.specs.pwm.Table as pulse_table
+use Rattle.module_machines.specs.icu.Table as capture_table
 use Rattle.adc_machine.specs.Bounds.{group_of_input}
 use Rattle.adc_machine.specs.Machine.{is_unit_line, is_trigger_line}
 use Rattle.adc_machine.specs.Table as converter_table
@@ -25,8 +25,8 @@ use Rattle.spi_machine.specs.Table as serial_table
 use Rattle.spi_machine.specs.declared.call.Call.{Call}
 use Rattle.spi_machine.specs.declared.call.Call.TheVariants as calls
 use Rattle.spi_machine.specs.declared.table.SpiTable.{SpiTable}
-use Rattle.trace_laws.specs.Lines.{HasLines}
-use Rattle.trace_laws.proofs.UnionLines.{union_lines}
+use Rattle.trace_promises.specs.traces.Lines.{HasLines}
+use Rattle.trace_promises.proofs.UnionLines.{union_lines}
 
 -- there is one for small numbers alone
 below_by : {T : Type 0} (l n : ℕ) (o : Option T) (b : Bool) → nat_lt l n ≡ b → is_some (if b then o else None) ≡ true → l < n

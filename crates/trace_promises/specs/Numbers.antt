@@ -10,10 +10,10 @@ use Rattle.run_model.specs.declared.item.Hardware.TheVariants.{Analog}
 use Rattle.run_model.specs.declared.item.Item.{Item}
 use Rattle.run_model.specs.declared.item.What.{What}
 use Rattle.run_model.specs.declared.item.What.TheVariants.{Happened}
-use Rattle.mcu_machine.specs.Machine as clock
-use Rattle.mcu_machine.specs.declared.table.Section.{Section}
-use Rattle.icu_machine.specs.Edges.{Edge}
-use Rattle.icu_machine.specs.Machine as captures
+use Rattle.module_machines.specs.mcu.Machine as clock
+use Rattle.module_machines.specs.declared.mcu.table.Section.{Section}
+use Rattle.module_machines.specs.icu.Edges.{Edge}
+use Rattle.module_machines.specs.icu.Machine as captures
 use Rattle.adc_machine.specs.Groups.{GroupState, Request, Round, StoredRound}
 use Rattle.adc_machine.specs.Turns.{AdcState}
 use Rattle.spi_machine.specs.Channels.{ChannelState}

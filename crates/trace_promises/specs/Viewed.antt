@@ -8,7 +8,7 @@ use Rattle.bench_top.specs.Statuses.{HasScript}
 use Rattle.trace_drawing.specs.Judged.{judged}
 use Rattle.trace_drawing.specs.Program.{printed}
 use Rattle.trace_drawing.specs.declared.program.Form.{Form}
-use Rattle.trace_laws.specs.Drawn.{IsDrawn}
+use Rattle.trace_promises.specs.traces.Drawn.{IsDrawn}
 
 -- a text ends with a line feed
 abbrev pub EndsLine : List ℕ → Type 0

@@ -10,13 +10,13 @@ ghost use Rattle.bench_top.specs.Statuses.{IsRunDone};
 ghost use Rattle.bench_top.specs.declared.words.Task.TheVariants.{Run};
 ghost use Rattle.bench_top.specs.declared.words.Printing.TheVariants.{Traced};
 ghost use Rattle.bench_report.specs.Numbers.{Each, IsNumber};
-ghost use Rattle.trace_laws.specs.Lines.{HasLines};
-ghost use Rattle.trace_laws.specs.Numbers.{RowsFit};
+ghost use Rattle.trace_promises.specs.traces.Lines.{HasLines};
+ghost use Rattle.trace_promises.specs.traces.Numbers.{RowsFit};
 ghost use Rattle.trace_promises.specs.Numbers.{BringsNumbers, ConfigFits, ItemBrings};
 ghost use Rattle.trace_promises.specs.Viewed.{IsViewed};
 
+use crate::traces::{few_steps, journal_fits};
 use run_model::{Item, Journal, JournalLists};
-use trace_laws::{few_steps, journal_fits};
 
 /// What a trace asks of its run holds of the runs of all modules: the lines that they use and poll are those of a chip,
 /// and what is shown has numbers of 32 bits, where the configuration was read and the items of the journal bring such

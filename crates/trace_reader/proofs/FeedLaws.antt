@@ -1,7 +1,7 @@
 -- No line of a report holds a line feed but the one at its end.
 use Rattle.std.proofs.Common.{◌≡◌, ℕ, List, [], ◌∷◌, ◌++◌, Option, Some, None, Bool, true, false, refl}
 use Rattle.std.specs.Prelude.{◌==◌, codes, decimal, if◌then◌else◌}
-use Rattle.det_errors.specs.Spelling.{error_text}
+use Rattle.mcal_base.specs.det_errors.Spelling.{error_text}
 use Rattle.irq_control.specs.Spelling.{held_text}
 use Rattle.irq_control.specs.declared.held.Held.{Held}
 use Rattle.mcal_base.specs.Names.{service_text, answer_text, notice_text}

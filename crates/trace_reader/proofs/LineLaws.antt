@@ -7,7 +7,7 @@ use Rattle.std.specs.Str.{all_ascii_digits}
 use Rattle.std.proofs.lemmas.Bool.{and_parts}
 use Rattle.std.proofs.lemmas.List.{append-nil, take_at}
 use Rattle.mcal_base.specs.facts.Numbers.{lt_from, lt_itself}
-use Rattle.det_errors.specs.Spelling.{error_text}
+use Rattle.mcal_base.specs.det_errors.Spelling.{error_text}
 use Rattle.irq_control.specs.Spelling.{held_text}
 use Rattle.mcal_base.specs.Names.{service_text, answer_text, notice_text}
 use Rattle.mcal_base.specs.declared.answer.Head.{Head}

@@ -2,7 +2,7 @@
 use Rattle.std.specs.Prelude.{ℕ, ◌+◌, ◌-◌, ◌==◌, ◌||◌, take, drop, List, [], ◌∷◌, length, Bool, true, false, Option, Some, None, option_map, option_and_then, codes, bytes_eq, if◌then◌else◌}
 use Rattle.std.specs.Char.{is_ascii_digit}
 use Rattle.std.specs.List.{slice_split, position}
-use Rattle.det_errors.specs.Spelling.{error_text}
+use Rattle.mcal_base.specs.det_errors.Spelling.{error_text}
 use Rattle.irq_control.specs.Spelling.{held_text}
 use Rattle.mcal_base.specs.Names.{service_text, answer_text, notice_text}
 use Rattle.mcal_base.specs.declared.answer.Head.{Head}

@@ -1,6 +1,6 @@
 ghost use Rattle.std.specs.Prelude.{◌≡◌, List, ℕ};
 ghost use Rattle.bench_report.specs.Lines as lines;
-ghost use Rattle.det_errors.specs.Spelling.{error_text};
+ghost use Rattle.mcal_base.specs.det_errors.Spelling.{error_text};
 ghost use Rattle.irq_control.specs.Spelling.{held_text};
 ghost use Rattle.mcal_base.specs.Names as names;
 ghost use Rattle.bench_script.specs.Words.{named};
@@ -174,7 +174,7 @@ impl Spelled for ErrorName {
     ghost spelling = { λ error. error_text error };
 
     fn spelled(self) -> &'static str {
-        det_errors::text(self)
+        mcal_base::det_errors::text(self)
     }
 }
 

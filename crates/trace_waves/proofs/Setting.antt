@@ -1,7 +1,7 @@
 -- What one more sign sets.
 use Rattle.std.proofs.Common.{◌≡◌, ◌≤◌, ◌-◌, List, [], ◌∷◌, length, get_or, take, drop, ◌∙◌, ap, sym, arith}
 use Rattle.std.proofs.lemmas.List.{take_all}
-use Rattle.sign_kinds.specs.declared.signs.Sign.{Sign}
+use Rattle.trace_forms.specs.declared.kinds.signs.Sign.{Sign}
 use Rattle.trace_waves.specs.Board.{Board, put_all}
 use Rattle.trace_waves.specs.Settings.{behind, behind_all, set_by, settings}
 use Rattle.trace_waves.specs.declared.settings.Before.{Before}

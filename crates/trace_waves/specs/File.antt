@@ -1,7 +1,7 @@
 -- The file of value changes: the signals that change, what they are before that, and each change at its time.
 use Rattle.std.specs.Prelude.{ℕ, ◌==◌, ◌&&◌, nat_lt, nat_le, Bool, List, [], ◌∷◌, ◌++◌, codes, decimal, if◌then◌else◌}
-use Rattle.sign_kinds.specs.Sums.{sum_up}
-use Rattle.sign_kinds.specs.declared.signs.Sign.{Sign}
+use Rattle.trace_forms.specs.kinds.Sums.{sum_up}
+use Rattle.trace_forms.specs.declared.kinds.signs.Sign.{Sign}
 use Rattle.trace_waves.specs.Board.{Board, empty, put_all}
 use Rattle.trace_waves.specs.Settings.{time, nothing, behind_all, settings}
 use Rattle.trace_waves.specs.Signals.{name, slot}

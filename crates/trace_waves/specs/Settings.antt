@@ -10,14 +10,14 @@ use Rattle.bench_report.specs.declared.frames.Purpose.TheVariants as purposes
 use Rattle.trace_reader.specs.declared.told.Mark.{Mark}
 use Rattle.trace_reader.specs.declared.told.Mark.TheVariants as marks
 use Rattle.trace_reader.specs.declared.told.Step.{Step}
-use Rattle.sign_kinds.specs.Holds.{may_begin}
-use Rattle.sign_kinds.specs.Sums.{sum_up}
-use Rattle.sign_kinds.specs.declared.signs.Asked.{Asked}
-use Rattle.sign_kinds.specs.declared.signs.Asked.TheVariants as asks
-use Rattle.sign_kinds.specs.declared.signs.Frame.{Frame}
-use Rattle.sign_kinds.specs.declared.signs.Sign.{Sign}
-use Rattle.sign_kinds.specs.declared.signs.What.{What}
-use Rattle.sign_kinds.specs.declared.signs.What.TheVariants as whats
+use Rattle.trace_forms.specs.kinds.Holds.{may_begin}
+use Rattle.trace_forms.specs.kinds.Sums.{sum_up}
+use Rattle.trace_forms.specs.declared.kinds.signs.Asked.{Asked}
+use Rattle.trace_forms.specs.declared.kinds.signs.Asked.TheVariants as asks
+use Rattle.trace_forms.specs.declared.kinds.signs.Frame.{Frame}
+use Rattle.trace_forms.specs.declared.kinds.signs.Sign.{Sign}
+use Rattle.trace_forms.specs.declared.kinds.signs.What.{What}
+use Rattle.trace_forms.specs.declared.kinds.signs.What.TheVariants as whats
 use Rattle.trace_waves.specs.declared.board.Change.{Change}
 use Rattle.trace_waves.specs.declared.settings.Before.{Before}
 use Rattle.trace_waves.specs.declared.settings.Clock.{Clock}

@@ -1,6 +1,6 @@
 -- The values of signals, and how they are written.
 use Rattle.std.specs.Prelude.{ℕ, nat_lt, List, ◌++◌, true, false, codes, decimal, if◌then◌else◌}
-use Rattle.det_errors.specs.Spelling.{error_text}
+use Rattle.mcal_base.specs.det_errors.Spelling.{error_text}
 use Rattle.irq_control.specs.Spelling.{held_text}
 use Rattle.mcal_base.specs.Names.{service_text, notice_text}
 use Rattle.mcal_base.specs.declared.moves.DevError.{DevError}

@@ -5,9 +5,9 @@ use crate::board::{Board, Change};
 use crate::settings::{Clock, put_signs};
 use crate::signal::Signal;
 use crate::value::first_at;
-use sign_kinds::Sign;
 use std::alloc::{AllocError, Global};
 use std::fmt;
+use trace_forms::kinds::Sign;
 
 /// What a file begins with.
 const HEAD: &str = "$version trace_view $end\n$timescale 1 ns $end\n";

@@ -8,8 +8,8 @@ use crate::value::Value;
 use bench_report::Purpose;
 use irq_control::Held;
 use mcal_base::{Move, Reason, Reg};
-use sign_kinds::{Asked, Frame, Sign, What, may_begin};
 use std::alloc::{AllocError, Global};
+use trace_forms::kinds::{Asked, Frame, Sign, What, may_begin};
 use trace_reader::{Mark, Step};
 
 /// What time is counted in.

@@ -75,7 +75,7 @@ impl fmt::Display for ErrorWord {
 
     fn fmt<W: fmt::Write>(&self, f: &mut fmt::Formatter<W>) -> fmt::Result {
         let service = Spelled(self.0.service.text());
-        let name = Spelled(det_errors::text(self.0.error));
+        let name = Spelled(mcal_base::det_errors::text(self.0.error));
         write!(f, "{service}:{name}")
     }
 }

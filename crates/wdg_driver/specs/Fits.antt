@@ -3,8 +3,8 @@ use Rattle.std.proofs.Common.{◌≡◌, ℕ, ◌<◌, Bool, true, false, nat_lt
 use Rattle.std.specs.Prelude.{if◌then◌else◌}
 use Rattle.std.proofs.lemmas.Bool.Decides.{nat_tests}
 use Rattle.mcal_base.specs.declared.config.wdg.WdgConfig.{WdgConfig}
-use Rattle.wdg_machine.specs.Table.{table_of, FitsWdg}
-use Rattle.wdg_machine.specs.Numbers.{narrow}
+use Rattle.module_machines.specs.wdg.Table.{table_of, FitsWdg}
+use Rattle.module_machines.specs.wdg.Numbers.{narrow}
 
 narrow_few : (n : ℕ) → narrow n < 65536
 narrow_few n = by (nat_lt n 65536) refl

@@ -1,15 +1,15 @@
 -- How words and the register stand for the machine's state.
 use Rattle.std.specs.Prelude.{◌≡◌, ℕ, ◌+◌, ◌≤◌, ◌<◌, Bool, true, false, Option, Some, None}
 use Rattle.chip_model.specs.Chip.{Chip, word_of}
-use Rattle.chip_units.specs.declared.watchdog.Watch.{Watch}
+use Rattle.chip_blocks.specs.declared.units.watchdog.Watch.{Watch}
 use Rattle.run_model.specs.World.{World}
 use Rattle.run_model.specs.Outside.{StandsIn}
 use Rattle.service_outline.specs.Outline.{Refinement}
-use Rattle.wdg_machine.specs.Bounds.{owns, wdg_setting}
-use Rattle.wdg_machine.specs.Machine.{WdgState}
+use Rattle.module_machines.specs.wdg.Bounds.{owns, wdg_setting}
+use Rattle.module_machines.specs.wdg.Machine.{WdgState}
 use Rattle.wdg_driver.specs.Words.{state_word}
-use Rattle.wdg_machine.specs.declared.call.Call.{Call}
-use Rattle.wdg_machine.specs.declared.table.WdgTable.{WdgTable}
+use Rattle.module_machines.specs.declared.wdg.call.Call.{Call}
+use Rattle.module_machines.specs.declared.wdg.table.WdgTable.{WdgTable}
 use Rattle.wdg_driver.specs.declared.words.TheConstants.{STATE, TIMEOUT}
 
 -- what the top frame may have under work: words that are behind the machine's state, after the act

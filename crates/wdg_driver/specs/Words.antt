@@ -2,7 +2,7 @@
 use Rattle.std.specs.Prelude.{ℕ, ◌*◌, ◌==◌, max, if◌then◌else◌, Option, Some, None}
 use Rattle.mcal_base.specs.declared.config.wdg.WdgMode.{WdgMode}
 use Rattle.mcal_base.specs.declared.config.wdg.WdgMode.TheVariants.{Off, Slow, Fast}
-use Rattle.wdg_machine.specs.declared.table.Timing.{Timing}
+use Rattle.module_machines.specs.declared.wdg.table.Timing.{Timing}
 
 -- the word of an initialised module's mode, and of the state, uninitialised or not
 abbrev pub mode_word : WdgMode → ℕ

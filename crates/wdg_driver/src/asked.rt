@@ -1,15 +1,15 @@
 ghost use Rattle.std.specs.Prelude.{◌≡◌};
 ghost use Rattle.wdg_driver.specs.laws.Look as spec;
-ghost use Rattle.wdg_machine.specs.Checks as checks;
+ghost use Rattle.module_machines.specs.wdg.Checks as checks;
 
 use crate::driver::WdgDriver;
 use crate::service::{Says, WdgBody};
 use crate::timing::mode_in;
 use crate::words::STATE;
-use det_errors::{Facts, first_error};
+use mcal_base::det_errors::{Facts, first_error};
 use mcal_base::{Answer, AnswerName, ErrorName};
+use module_machines::wdg::{Call, Timing, narrow};
 use service_outline::{Done, Epilogue, Looked, Reply, named, nothing};
-use wdg_machine::{Call, Timing, narrow};
 
 /// A call with the driver that it is made of.
 #[derive(Clone, Copy)]

@@ -1,13 +1,13 @@
 use crate::driver::WdgDriver;
 use mcal_base::{ModuleName, Request, Service};
+use module_machines::wdg::{Call, call_of};
 use script_runner::Caller;
-use wdg_machine::{Call, call_of};
 
 /// The most steps of a frame.
 const MOST_STEPS: u32 = 64;
 
 impl Caller for WdgDriver {
-    ghost use Rattle.wdg_machine.specs.Requests.{call_of, has_service};
+    ghost use Rattle.module_machines.specs.wdg.Requests.{call_of, has_service};
     ghost use Rattle.wdg_driver.specs.laws.Lawful.{slow_watchdog};
 
     ghost has_service = { λ _. has_service };

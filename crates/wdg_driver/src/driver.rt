@@ -1,13 +1,13 @@
 ghost use Rattle.std.specs.Prelude.{◌≡◌};
 ghost use Rattle.service_outline.specs.Done.{owed_error};
-ghost use Rattle.wdg_machine.specs.Checks.{reporting};
-ghost use Rattle.wdg_machine.specs.Table as spec;
+ghost use Rattle.module_machines.specs.wdg.Checks.{reporting};
+ghost use Rattle.module_machines.specs.wdg.Table as spec;
 
 use mcal_base::{Config, ErrorName, Service};
+use module_machines::wdg::WdgTable;
 use service_outline::Epilogue;
 use std::marker::Model;
 use std::ops::Deref;
-use wdg_machine::WdgTable;
 
 /// The driver: what it keeps of a configuration, and no more. Contracts see its table.
 #[derive(Clone, Copy)]
@@ -16,7 +16,7 @@ pub struct WdgDriver {
 }
 
 impl Model for WdgDriver {
-    ghost use Rattle.wdg_machine.specs.declared.table.WdgTable.{WdgTable};
+    ghost use Rattle.module_machines.specs.declared.wdg.table.WdgTable.{WdgTable};
 
     ghost Value = { WdgTable };
 

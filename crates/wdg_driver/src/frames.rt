@@ -3,11 +3,11 @@ use crate::driver::WdgDriver;
 use crate::service::WdgBody;
 use chip_model::Bus;
 use mcal_base::ModuleName;
+use module_machines::wdg::Call;
 use run_model::Class;
 use service_outline::Short;
 use std::marker::Model;
 use step_runner::Module;
-use wdg_machine::Call;
 
 /// A call of the driver, under way.
 pub type WdgFrame = Short<Asked, WdgBody>;
@@ -16,7 +16,7 @@ pub type WdgFrame = Short<Asked, WdgBody>;
 pub struct WdgMachine;
 
 impl Model for WdgMachine {
-    ghost use Rattle.wdg_machine.specs.Machine.{WdgState, first_state};
+    ghost use Rattle.module_machines.specs.wdg.Machine.{WdgState, first_state};
 
     ghost Value = { WdgState };
 

@@ -4,8 +4,8 @@ ghost use Rattle.wdg_driver.specs.laws.Body as spec;
 use crate::timing::{load, state_word};
 use crate::words::{STATE, TIMEOUT};
 use mcal_base::{AnswerName, Move, Reg, WdgMode};
+use module_machines::wdg::{Timing, narrow};
 use service_outline::{Body, BodyTaken, Epilogue, Reply, acts, ends, goes, named, nothing};
-use wdg_machine::{Timing, narrow};
 
 /// What a call answers that has started the watchdog.
 #[derive(Clone, Copy)]

@@ -2,7 +2,7 @@ ghost use Rattle.std.specs.Prelude.{◌≡◌};
 ghost use Rattle.wdg_driver.specs.Words as spec;
 
 use mcal_base::WdgMode;
-use wdg_machine::Timing;
+use module_machines::wdg::Timing;
 
 /// What is written to `W.LOAD` for a mode with a timeout: the ticks of the oscillator, at least one, and 0 in the off mode.
 pub(crate) fn load(timing: &Timing) -> u32

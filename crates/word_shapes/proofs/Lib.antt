@@ -6,3 +6,4 @@ pub mod PlayingLaws
 pub mod PriorityQueueLaws
 pub mod RoomLaws
 pub mod TripleBufferLaws
+pub mod WithinLaws

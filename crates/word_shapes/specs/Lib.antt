@@ -6,3 +6,5 @@ pub mod Playing
 pub mod PriorityQueue
 pub mod Room
 pub mod TripleBuffer
+pub mod jobs
+pub mod streams

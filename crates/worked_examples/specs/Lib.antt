@@ -1,3 +1,11 @@
+pub mod AdcRuns
+pub mod BoardRuns
 pub mod Exchanged
+pub mod GptRuns
+pub mod IcuRuns
+pub mod McuRuns
+pub mod PortRuns
 pub mod Printed
-pub mod Runs
+pub mod PwmRuns
+pub mod SpiRuns
+pub mod Told

@@ -3,10 +3,10 @@
 ghost use Rattle.std.specs.Prelude.{◌≡◌, true, false, [], ◌∷◌, Some, None};
 ghost use Rattle.irq_control.specs.declared.held.Held.TheVariants.{Masked, Level, Reentry, Idle};
 ghost use Rattle.run_model.specs.Causes.{call_cause, line_cause};
-ghost use Rattle.gpt_machine.specs.Classes.{class_of};
-ghost use Rattle.gpt_machine.specs.declared.call.Call.TheVariants.{Init, Channel};
-ghost use Rattle.gpt_machine.specs.declared.call.ChannelCall.TheVariants.{GetTimeElapsed, StartTimer, StopTimer};
-ghost use Rattle.worked_examples.specs.Runs.{handler_tag, asking_tag};
+ghost use Rattle.module_machines.specs.gpt.Classes.{class_of};
+ghost use Rattle.module_machines.specs.declared.gpt.call.Call.TheVariants.{Init, Channel};
+ghost use Rattle.module_machines.specs.declared.gpt.call.ChannelCall.TheVariants.{GetTimeElapsed, StartTimer, StopTimer};
+ghost use Rattle.worked_examples.specs.GptRuns.{handler_tag, asking_tag};
 
 /// Over the handler of a line of level 1 no call begins while the mask is closed. With the mask open a call of
 /// level 0 is held for its level, also at a notice, and one of level 1 begins at a notice only.

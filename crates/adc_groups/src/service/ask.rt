@@ -8,9 +8,9 @@ use crate::owed::error_owed;
 use crate::service::{acts_and_ends, done, makes};
 use crate::words::{Phase, Word, flag};
 use adc_machine::{AdcTable, ResultBuffer};
-use adc_stream::preceding;
 use mcal_base::{AnswerName, ErrorName, Event, Service};
 use service_outline::{Epilogue, Reply, named, nothing, numbers, zero_null};
+use word_shapes::streams::preceding;
 
 /// One deed, at which a call acts, and with which it is done.
 pub fn change(deed: WindowWrite, answer: Reply) -> Place

@@ -9,9 +9,9 @@ use crate::owed::error_owed;
 use crate::service::acts_and_ends;
 use crate::words::{Phase, STATE, Word, rounds_of};
 use adc_machine::AdcTable;
-use adc_stream::{Bank, Reading};
 use mcal_base::{Answer, AnswerName, ErrorName, Event, Head, Move, Routine, Service, Short};
 use service_outline::{BodyTaken, Epilogue, copied, ends, goes, named, nothing};
+use word_shapes::streams::{Bank, Reading};
 use word_shapes::{Take, TakePart};
 
 /// `Adc_ReadGroup` of a group in this phase: unless it is idle or busy, the newest bank is to be pinned.

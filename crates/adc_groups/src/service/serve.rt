@@ -10,9 +10,9 @@ use crate::service::{looking, makes, over, turn};
 use crate::window::Window;
 use crate::words::{Phase, Word, entry, group_in, order_of, rounds_of};
 use adc_machine::AdcTable;
-use adc_stream::{Bank, Column, Copying, following, limited, one_more};
 use mcal_base::{Event, Reg};
 use word_shapes::PutPart;
+use word_shapes::streams::{Bank, Column, Copying, following, limited, one_more};
 
 /// What a serving has seen.
 #[derive(Clone, Copy)]
@@ -58,7 +58,12 @@ pub fn claim(table: &AdcTable, taken: Taken, kept: u32) -> Decided
     let mut deeds = WindowWrites::new();
     deeds.push(WindowWrite::Set(Word::Claim(taken.unit), 1));
     let rounds = rounds_of(table, taken.group);
-    let what = adc_stream::Copied::Round(rounds, taken.unit, limited(kept, 32), taken.bank);
+    let what = word_shapes::streams::Copied::Round(
+        rounds,
+        taken.unit,
+        limited(kept, 32),
+        taken.bank,
+    );
     let after = match Copying::of(what) {
         Some(copying) => Outside::Copies(copying, Copied::Serves(taken)),
         None => Outside::Closes(Window::Serve(taken)),
@@ -149,7 +154,7 @@ fn stores(table: &AdcTable, taken: Taken, seen: &RoundSeen) -> Outside
         samples: table.samples_of(group),
         place: limited(seen.place, 64),
     };
-    let what = adc_stream::Copied::Bank(rounds_of(table, group), bank, column);
+    let what = word_shapes::streams::Copied::Bank(rounds_of(table, group), bank, column);
     match Copying::of(what) {
         Some(copying) => Outside::Copies(copying, Copied::Tells(unit, group, seen.notified == 1)),
         None => Outside::Closes(Window::Begin(unit)),

@@ -9,9 +9,9 @@ use crate::service::{done, looking, makes, over};
 use crate::window::Window;
 use crate::words::{Word, entry, group_in, order_of};
 use adc_machine::AdcTable;
-use adc_stream::limited;
 use mcal_base::{Event, Reg, Unit};
 use service_outline::nothing;
+use word_shapes::streams::limited;
 
 /// What follows a new request on a unit: where priorities count, a round of lower priority yields, and then the first
 /// request starts.

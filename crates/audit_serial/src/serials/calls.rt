@@ -24,7 +24,7 @@ use crate::pending::Pending;
 use crate::queue::Change;
 use crate::results::all_get;
 use audit_base::{Told, named};
-use det_errors::first_error;
+use mcal_base::det_errors::first_error;
 use mcal_base::{Answer, AnswerName, ErrorName, Head};
 use spi_machine::{Call, ChannelCall, Pointer, Query, SequenceCall};
 use std::alloc::AllocError;

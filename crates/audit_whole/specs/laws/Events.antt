@@ -8,34 +8,34 @@ use Rattle.adc_machine.specs.declared.call.Call.TheVariants as converting
 use Rattle.adc_machine.specs.declared.call.GroupCall.TheVariants.{SetupResultBuffer, StartGroupConversion, StopGroupConversion, ReadGroup, EnableHardwareTrigger, DisableHardwareTrigger, Notification, GetGroupStatus, GetStreamLastPointer}
 use Rattle.adc_machine.specs.declared.table.AdcTable.{AdcTable}
 use Rattle.chip_model.specs.Chip.{Chip, word_of}
-use Rattle.dio_machine.specs.declared.table.DioTable.{DioTable}
-use Rattle.gpt_machine.specs.Bounds.{gpt_setting}
-use Rattle.icu_machine.specs.Bounds.{icu_setting}
-use Rattle.icu_machine.specs.Machine.{IcuState}
-use Rattle.icu_machine.specs.declared.call.Call as capture_calls
-use Rattle.icu_machine.specs.declared.call.Call.TheVariants as capturing
-use Rattle.icu_machine.specs.declared.table.IcuTable.{IcuTable}
+use Rattle.module_machines.specs.declared.dio.table.DioTable.{DioTable}
+use Rattle.module_machines.specs.gpt.Bounds.{gpt_setting}
+use Rattle.module_machines.specs.icu.Bounds.{icu_setting}
+use Rattle.module_machines.specs.icu.Machine.{IcuState}
+use Rattle.module_machines.specs.declared.icu.call.Call as capture_calls
+use Rattle.module_machines.specs.declared.icu.call.Call.TheVariants as capturing
+use Rattle.module_machines.specs.declared.icu.table.IcuTable.{IcuTable}
 use Rattle.mcal_base.specs.declared.module_name.ModuleName.TheVariants.{Mcu, Port, Pwm, Icu, Adc, Spi}
 use Rattle.mcal_base.specs.declared.moves.Event.{Event}
 use Rattle.mcal_base.specs.declared.moves.Move.{Move}
 use Rattle.mcal_base.specs.declared.moves.Unit.{Unit}
 use Rattle.mcal_base.specs.declared.moves.Unit.TheVariants.{Adc0, Adc1, Spi0, Spi1}
-use Rattle.mcu_machine.specs.Bounds.{RamAgrees, mcu_setting}
-use Rattle.mcu_machine.specs.Machine.{McuState}
-use Rattle.mcu_machine.specs.declared.call.Call as clock_calls
-use Rattle.mcu_machine.specs.declared.call.Call.TheVariants as clocking
-use Rattle.mcu_machine.specs.declared.table.McuTable.{McuTable}
+use Rattle.module_machines.specs.mcu.Bounds.{RamAgrees, mcu_setting}
+use Rattle.module_machines.specs.mcu.Machine.{McuState}
+use Rattle.module_machines.specs.declared.mcu.call.Call as clock_calls
+use Rattle.module_machines.specs.declared.mcu.call.Call.TheVariants as clocking
+use Rattle.module_machines.specs.declared.mcu.table.McuTable.{McuTable}
 use Rattle.mcal_base.specs.facts.Truths.{on_off}
-use Rattle.port_machine.specs.Bounds.{port_setting}
-use Rattle.port_machine.specs.Machine.{PortState}
-use Rattle.port_machine.specs.declared.call.Call as pin_calls
-use Rattle.port_machine.specs.declared.call.Call.TheVariants as pinning
-use Rattle.port_machine.specs.declared.table.PortTable.{PortTable}
-use Rattle.pwm_machine.specs.Bounds.{OutputsAgree, pwm_setting}
-use Rattle.pwm_machine.specs.Machine.{PwmState}
-use Rattle.pwm_machine.specs.declared.call.Call as pulse_calls
-use Rattle.pwm_machine.specs.declared.call.Call.TheVariants as pulsing
-use Rattle.pwm_machine.specs.declared.table.PwmTable.{PwmTable}
+use Rattle.module_machines.specs.port.Bounds.{port_setting}
+use Rattle.module_machines.specs.port.Machine.{PortState}
+use Rattle.module_machines.specs.declared.port.call.Call as pin_calls
+use Rattle.module_machines.specs.declared.port.call.Call.TheVariants as pinning
+use Rattle.module_machines.specs.declared.port.table.PortTable.{PortTable}
+use Rattle.module_machines.specs.pwm.Bounds.{OutputsAgree, pwm_setting}
+use Rattle.module_machines.specs.pwm.Machine.{PwmState}
+use Rattle.module_machines.specs.declared.pwm.call.Call as pulse_calls
+use Rattle.module_machines.specs.declared.pwm.call.Call.TheVariants as pulsing
+use Rattle.module_machines.specs.declared.pwm.table.PwmTable.{PwmTable}
 use Rattle.run_model.specs.Frame.{Open, state_after, state_by}
 use Rattle.run_model.specs.Machine.{Aborts, Starts}
 use Rattle.run_model.specs.Moment.{Setting}
@@ -45,7 +45,7 @@ use Rattle.spi_machine.specs.State.{SpiState}
 use Rattle.spi_machine.specs.declared.call.Call as serial_calls
 use Rattle.spi_machine.specs.declared.call.Call.TheVariants as sending
 use Rattle.spi_machine.specs.declared.table.SpiTable.{SpiTable}
-use Rattle.wdg_machine.specs.Bounds.{wdg_setting}
+use Rattle.module_machines.specs.wdg.Bounds.{wdg_setting}
 use Rattle.audit_machines.specs.Guest.{host_pins}
 use Rattle.audit_machines.specs.Hosting.{hosted_setting}
 use Rattle.audit_machines.specs.System.{SystemState, Tables}

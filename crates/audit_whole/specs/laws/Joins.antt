@@ -5,20 +5,20 @@ use Rattle.std.specs.Prelude.{MatchBool}
 use Rattle.std.specs.List.{list_any}
 use Rattle.adc_machine.specs.Bounds.{adc_setting}
 use Rattle.chip_model.specs.Chip.{Chip}
-use Rattle.gpt_machine.specs.Bounds.{gpt_setting}
-use Rattle.icu_machine.specs.Bounds.{icu_setting}
+use Rattle.module_machines.specs.gpt.Bounds.{gpt_setting}
+use Rattle.module_machines.specs.icu.Bounds.{icu_setting}
 use Rattle.mcal_base.specs.declared.module_name.ModuleName.{ModuleName}
 use Rattle.mcal_base.specs.declared.notice.Notice.{Notice}
-use Rattle.mcu_machine.specs.Bounds.{mcu_setting}
-use Rattle.port_machine.specs.Bounds.{is_alone, port_setting}
-use Rattle.pwm_machine.specs.Bounds.{pwm_setting}
+use Rattle.module_machines.specs.mcu.Bounds.{mcu_setting}
+use Rattle.module_machines.specs.port.Bounds.{is_alone, port_setting}
+use Rattle.module_machines.specs.pwm.Bounds.{pwm_setting}
 use Rattle.run_model.specs.Frame.{Origin, Called, Entered}
 use Rattle.run_model.specs.Moment.{Setting}
 use Rattle.run_model.specs.World.{World}
 use Rattle.spi_machine.specs.Bounds.{spi_setting}
 use Rattle.spi_machine.specs.State.{SpiState}
 use Rattle.spi_machine.specs.declared.table.SpiTable.{SpiTable}
-use Rattle.wdg_machine.specs.Bounds.{wdg_setting}
+use Rattle.module_machines.specs.wdg.Bounds.{wdg_setting}
 use Rattle.audit_base.specs.declared.either.Either.{Either}
 use Rattle.audit_base.specs.declared.either.Either.TheVariants.{Left, Right}
 use Rattle.audit_machines.specs.System.{SystemState, Tables}

@@ -4,8 +4,8 @@ use Rattle.std.specs.Prelude.{slice_index, slice_set, if◌then◌else◌}
 use Rattle.adc_machine.specs.Words.{buffer_number}
 use Rattle.chip_model.specs.Chip.{Chip, after_read, chip_after, happened, word_of}
 use Rattle.chip_model.proofs.HistoryLaws.{edged, level_leaves}
-use Rattle.chip_pulses.specs.Pulses as pulses
-use Rattle.chip_units.specs.Pins as pins
+use Rattle.chip_blocks.specs.pulses.Pulses as pulses
+use Rattle.chip_blocks.specs.units.Pins as pins
 use Rattle.mcal_base.specs.declared.directive.Order.{Order}
 use Rattle.mcal_base.specs.declared.directive.Order.TheVariants as orders
 use Rattle.mcal_base.specs.declared.layout.TheConstants.{USERS}
@@ -14,10 +14,10 @@ use Rattle.mcal_base.specs.declared.moves.Move.TheVariants.{Read, Write, Load, S
 use Rattle.mcal_base.specs.declared.register.Reg.{Reg}
 use Rattle.mcal_base.specs.declared.register.Reg.TheVariants.{TimerLow, CaptureCountLow, CaptureTimeLow, ConverterAbort, PinFlip, EnableSet, EnableClear, SerialData, PulsePeriod, PulseDuty, PulsePolarity, PulseCommit, PulseIdle, PulseEdges, PulseFlags, PinDirectionSet, PinDirectionClear, PinOutSet, PinOutClear, PinMode, PortPut}
 use Rattle.mcal_base.specs.declared.register.Reg.TheVariants as regs
-use Rattle.mcu_machine.specs.Bounds.{RamAgrees}
+use Rattle.module_machines.specs.mcu.Bounds.{RamAgrees}
 use Rattle.mcal_base.specs.facts.Numbers.{lt_is}
 use Rattle.mcal_base.specs.facts.Truths.{on_off}
-use Rattle.pwm_machine.specs.Bounds.{OutputsAgree}
+use Rattle.module_machines.specs.pwm.Bounds.{OutputsAgree}
 use Rattle.run_model.specs.Frame.{state_by}
 use Rattle.run_model.specs.Machine.{Moves}
 use Rattle.run_model.specs.World.{World, world_after}

@@ -8,34 +8,34 @@ use Rattle.adc_machine.specs.Table.{unit_level}
 use Rattle.adc_machine.specs.Triggers.{mark_at}
 use Rattle.adc_machine.specs.Turns.{AdcState, round_at}
 use Rattle.adc_machine.specs.declared.table.AdcTable.{AdcTable}
-use Rattle.gpt_machine.specs.Bounds.{gpt_setting}
-use Rattle.gpt_machine.specs.Machine as timers
-use Rattle.gpt_machine.specs.Machine.{GptState}
-use Rattle.gpt_machine.specs.Table as timer_table
-use Rattle.gpt_machine.specs.declared.table.GptTable.{GptTable}
-use Rattle.icu_machine.specs.Bounds.{icu_setting}
-use Rattle.icu_machine.specs.Machine as captures
-use Rattle.icu_machine.specs.Machine.{IcuState}
-use Rattle.icu_machine.specs.Table as capture_table
-use Rattle.icu_machine.specs.declared.table.Channel as capture
-use Rattle.icu_machine.specs.declared.table.IcuTable.{IcuTable}
-use Rattle.mcu_machine.specs.Bounds.{mcu_setting}
+use Rattle.module_machines.specs.gpt.Bounds.{gpt_setting}
+use Rattle.module_machines.specs.gpt.Machine as timers
+use Rattle.module_machines.specs.gpt.Machine.{GptState}
+use Rattle.module_machines.specs.gpt.Table as timer_table
+use Rattle.module_machines.specs.declared.gpt.table.GptTable.{GptTable}
+use Rattle.module_machines.specs.icu.Bounds.{icu_setting}
+use Rattle.module_machines.specs.icu.Machine as captures
+use Rattle.module_machines.specs.icu.Machine.{IcuState}
+use Rattle.module_machines.specs.icu.Table as capture_table
+use Rattle.module_machines.specs.declared.icu.table.Channel as capture
+use Rattle.module_machines.specs.declared.icu.table.IcuTable.{IcuTable}
+use Rattle.module_machines.specs.mcu.Bounds.{mcu_setting}
 use Rattle.mcal_base.specs.facts.Numbers.{eq_is, lt_is}
 use Rattle.mcal_base.specs.facts.Truths.{and_first, and_second, off_on}
-use Rattle.port_machine.specs.Bounds.{port_setting}
-use Rattle.pwm_machine.specs.Bounds.{pwm_setting}
-use Rattle.pwm_machine.specs.Machine as pulses
-use Rattle.pwm_machine.specs.Machine.{PwmState}
-use Rattle.pwm_machine.specs.Table as pulse_table
-use Rattle.pwm_machine.specs.declared.table.Channel as pulse
-use Rattle.pwm_machine.specs.declared.table.PwmTable.{PwmTable}
+use Rattle.module_machines.specs.port.Bounds.{port_setting}
+use Rattle.module_machines.specs.pwm.Bounds.{pwm_setting}
+use Rattle.module_machines.specs.pwm.Machine as pulses
+use Rattle.module_machines.specs.pwm.Machine.{PwmState}
+use Rattle.module_machines.specs.pwm.Table as pulse_table
+use Rattle.module_machines.specs.declared.pwm.table.Channel as pulse
+use Rattle.module_machines.specs.declared.pwm.table.PwmTable.{PwmTable}
 use Rattle.run_model.specs.World.{World}
 use Rattle.spi_machine.specs.Bounds.{spi_setting, uses_by}
 use Rattle.spi_machine.specs.Machine as serials
 use Rattle.spi_machine.specs.Machine.{has_done, run_of, unit_of}
 use Rattle.spi_machine.specs.State.{SpiState, is_interrupt, is_off}
 use Rattle.spi_machine.specs.declared.table.SpiTable.{SpiTable}
-use Rattle.wdg_machine.specs.Bounds.{wdg_setting}
+use Rattle.module_machines.specs.wdg.Bounds.{wdg_setting}
 use Rattle.audit_machines.specs.System.{SystemState, Tables}
 use Rattle.audit_subject.specs.Product.{joined}
 use Rattle.audit_whole.specs.Whole.{host_setting, is_serial_line}

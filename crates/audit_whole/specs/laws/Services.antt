@@ -1,17 +1,17 @@
 -- The call that a request asks for is one of the service that it names.
 use Rattle.std.proofs.Common.{◌≡◌, refl}
 use Rattle.adc_machine.specs.Checks as converters
-use Rattle.dio_machine.specs.Checks as ports
-use Rattle.gpt_machine.specs.Checks as timers
-use Rattle.icu_machine.specs.Checks as captures
+use Rattle.module_machines.specs.dio.Checks as ports
+use Rattle.module_machines.specs.gpt.Checks as timers
+use Rattle.module_machines.specs.icu.Checks as captures
 use Rattle.mcal_base.specs.declared.directive.Request.{Request}
 use Rattle.mcal_base.specs.declared.service.Service.{Service}
 use Rattle.mcal_base.specs.declared.service.Service.TheVariants.{McuInit}
-use Rattle.mcu_machine.specs.Checks as clock
-use Rattle.port_machine.specs.Checks as pins
-use Rattle.pwm_machine.specs.Checks as pulses
+use Rattle.module_machines.specs.mcu.Checks as clock
+use Rattle.module_machines.specs.port.Checks as pins
+use Rattle.module_machines.specs.pwm.Checks as pulses
 use Rattle.spi_machine.specs.Checks as serials
-use Rattle.wdg_machine.specs.Checks as watchdog
+use Rattle.module_machines.specs.wdg.Checks as watchdog
 use Rattle.audit_base.specs.Product.{either}
 use Rattle.audit_machines.specs.Requests.{call_of}
 use Rattle.audit_whole.specs.Whole.{AnyCall}

@@ -1,12 +1,12 @@
 -- A part of the state of modules is as it was after each event of a frame that doesn't touch its aspect.
 use Rattle.std.proofs.Common.{◌≡◌, ℕ, Bool, true, false, Option, Some, None, sym, ◌∙◌, ap}
 use Rattle.std.specs.Prelude.{cond}
-use Rattle.dio_machine.specs.Machine.{HostPins, does_by, work}
-use Rattle.dio_machine.specs.Table.{pins_of}
-use Rattle.dio_machine.specs.declared.table.PortPins.{PortPins}
-use Rattle.dio_machine.specs.declared.call.Call as ports
-use Rattle.dio_machine.specs.declared.call.Call.TheVariants.{ReadChannel, WriteChannel, FlipChannel, ReadPort, WritePort, ReadChannelGroup, WriteChannelGroup}
-use Rattle.dio_machine.specs.declared.table.DioTable.{DioTable}
+use Rattle.module_machines.specs.dio.Machine.{HostPins, does_by, work}
+use Rattle.module_machines.specs.dio.Table.{pins_of}
+use Rattle.module_machines.specs.declared.dio.table.PortPins.{PortPins}
+use Rattle.module_machines.specs.declared.dio.call.Call as ports
+use Rattle.module_machines.specs.declared.dio.call.Call.TheVariants.{ReadChannel, WriteChannel, FlipChannel, ReadPort, WritePort, ReadChannelGroup, WriteChannelGroup}
+use Rattle.module_machines.specs.declared.dio.table.DioTable.{DioTable}
 use Rattle.mcal_base.specs.declared.module_name.ModuleName.{ModuleName}
 use Rattle.mcal_base.specs.declared.module_name.ModuleName.TheVariants.{Port}
 use Rattle.mcal_base.specs.declared.moves.Event.{Event}

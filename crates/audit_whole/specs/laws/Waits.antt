@@ -1,16 +1,16 @@
 -- A frame waits for a serial unit that is there.
 use Rattle.std.proofs.Common.{◌≡◌, ℕ, ◌<◌, ◌==◌, nat_lt, Bool, true, false, cond}
 use Rattle.adc_machine.specs.Bounds.{adc_setting}
-use Rattle.gpt_machine.specs.Bounds.{gpt_setting}
-use Rattle.icu_machine.specs.Bounds.{icu_setting}
+use Rattle.module_machines.specs.gpt.Bounds.{gpt_setting}
+use Rattle.module_machines.specs.icu.Bounds.{icu_setting}
 use Rattle.mcal_base.specs.declared.moves.Move.{Move}
 use Rattle.mcal_base.specs.declared.moves.Move.TheVariants.{Read}
 use Rattle.mcal_base.specs.declared.register.Reg.TheVariants.{SerialWait}
-use Rattle.mcu_machine.specs.Bounds.{mcu_setting}
+use Rattle.module_machines.specs.mcu.Bounds.{mcu_setting}
 use Rattle.mcal_base.specs.facts.Numbers.{lt_is}
 use Rattle.mcal_base.specs.facts.Truths.{and_second, off_on}
-use Rattle.port_machine.specs.Bounds.{port_setting}
-use Rattle.pwm_machine.specs.Bounds.{pwm_setting}
+use Rattle.module_machines.specs.port.Bounds.{port_setting}
+use Rattle.module_machines.specs.pwm.Bounds.{pwm_setting}
 use Rattle.run_model.specs.Frame.{Origin, Called, Entered}
 use Rattle.run_model.specs.Moment.{Setting}
 use Rattle.spi_machine.specs.Bounds.{may, may_wait, spi_setting}
@@ -19,7 +19,7 @@ use Rattle.spi_machine.specs.declared.call.Call as serial_calls
 use Rattle.spi_machine.specs.declared.call.Call.TheVariants.{Sequence}
 use Rattle.spi_machine.specs.declared.call.SequenceCall.TheVariants.{SyncTransmit}
 use Rattle.spi_machine.specs.declared.table.SpiTable.{SpiTable}
-use Rattle.wdg_machine.specs.Bounds.{wdg_setting}
+use Rattle.module_machines.specs.wdg.Bounds.{wdg_setting}
 use Rattle.audit_base.specs.declared.either.Either.{Either}
 use Rattle.audit_base.specs.declared.either.Either.TheVariants.{Left, Right}
 use Rattle.audit_machines.specs.Hosting.{ports}

@@ -8,10 +8,10 @@ pub use Rattle.std.proofs.lemmas.Bool.Decides.{nat_tests}
 pub use Rattle.chip_model.specs.Chip.{Chip, chip_after, happened, word_of}
 pub use Rattle.chip_model.specs.Histories.{HasAll, Made}
 pub use Rattle.chip_model.proofs.HistoryLaws.{level_leaves, rate-left, word-left, word-stored}
-pub use Rattle.chip_timers.specs.Timers.{Timers, timer_at, with_timer, acted, acting, counter, counts_on, is_running, is_flagged, expired_between, gate_set, flag_clear, zero_count, running_of, flags_of}
-pub use Rattle.chip_timers.specs.declared.timer.Count.TheVariants.{Still, Since}
-pub use Rattle.chip_timers.specs.declared.timer.Timer.{Timer}
-pub use Rattle.chip_timers.proofs.TimerLaws.{timer_at-acted_on, timer_at-acted_off, timer_at-with_timer_same, timer_at-with_timer_other, has_bit-running_of, has_bit-flags_of}
+pub use Rattle.chip_blocks.specs.timers.Timers.{Timers, timer_at, with_timer, acted, acting, counter, counts_on, is_running, is_flagged, expired_between, gate_set, flag_clear, zero_count, running_of, flags_of}
+pub use Rattle.chip_blocks.specs.declared.timers.timer.Count.TheVariants.{Still, Since}
+pub use Rattle.chip_blocks.specs.declared.timers.timer.Timer.{Timer}
+pub use Rattle.chip_blocks.proofs.of_timers.TimerLaws.{timer_at-acted_on, timer_at-acted_off, timer_at-with_timer_same, timer_at-with_timer_other, has_bit-running_of, has_bit-flags_of}
 pub use Rattle.mcal_base.specs.Bits.{has_bit, bits_of}
 pub use Rattle.mcal_base.proofs.BitLaws.{has_bit-bits_of, has_bit-or, has_bit-zero, has_bit-above, has_bit-without, bits_of-zero}
 pub use Rattle.mcal_base.specs.declared.directive.Order.{Order}
@@ -39,25 +39,25 @@ pub use Rattle.service_outline.specs.laws.Reports.{error_told}
 pub use Rattle.service_outline.specs.laws.SweepWords.{each_but}
 pub use Rattle.service_outline.specs.Fuel.{Shortens}
 pub use Rattle.service_outline.specs.Outline.{Bodies, At, Happens, AreRight, StepsTo, RightAt, TellsAs, error_in, notices_in, Before, Is_before, After, Is_after, Serving, Is_serving, Served, Is_served}
-pub use Rattle.gpt_machine.specs.Checks.{error_by, service_of, allows, takes, answer_refused, has_value}
+pub use Rattle.module_machines.specs.gpt.Checks.{error_by, service_of, allows, takes, answer_refused, has_value}
 pub use Rattle.gpt_driver.specs.Refinement.{Lag, settled, none, only, open_at, behind, IsSet, TimerAgrees, BlockAgrees, Word, TheState, TargetOf, SwitchesOf, number_of, IsWord, state_word, value_in, WordsAgree, LinesAgree, GptRepresents, gpt_ground}
-pub use Rattle.gpt_machine.specs.Bounds.{gpt_setting, gpt_may, gpt_owns, is_own_word, has_lines, is_for_lines, is_timer, may_name, may_write, owns_written}
-pub use Rattle.gpt_machine.specs.Machine.{GptState, channel_at, table, fresh_state, first_state, Timing, Course, Never, Running, Stopped, Mode, Off, Normal, Sleep, untouched, is_off, is_asleep, elapsed, remaining, target_of, prescaler_of, runs, runs_at, is_busy, is_marked, started, stopped, unmarked, slept, slept_all, changed, with_channel, with_switches, all_channels, answers_number, notes, acts_by, ready, served, served_by, wakes, notifies, reporting, gpt_machine, switches}
-pub use Rattle.gpt_machine.specs.Table.{channel_of, one_shot_of, is_one_shot, FitsGpt}
+pub use Rattle.module_machines.specs.gpt.Bounds.{gpt_setting, gpt_may, gpt_owns, is_own_word, has_lines, is_for_lines, is_timer, may_name, may_write, owns_written}
+pub use Rattle.module_machines.specs.gpt.Machine.{GptState, channel_at, table, fresh_state, first_state, Timing, Course, Never, Running, Stopped, Mode, Off, Normal, Sleep, untouched, is_off, is_asleep, elapsed, remaining, target_of, prescaler_of, runs, runs_at, is_busy, is_marked, started, stopped, unmarked, slept, slept_all, changed, with_channel, with_switches, all_channels, answers_number, notes, acts_by, ready, served, served_by, wakes, notifies, reporting, gpt_machine, switches}
+pub use Rattle.module_machines.specs.gpt.Table.{channel_of, one_shot_of, is_one_shot, FitsGpt}
 pub use Rattle.gpt_driver.specs.Words.{bit, target_word, switches_word, word_of as packed, switches_of}
-pub use Rattle.gpt_machine.specs.declared.call.Call.{Call}
-pub use Rattle.gpt_machine.specs.declared.call.Call.TheVariants.{Init, DeInit, SetMode, Channel as OfChannel}
-pub use Rattle.gpt_machine.specs.declared.call.ChannelCall.{ChannelCall}
-pub use Rattle.gpt_machine.specs.declared.call.ChannelCall.TheVariants.{GetTimeElapsed, GetTimeRemaining, StartTimer, StopTimer, Change as Changes}
-pub use Rattle.gpt_machine.specs.declared.table.Channel.{Channel}
-pub use Rattle.gpt_machine.specs.declared.table.GptTable.{GptTable}
-pub use Rattle.gpt_machine.specs.declared.switches.Switches.{Switches}
+pub use Rattle.module_machines.specs.declared.gpt.call.Call.{Call}
+pub use Rattle.module_machines.specs.declared.gpt.call.Call.TheVariants.{Init, DeInit, SetMode, Channel as OfChannel}
+pub use Rattle.module_machines.specs.declared.gpt.call.ChannelCall.{ChannelCall}
+pub use Rattle.module_machines.specs.declared.gpt.call.ChannelCall.TheVariants.{GetTimeElapsed, GetTimeRemaining, StartTimer, StopTimer, Change as Changes}
+pub use Rattle.module_machines.specs.declared.gpt.table.Channel.{Channel}
+pub use Rattle.module_machines.specs.declared.gpt.table.GptTable.{GptTable}
+pub use Rattle.module_machines.specs.declared.gpt.switches.Switches.{Switches}
 pub use Rattle.gpt_driver.specs.declared.words.TheConstants.{STATE, TARGETS, LAST_WORD, LINES}
-pub use Rattle.chip_timers.specs.declared.timer.Act.TheVariants.{Clear as Unflags, Start as Opens, Stop as Shuts, Zero as Zeroes}
+pub use Rattle.chip_blocks.specs.declared.timers.timer.Act.TheVariants.{Clear as Unflags, Start as Opens, Stop as Shuts, Zero as Zeroes}
 pub use Rattle.gpt_driver.specs.declared.asked.Asked.{Asked}
-pub use Rattle.gpt_machine.specs.declared.call.Change.{Change}
-pub use Rattle.gpt_machine.specs.declared.call.Change.TheVariants.{Check, Notification, Wakeup}
-pub use Rattle.gpt_machine.specs.declared.call.GptMode.TheVariants.{Normal as ToNormal, Sleep as ToSleep}
+pub use Rattle.module_machines.specs.declared.gpt.call.Change.{Change}
+pub use Rattle.module_machines.specs.declared.gpt.call.Change.TheVariants.{Check, Notification, Wakeup}
+pub use Rattle.module_machines.specs.declared.gpt.call.GptMode.TheVariants.{Normal as ToNormal, Sleep as ToSleep}
 pub use Rattle.mcal_base.specs.declared.moves.Move.TheVariants.{Load, Read, Store, Write}
 pub use Rattle.mcal_base.specs.declared.register.Reg.{Reg}
 pub use Rattle.service_outline.specs.WindowHistory.{Plain, WindowHistory, SeesTo, Starts}

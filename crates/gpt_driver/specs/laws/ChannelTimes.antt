@@ -5,9 +5,9 @@ use Rattle.std.specs.Prelude.{if◌then◌else◌, is_some}
 use Rattle.gpt_driver.specs.laws.Base.{nat_tests, counter, counts_on, is_running, is_flagged, expired_between, Timer, IsSet, TimerAgrees, Timing, Course, Never, Running, Stopped, elapsed, prescaler_of, runs, is_marked, one_shot_of, bit, Channel}
 use Rattle.mcal_base.specs.Expiry.{expiries, runs_on}
 use Rattle.mcal_base.proofs.ExpiryLaws.{runs_on-later, expiries-one_shot, expiries-later, count_of-within}
-use Rattle.chip_timers.specs.Timers.{count_at}
+use Rattle.chip_blocks.specs.timers.Timers.{count_at}
 use Rattle.gpt_driver.specs.Refinement.{counts}
-use Rattle.gpt_machine.specs.Machine.{expired}
+use Rattle.module_machines.specs.gpt.Machine.{expired}
 
 -- ---- the counter is the machine's
 

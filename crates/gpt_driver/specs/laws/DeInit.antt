@@ -5,7 +5,7 @@ use Rattle.std.proofs.Common.{◌≡◌, ℕ, zero, suc, add-one, ◌+◌, ◌-�
 use Rattle.std.specs.Prelude.{if◌then◌else◌}
 use Rattle.std.specs.List.{list_any}
 use Rattle.gpt_driver.specs.laws.Base.{Store as Stores, eq-eqb, eqb-true, lt-ltb, true_from_ne_false, nat_tests, Chip, chip_after, Timers, timer_at, counts_on, is_running, expired_between, flag_clear, zero_count, running_of, Still, Since, Timer, timer_at-acted_on, has_bit-running_of, has_bit, bits_of, has_bit-zero, has_bit-without, GptBusy, Act, Move, EnableClear, TimerFlags, TimerZero, TimerRun, World, Told, no_answer, tells_nothing, Origin, Called, missed_after, Epilogue, Nothing, BodyTaken, Cleans, goes, acts_on, ends, owed_error, Shortens, Bodies, AreRight, StepsTo, Before, Is_before, After, Is_after, error_by, Lag, settled, none, TimerAgrees, Word, TheState, number_of, IsWord, GptRepresents, gpt_ground, GptState, channel_at, first_state, untouched, is_off, is_asleep, runs, runs_at, all_channels, reporting, gpt_machine, channel_of, bit, Call, DeInit, Channel, GptTable, STATE, TARGETS, LAST_WORD, LINES, Unflags, Zeroes, Read, Write, either_way, on_later, timed, AllGood, all_right, acts_so, finds_busy}
-use Rattle.chip_timers.specs.declared.timer.Count.{Count}
+use Rattle.chip_blocks.specs.declared.timers.timer.Count.{Count}
 use Rattle.mcal_base.proofs.BitLaws.{bits_of-zero, bits_of-clear}
 use Rattle.mcal_base.specs.declared.service.Service.TheVariants.{GptDeInit}
 use Rattle.gpt_driver.specs.declared.service.deinit.DeInitBody.{DeInitBody}
@@ -13,7 +13,7 @@ use Rattle.gpt_driver.specs.declared.service.deinit.DeInitBody.TheVariants as pl
 use Rattle.gpt_driver.specs.laws.ChannelTimes.{running_is, rests_later}
 use Rattle.gpt_driver.specs.laws.RefinementRight.{may_word}
 use Rattle.gpt_driver.specs.laws.Init.{all_lines}
-use Rattle.gpt_machine.specs.laws.Channels.{by_eight}
+use Rattle.module_machines.specs.gpt.laws.Channels.{by_eight}
 use Rattle.gpt_driver.specs.laws.Parts.{word_at, first_value, block_acted, words_stored, moved, runs_here}
 
 abbrev pub deinit_work : DeInitBody → Move

@@ -1,5 +1,5 @@
 -- The driver keeps to its module: registers, words and lines of others are nothing to it.
--- From Lawful, gpt_machine: Channels.
+-- From Lawful, module_machines: gpt.Channels.
 -- Used by mcal_drivers: proofs/Joining.
 use Rattle.std.proofs.Common.{◌≡◌, ℕ, ◌<◌, ◌≤◌, ◌^◌, ◌%◌, true, false, Option, Some, None, refl, arith}
 use Rattle.std.specs.Prelude.{is_some}
@@ -9,7 +9,7 @@ use Rattle.mcal_base.specs.declared.module_name.ModuleName.TheVariants.{Gpt}
 use Rattle.service_outline.specs.Services.{entering}
 use Rattle.step_runner.specs.Whose.{only, is_of, module_of_register, module_of_line, module_of_word, EnablesWithin, WritesWithin, NamesWithin, EnablesOthers, WritesOthers, NamesOthers, KeepsTo}
 use Rattle.step_runner.proofs.Whose.{not-unless}
-use Rattle.gpt_machine.specs.laws.Channels.{within as within_eight}
+use Rattle.module_machines.specs.gpt.laws.Channels.{within as within_eight}
 use Rattle.gpt_driver.specs.laws.Lawful.{gpt, body_by}
 
 own_register : (r : Reg) → is_timer r ≡ true → is_of (only Gpt) (module_of_register r) ≡ true

@@ -11,12 +11,12 @@ use Rattle.service_outline.specs.WindowHistory.{is_windowed}
 use Rattle.service_outline.specs.laws.Seen.{plain_sees}
 use Rattle.service_outline.specs.laws.Either.{either_right}
 use Rattle.gpt_driver.specs.laws.Base.{nat_tests, Chip, word_of, bits_of-zero, ErrorName, World, tells_nothing, Called, Entered, tells_error, error_told, Bodies, At, AreRight, Is_before, Is_serving, error_by, allows, answer_refused, has_value, settled, TheState, GptRepresents, gpt_ground, GptState, is_off, is_asleep, prescaler_of, is_busy, acts_by, gpt_machine, switches, channel_of, one_shot_of, FitsGpt, Call, Init, DeInit, SetMode, OfChannel, ChannelCall, GetTimeElapsed, GetTimeRemaining, StartTimer, StopTimer, Changes, Channel, GptTable, STATE, Asked, Check, ToNormal, ToSleep, Plain, WindowHistory, SeesTo, Starts, driver_of, Looked, Goes, First, Second, Passed, MayRun}
-use Rattle.gpt_machine.specs.Bounds.{gpt_steps}
+use Rattle.module_machines.specs.gpt.Bounds.{gpt_steps}
 use Rattle.gpt_driver.specs.declared.service.serve.ServeBody.TheVariants.{Look}
 use Rattle.gpt_driver.specs.laws.Bodies.{GptBody}
 use Rattle.gpt_driver.specs.laws.Count.{count_bodies, count_right, count_seen, count_sees, count_unseen}
 use Rattle.gpt_driver.specs.laws.DeInit.{deinit_bodies, deinit_right}
-use Rattle.gpt_machine.specs.laws.Channels.{within}
+use Rattle.module_machines.specs.gpt.laws.Channels.{within}
 use Rattle.gpt_driver.specs.laws.RefinementRight.{ground_right}
 use Rattle.gpt_driver.specs.laws.Init.{init_bodies, init_right}
 use Rattle.gpt_driver.specs.laws.Look.{ElapsedLow, DeInitLook, Enable, Wake, StartLook, OneShot, Continuous, SwitchLoad, gpt_looked, looked_by, begins, begun_on, off_of, on_of, mode_of, allowed, value_of, deinit_busy, start_busy, change_unhindered, early, asked_word}

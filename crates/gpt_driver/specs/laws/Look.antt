@@ -6,11 +6,11 @@ use Rattle.std.specs.Prelude.{if◌then◌else◌, is_some, slice_index_or}
 use Rattle.std.specs.Option.{option_or}
 use Rattle.std.proofs.lemmas.Bool.{not-false}
 use Rattle.gpt_driver.specs.laws.Base.{bits_of, ErrorName, GptBusy, no_answer, Nothing, Done, owed_error, error_by, service_of, allows, answer_refused, has_value, state_word, GptState, Mode, Off, is_off, is_asleep, reporting, channel_of, is_one_shot, Call, Init, DeInit, SetMode, OfChannel, ChannelCall, GetTimeElapsed, GetTimeRemaining, StartTimer, StopTimer, Changes, Channel, GptTable, Asked, Change, Check, Notification, Wakeup, ToNormal, ToSleep, Looked, Goes, First, Second, Passed}
-use Rattle.det_errors.proofs.RowLaws.{none_holds, last_at}
-use Rattle.det_errors.specs.Rows.{errors_of}
+use Rattle.mcal_base.proofs.RowLaws.{none_holds, last_at}
+use Rattle.mcal_base.specs.det_errors.Rows.{errors_of}
 use Rattle.mcal_base.specs.declared.service.Service.TheVariants as services
 use Rattle.service_outline.specs.declared.body.Looked.TheVariants.{Refused}
-use Rattle.gpt_machine.specs.Checks.{facts_by}
+use Rattle.module_machines.specs.gpt.Checks.{facts_by}
 pub use Rattle.gpt_driver.specs.declared.service.count.CountBody.TheVariants.{ElapsedLow, RemainingTarget}
 pub use Rattle.gpt_driver.specs.declared.service.deinit.DeInitBody.TheVariants.{Look as DeInitLook}
 pub use Rattle.gpt_driver.specs.declared.service.init.InitBody.TheVariants.{Enable}

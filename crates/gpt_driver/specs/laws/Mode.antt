@@ -9,7 +9,7 @@ use Rattle.gpt_driver.specs.declared.service.mode.ModeBody.{ModeBody}
 use Rattle.gpt_driver.specs.declared.service.mode.ModeBody.TheVariants as places
 use Rattle.gpt_driver.specs.laws.ChannelTimes.{expired_is, quiet}
 use Rattle.gpt_driver.specs.laws.RefinementRight.{may_words}
-use Rattle.gpt_machine.specs.laws.Channels.{table_at}
+use Rattle.module_machines.specs.gpt.laws.Channels.{table_at}
 use Rattle.gpt_driver.specs.laws.Parts.{stands_acted, block_acted, caught_up, never_off, bit_shifted, runs_here, elapsed_here, unpacked}
 use Rattle.gpt_driver.specs.laws.Stop.{halted, ended_keeps, stop_cleared}
 

@@ -1,14 +1,14 @@
 -- The agreement by its parts: what a move leaves of the block, the words and the lines.
--- From ChannelTimes, gpt_machine: Channels, service_outline: SweepWords.
+-- From ChannelTimes, module_machines: gpt.Channels, service_outline: SweepWords.
 -- Used by Mode, Start, DeInit, Stop, Switch and 5 more.
 use Rattle.std.proofs.Common.{◌≡◌, ℕ, ◌*◌, ◌%◌, ◌<◌, ◌≤◌, ◌≢◌, ◌^◌, Bool, true, false, [], length, refl, sym, ◌∙◌, ap, subst, arith}
 use Rattle.std.specs.Prelude.{if◌then◌else◌}
 use Rattle.gpt_driver.specs.laws.Base.{lt-ltb, Chip, chip_after, word_of, HasAll, Made, word-left, word-stored, Timers, timer_at, with_timer, acted, acting, counter, is_running, is_flagged, Timer, timer_at-acted_on, timer_at-acted_off, timer_at-with_timer_same, timer_at-with_timer_other, has_bit, Move, TimerGateSet, TimerGateClear, TimerFlags, TimerZero, World, StandsIn, stands-move, each_but, Lag, settled, none, only, behind, TimerAgrees, BlockAgrees, Word, TheState, TargetOf, SwitchesOf, number_of, IsWord, value_in, WordsAgree, LinesAgree, GptRepresents, GptState, channel_at, first_state, Timing, Mode, untouched, is_off, elapsed, target_of, runs, is_marked, with_channel, switches, channel_of, bit, target_word, switches_word, packed, switches_of, GptTable, Switches, STATE, LAST_WORD, Unflags, Opens, Shuts, Zeroes, Store, Write}
 use Rattle.std.proofs.lemmas.Bool.{ne_eqb}
-use Rattle.chip_timers.specs.declared.timer.Act.{Act}
+use Rattle.chip_blocks.specs.declared.timers.timer.Act.{Act}
 use Rattle.mcal_base.proofs.BitLaws.{has_bit-pow_same, has_bit-pow_other, one_shifted}
 use Rattle.mcal_base.specs.declared.TheConstants.{WORDS}
-use Rattle.gpt_machine.specs.laws.Channels.{channel_same, channel_other}
+use Rattle.module_machines.specs.gpt.laws.Channels.{channel_same, channel_other}
 use Rattle.gpt_driver.specs.laws.ChannelTimes.{running_is, counter_is, flagged_is}
 
 -- ---- numbers

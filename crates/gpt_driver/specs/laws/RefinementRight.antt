@@ -1,5 +1,5 @@
 -- The ground keeps what it owes: at the start, in time, under moves elsewhere and over a reset.
--- From Parts, service_outline: Words, gpt_machine: Channels, service_outline: There, ChannelTimes.
+-- From Parts, service_outline: Words, module_machines: gpt.Channels, service_outline: There, ChannelTimes.
 -- Used by Serve, Mode, DeInit, Switch, Count and 2 more.
 use Rattle.std.proofs.Common.{◌≡◌, ℕ, ◌/◌, ◌%◌, ◌<◌, ◌≤◌, ◌^◌, Bool, true, false, ◌&&◌, ◌||◌, ◌==◌, not, nat_lt, Option, Some, None, refl, sym, ◌∙◌, ap, subst, arith}
 use Rattle.std.specs.Prelude.{is_some, IsSome}
@@ -8,7 +8,7 @@ use Rattle.chip_model.specs.Chip.{reset_chip, is_masked, is_pending}
 use Rattle.chip_model.specs.Histories.{LeavesWord, sets_rate}
 use Rattle.chip_model.proofs.PinLaws.{line-timer}
 use Rattle.chip_model.proofs.WordLaws.{slice_index-blank}
-use Rattle.chip_timers.specs.Timers.{timers_fresh, idle}
+use Rattle.chip_blocks.specs.timers.Timers.{timers_fresh, idle}
 use Rattle.mcal_base.specs.declared.directive.Reason.{Reason}
 use Rattle.mcal_base.specs.declared.directive.Reason.TheVariants.{PowerOn}
 use Rattle.mcal_base.specs.declared.register.Reg.TheVariants.{SerialData, ClockPll, ClockRate, ResetRequest}
@@ -16,11 +16,11 @@ use Rattle.run_model.specs.Frame.{is_shared, resets_chip, begins_word, is_reset_
 use Rattle.service_outline.specs.Outline.{IsGround, Comes}
 use Rattle.mcal_base.specs.laws.There.{move_there}
 use Rattle.service_outline.specs.laws.Words.{word_later, fills_there}
-use Rattle.gpt_machine.specs.Bounds.{gpt_setting}
-use Rattle.gpt_machine.specs.Machine.{work, happens}
+use Rattle.module_machines.specs.gpt.Bounds.{gpt_setting}
+use Rattle.module_machines.specs.gpt.Machine.{work, happens}
 use Rattle.run_model.specs.Machine.{Acts, Outcome, ErrorLeaves}
 use Rattle.gpt_driver.specs.laws.ChannelTimes.{marked_used}
-use Rattle.gpt_machine.specs.laws.Channels.{by_eight, within}
+use Rattle.module_machines.specs.gpt.laws.Channels.{by_eight, within}
 use Rattle.gpt_driver.specs.laws.Parts.{first_value, word_at, marked_here}
 use Rattle.std.proofs.lemmas.Bool.{and_parts, ltb-true, ltb-false}
 

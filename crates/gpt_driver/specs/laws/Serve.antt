@@ -11,7 +11,7 @@ use Rattle.gpt_driver.specs.declared.service.serve.ServeBody.{ServeBody}
 use Rattle.gpt_driver.specs.declared.service.serve.ServeBody.TheVariants as places
 use Rattle.gpt_driver.specs.laws.ChannelTimes.{marked_later}
 use Rattle.gpt_driver.specs.laws.RefinementRight.{may_words, flag_bit}
-use Rattle.gpt_machine.specs.laws.Channels.{channel_same}
+use Rattle.module_machines.specs.gpt.laws.Channels.{channel_same}
 use Rattle.gpt_driver.specs.laws.Parts.{acted_with, caught_up, unpacked}
 use Rattle.gpt_driver.specs.laws.Switch.{owed_if, owes_if}
 

@@ -1,5 +1,5 @@
 -- Gpt_StartTimer: its steps, what holds at each, and that they are right.
--- From Base, Parts, ChannelTimes, RefinementRight, gpt_machine: Channels.
+-- From Base, Parts, ChannelTimes, RefinementRight, module_machines: gpt.Channels.
 -- Used by service/start/rt, Lawful.
 use Rattle.std.proofs.Common.{◌≡◌, ℕ, ◌<◌, ◌≤◌, ◌^◌, Bool, true, false, ◌||◌, ◌==◌, Option, Some, None, cond, refl, sym, ◌∙◌, ap, subst, arith}
 use Rattle.std.specs.Prelude.{if◌then◌else◌}
@@ -11,7 +11,7 @@ use Rattle.gpt_driver.specs.declared.service.start.StartBody.{StartBody}
 use Rattle.gpt_driver.specs.declared.service.start.StartBody.TheVariants.{Look, Target, Prescaler, OneShot, Clear, Gate, Keep}
 use Rattle.gpt_driver.specs.laws.ChannelTimes.{expired_is, quiet, rests_later}
 use Rattle.gpt_driver.specs.laws.RefinementRight.{may_words}
-use Rattle.gpt_machine.specs.laws.Channels.{channel_same}
+use Rattle.module_machines.specs.gpt.laws.Channels.{channel_same}
 use Rattle.gpt_driver.specs.laws.Parts.{acted_with, acted_here, block_set, caught_up, moved, has_one, runs_here}
 
 abbrev pub start_work : StartBody → Move

@@ -1,5 +1,5 @@
 -- Gpt_StopTimer: its steps, what holds at each, and that they are right.
--- From Parts, Base, ChannelTimes, service_outline: Acts, gpt_machine: Channels.
+-- From Parts, Base, ChannelTimes, service_outline: Acts, module_machines: gpt.Channels.
 -- Used by Mode, service/stop/rt, Lawful.
 use Rattle.std.proofs.Common.{◌≡◌, ℕ, ◌<◌, Bool, true, false, Option, Some, None, refl, sym, ◌∙◌, ap, subst, arith}
 use Rattle.std.specs.Prelude.{if◌then◌else◌}
@@ -8,7 +8,7 @@ use Rattle.gpt_driver.specs.laws.Base.{ne_eqb, Chip, Timers, timer_at, acted, ac
 use Rattle.gpt_driver.specs.declared.service.stop.StopBody.{StopBody}
 use Rattle.gpt_driver.specs.declared.service.stop.StopBody.TheVariants.{OneShot, Continuous, Flag}
 use Rattle.gpt_driver.specs.laws.ChannelTimes.{elapsed_small, unexpired, no_expiries, expired_is}
-use Rattle.gpt_machine.specs.laws.Channels.{channel_same}
+use Rattle.module_machines.specs.gpt.laws.Channels.{channel_same}
 use Rattle.gpt_driver.specs.laws.Parts.{acted_with, acted_here, has_one, runs_here, elapsed_here, marked_here}
 
 abbrev pub stop_work : StopBody → Move

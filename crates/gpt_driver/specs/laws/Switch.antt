@@ -1,16 +1,16 @@
 -- The services that change a channel's switches: their steps, what holds at each, and that they are right.
--- From Base, Parts, gpt_machine: Channels, service_outline: Acts, service_outline: SweepWords and 1 more.
+-- From Base, Parts, module_machines: gpt.Channels, service_outline: Acts, service_outline: SweepWords and 1 more.
 -- Used by service/switch/rt, Lawful, Serve.
 use Rattle.std.proofs.Common.{◌≡◌, ℕ, ◌<◌, Bool, true, false, List, [], ◌∷◌, Option, Some, None, refl, sym, ◌∙◌, ap, subst, arith}
 use Rattle.std.specs.Prelude.{if◌then◌else◌}
 use Rattle.mcal_base.specs.facts.Numbers.{eq_self}
 use Rattle.gpt_driver.specs.laws.Base.{Load as Loads, Store as Stores, Chip, Timers, timer_at, has_bit, DevError, Act, Move, Notice, World, Told, no_answer, Origin, Epilogue, Nothing, One, BodyTaken, goes, ends, never_clean, each_but, Shortens, Bodies, AreRight, error_in, notices_in, Before, Is_before, Lag, settled, only, behind, TimerAgrees, SwitchesOf, GptRepresents, gpt_ground, GptState, channel_at, is_off, runs_at, changed, with_switches, switches, channel_of, switches_word, packed, switches_of, Call, OfChannel, Changes, GptTable, Switches, Change, MayRun, steady, AllGood, all_right, acts_so}
 use Rattle.mcal_base.specs.declared.notice.NoticeKind.TheVariants.{EcuMSetWakeupEvent}
-use Rattle.gpt_machine.specs.Machine.{tells_event}
+use Rattle.module_machines.specs.gpt.Machine.{tells_event}
 use Rattle.gpt_driver.specs.declared.service.switch.SwitchBody.{SwitchBody}
 use Rattle.gpt_driver.specs.declared.service.switch.SwitchBody.TheVariants.{Load, Store}
 use Rattle.gpt_driver.specs.laws.RefinementRight.{may_words}
-use Rattle.gpt_machine.specs.laws.Channels.{channel_same, channel_other}
+use Rattle.module_machines.specs.gpt.laws.Channels.{channel_same, channel_other}
 use Rattle.gpt_driver.specs.laws.Parts.{caught_up, words_with, never_off, unpacked}
 
 -- what is owed where something is told

@@ -3,8 +3,8 @@ ghost use Rattle.gpt_driver.specs.laws.Serve as spec;
 
 use crate::switches::{packed, unpacked};
 use crate::words::{STATE, bit, has, switches_word};
-use gpt_machine::Switches;
 use mcal_base::{Event, Move, Notice, NoticeKind, Reg};
+use module_machines::gpt::Switches;
 use service_outline::{Body, BodyTaken, Epilogue, ends, goes, nothing};
 
 /// The handler of a channel's line, in its window.

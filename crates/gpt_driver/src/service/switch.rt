@@ -1,11 +1,11 @@
 ghost use Rattle.std.specs.Prelude.{◌≡◌};
-ghost use Rattle.gpt_machine.specs.Machine as machine;
+ghost use Rattle.module_machines.specs.gpt.Machine as machine;
 ghost use Rattle.gpt_driver.specs.laws.Switch as spec;
 
 use crate::switches::{packed, unpacked};
 use crate::words::switches_word;
-use gpt_machine::{Change, Switches};
 use mcal_base::{Move, Notice, NoticeKind};
+use module_machines::gpt::{Change, Switches};
 use service_outline::{Body, BodyTaken, Epilogue, acts_with, goes, nothing};
 
 /// The services that change the switches of a channel, from the load of the state word on.

@@ -1,5 +1,5 @@
 -- The edges of a measurement turn, as the levels of its pin do.
--- From icu_machine: Edges.
+-- From module_machines: icu.Edges.
 -- Used by Levels.
 use Rattle.std.proofs.Common.{◌≡◌, ℕ, ◌+◌, ◌%◌, ◌^◌, Bool, true, false, ◌&&◌, ◌||◌, ◌==◌, not, nat_lt, List, [], ◌∷◌, ◌++◌, length, cond, Option, Some, None, refl, sym, ◌∙◌, ap, subst}
 use Rattle.std.specs.Prelude.{if◌then◌else◌}
@@ -9,12 +9,12 @@ use Rattle.mcal_base.specs.facts.Numbers.{eq_is}
 use Rattle.mcal_base.specs.declared.config.icu.IcuMeasurementMode.{IcuMeasurementMode}
 use Rattle.mcal_base.specs.declared.config.icu.IcuMeasurementMode.TheVariants.{SignalMeasurement}
 use Rattle.run_model.specs.World.{World, with_at}
-use Rattle.icu_machine.specs.Edges.{Edge, is_same}
+use Rattle.module_machines.specs.icu.Edges.{Edge, is_same}
 use Rattle.icu_driver.specs.Refinement.{Alternate, EndsAt, HasTurns}
-use Rattle.icu_machine.specs.Machine.{Capture, edge_taken, edge_queued, edge_at_pin}
-use Rattle.icu_machine.specs.Table.{is_counter, is_measurement, chooses}
-use Rattle.icu_machine.specs.declared.table.Channel.{Channel}
-use Rattle.icu_machine.specs.laws.Edges.{taken-still}
+use Rattle.module_machines.specs.icu.Machine.{Capture, edge_taken, edge_queued, edge_at_pin}
+use Rattle.module_machines.specs.icu.Table.{is_counter, is_measurement, chooses}
+use Rattle.module_machines.specs.declared.icu.table.Channel.{Channel}
+use Rattle.module_machines.specs.icu.laws.Edges.{taken-still}
 
 turned_level : (old v : Bool) → is_same old v ≡ false → is_same v (not old) ≡ true
 turned_level true true e = absurd (cc)

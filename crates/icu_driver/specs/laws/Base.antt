@@ -14,8 +14,8 @@ pub use Rattle.service_outline.specs.declared.done.BodyTaken.{BodyTaken}
 pub use Rattle.service_outline.specs.Done.{goes, acts as acts_on, ends}
 pub use Rattle.service_outline.specs.Fuel.{Shortens}
 pub use Rattle.icu_driver.specs.Words.{word, line, bit, joined, condition_of, first_condition, mode_of}
-pub use Rattle.icu_machine.specs.declared.table.Channel.{Channel}
-pub use Rattle.icu_machine.specs.declared.table.IcuTable.{IcuTable}
+pub use Rattle.module_machines.specs.declared.icu.table.Channel.{Channel}
+pub use Rattle.module_machines.specs.declared.icu.table.IcuTable.{IcuTable}
 pub use Rattle.icu_driver.specs.declared.words.TheConstants.{STATE, SWITCHES, MARKS, SIZES, INTERVALS, PLACES, VALUES, TIMES, LINES, CHANNELS}
 
 -- ---- families of bodies

@@ -7,7 +7,7 @@ use Terms.{Acts, acts_by, answers, ap, arith, asked, bare, bare_block, behind, B
 use Terms.{Channel, channel_answer, channel_of, channel_work, ChannelCall, ChannelWords, chip_capture, closed}
 use Terms.{counts_edges, EdgeCounter, emptying, eq_other, error_by, false, get_or-map, happens, HasPlace, HasTurns, IcuTable, IcuMeasurementMode, IcuState, is_counter, is_detection, is_measurement, is_own_word, is_some, is_stamp, is_timestamp, IsCourse, length, ModeWords, nat_lt, nat_tests, None, not, off_on, opening, Option, outcome, own_word, refl, SignalEdgeDetect, SignalMeasurement, Some, STATE, subst, suits, switched, sym, Timestamp, true, with_capture, word, World, ℕ}
 use Rattle.icu_driver.specs.laws.{One.{IsAt, IsRow, apart_words}, Steady.{without_edges, calm_at}}
-use Rattle.icu_machine.specs.declared.call.Call.TheVariants as calls
+use Rattle.module_machines.specs.declared.icu.call.Call.TheVariants as calls
 
 -- the call names a channel that is for it, and shows no error while the module is on
 pub record MayCall (d : IcuTable) (c : ℕ) (call : ChannelCall) : Type 0 where

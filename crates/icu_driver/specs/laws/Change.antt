@@ -7,19 +7,19 @@ use Terms.{ActiveIs, After, AllByRecursion, answers, ap, AreRight, arith, Before
 use Terms.{Bool, Both, Call, Called, Capture, capture_at, CaptureAgrees, CaptureCondition, Captures, ChangeBody}
 use Terms.{channel_answer, channel_of, channel_work, ChannelCall, Chip, chip_after, chip_capture, Choose, ChoosesAs}
 use Terms.{condition_by, DisableNotification, Edge, EdgeCounter, EnableNotification, eq_other, eq_self, Falling, false, GetInputState, halves, has_notification, HasPlace, HasTurns, icu_ground, IcuTable, IcuMeasurementMode, IcuRepresents, IcuStartEdge, IcuState, input_answer, Is_after, Is_before, is_detection, Is_fresh, is_measurement, Is_on, Is_stopped, is_timestamp, IsCourse, IsStart, Lag, length, Load, ModeWords, None, none, not-true, Notify, off_on, only, OppositeIs, Option, Origin, outcome, owes_nothing, place_of, refl, Rising, seen_by, SetActivationCondition, settled, SignalEdgeDetect, SignalMeasurement, Some, stamp_in, Stamped, Stamps, stands-move, StandsLow, StartIs, Store, subst, suits, sym, Take, Timestamp, Told, true, ValueIs, waiting_value, with_capture, with_condition, word_of, World, Write, ℕ}
-use Rattle.icu_machine.specs.declared.call.Call.TheVariants.{Channel}
+use Rattle.module_machines.specs.declared.icu.call.Call.TheVariants.{Channel}
 use Rattle.icu_driver.specs.declared.service.change.ChangeBody.TheVariants.{Drop, Ask}
 use Rattle.icu_driver.specs.laws.{Base.{Move, Act, no_answer, BodyTaken, acts_on, ends, Nothing, Shortens, word}}
 use Rattle.icu_driver.specs.laws.{Base.{condition_of, SWITCHES, MARKS, SIZES, INTERVALS, PLACES, VALUES, TIMES}}
 use Rattle.icu_driver.specs.laws.{Calls.{MayCall, acts_is, to_mode, from_mode, is_there, behind_at, may_row}}
 use Rattle.icu_driver.specs.laws.{Channels.{block_as}, One.{IsAt, IsRow, ChipLeft, ChannelAgrees, channel_agrees}}
-use Rattle.icu_machine.specs.laws.{Channels.{with_same}}
+use Rattle.module_machines.specs.icu.laws.{Channels.{with_same}}
 use Rattle.icu_driver.specs.laws.{One.{one_agrees, settled_at, apart_rows, same_state, with_state}}
 use Rattle.icu_driver.specs.laws.{One.{left_same, left_channel, left_word, channel_new, word_new, word_old, stamps_old}}
 use Rattle.icu_driver.specs.laws.{Steady.{without_edges, calm_at, Good, AllGood, steady, steady_right}}
-use Rattle.chip_captures.specs.declared.capture.Capture as chips
-use Rattle.chip_captures.specs.declared.capture.Condition.TheVariants as conditions
-use Rattle.icu_machine.specs.declared.table.Channel as configured
+use Rattle.chip_blocks.specs.declared.captures.capture.Capture as chips
+use Rattle.chip_blocks.specs.declared.captures.capture.Condition.TheVariants as conditions
+use Rattle.module_machines.specs.declared.icu.table.Channel as configured
 
 abbrev pub change_work : ChangeBody → Move
 change_work (Notify c on) = Store (word SWITCHES c) (bit_of on)

@@ -4,7 +4,7 @@ use Rattle.std.proofs.Common.{◌≡◌, [], ◌∷◌, ◌∙◌}
 use Rattle.icu_driver.specs.Terms
 use Terms.{ap, Bool, Capture, CaptureAgrees, Channel, ChoosesAs, chosen, counts_edges, drop, Edge, false, flushed}
 use Terms.{is_some, kept, List, map, None, off_on, Option, popped, refl, Some, switched, sym, true, zeroed}
-use Rattle.chip_captures.specs.declared.capture.Capture as chips
+use Rattle.chip_blocks.specs.declared.captures.capture.Capture as chips
 
 -- the condition is chosen by the activation alone
 pub chooses_left : (k : Option Channel) (b b1 : chips.Capture) (x x1 : Capture) → b1.condition ≡ b.condition → x1.activation ≡ x.activation → ChoosesAs k b x → ChoosesAs k b1 x1

@@ -6,18 +6,18 @@ use Rattle.icu_driver.specs.Terms
 use Terms.{acted, acting, After, answers, ap, AreRight, arith, Before, below_test, Bodies, Bool, Call, Capture}
 use Terms.{capture_at, CaptureAgrees, CaptureCountHigh, CaptureCountLow, CaptureGateClear, CaptureGateSet, Captures}
 use Terms.{CaptureZero, channel_of, Chip, chip_after, chip_capture, CountBody, DisableEdgeCount, EdgeCounter, EnableEdgeCount, false, GetEdgeNumbers, icu_ground, IcuTable, IcuRepresents, IcuState, Is_after, Is_before, is_counter, is_measurement, is_timestamp, IsCourse, Lag, None, none, off_on, Option, Origin, outcome, place_of, Read, refl, ResetEdgeCount, settled, Some, stamp_in, Stamps, stands-move, StandsIn, subst, switched, sym, Told, true, Turn, with_capture, word_of, World, Write, zeroed, ℕ}
-use Rattle.icu_machine.specs.declared.call.Call.TheVariants.{Channel}
+use Rattle.module_machines.specs.declared.icu.call.Call.TheVariants.{Channel}
 use Rattle.icu_driver.specs.declared.service.count.CountBody.TheVariants.{Open, Close, Zero, Low, High}
 use Rattle.icu_driver.specs.laws.{Base.{Move, Act, no_answer, BodyTaken, acts_on, ends, number, Nothing, Shortens, bit}}
 use Rattle.icu_driver.specs.laws.{Base.{joined}, Calls.{MayCall, acts_is, counts, from_mode, is_there, counting}}
 use Rattle.icu_driver.specs.laws.{Calls.{place_by, turns_by, switched_course}, Channels.{gated_agrees, zeroed_agrees}}
-use Rattle.icu_machine.specs.laws.{Channels.{with_same}}
+use Rattle.module_machines.specs.icu.laws.{Channels.{with_same}}
 use Rattle.icu_driver.specs.laws.{One.{ChipLeft, ChannelAgrees, channel_agrees, one_agrees, settled_at}}
 use Rattle.icu_driver.specs.laws.{One.{with_state, left_latched, left_channel, left_gate, channel_new, gate_new}}
 use Rattle.icu_driver.specs.laws.{Steady.{AllGood, steady, steady_right}}
-use Rattle.chip_captures.specs.declared.capture.Act.TheVariants as turns
-use Rattle.chip_captures.specs.declared.capture.Capture as chips
-use Rattle.icu_machine.specs.declared.table.Channel as configured
+use Rattle.chip_blocks.specs.declared.captures.capture.Act.TheVariants as turns
+use Rattle.chip_blocks.specs.declared.captures.capture.Capture as chips
+use Rattle.module_machines.specs.declared.icu.table.Channel as configured
 
 abbrev pub count_work : CountBody → Move
 count_work (Open c) = Write CaptureGateSet (bit c)

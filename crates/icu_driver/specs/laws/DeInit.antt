@@ -23,8 +23,8 @@ use Rattle.icu_driver.specs.laws.{Base.{nat_tests, Move, tells_nothing, no_answe
 use Rattle.icu_driver.specs.laws.{Base.{Nothing, Shortens, word, Channel, IcuTable, STATE, LINES, CHANNELS, SWITCHES}}
 use Rattle.icu_driver.specs.laws.{Base.{MARKS, SIZES, PLACES, VALUES, TIMES}}
 use Rattle.icu_driver.specs.declared.service.deinit.DeInitBody.TheVariants.{Store, Close, Switch, Mark}
-use Rattle.chip_captures.specs.declared.capture.Act.TheVariants as turns
-use Rattle.chip_captures.specs.declared.capture.Capture as chips
+use Rattle.chip_blocks.specs.declared.captures.capture.Act.TheVariants as turns
+use Rattle.chip_blocks.specs.declared.captures.capture.Capture as chips
 
 -- the channel is an edge counter
 abbrev pub counts : IcuTable → ℕ → Bool

@@ -10,7 +10,7 @@ use Rattle.icu_driver.specs.laws.{Base.{no_answer, goes, ends, Nothing, word, li
 use Rattle.icu_driver.specs.laws.{Calls.{from_mode, place_by, turns_by, may_row}, Change.{as_course, row_switches}}
 use Rattle.icu_driver.specs.laws.{Change.{row_marks}, Channels.{popped_agrees, block_as}, DetectSteps.{detect_work}}
 use Rattle.icu_driver.specs.laws.{DetectSteps.{detect_takes, detect_left, detect_shortens}, Measure.{one_is}}
-use Rattle.icu_machine.specs.laws.{Channels.{with_same}}
+use Rattle.module_machines.specs.icu.laws.{Channels.{with_same}}
 use Rattle.icu_driver.specs.laws.{One.{ChannelAgrees, channel_agrees, one_agrees, settled_at, with_state}}
 use Rattle.icu_driver.specs.laws.{One.{left_channel, channel_new, word_new}, Rows.{rows_of, rows_behind, behind_row}}
 use Rattle.icu_driver.specs.laws.{Rows.{rows_at, row_others, row_stored, still_not}, Serve.{missed_here, info_empty}}

@@ -1,18 +1,18 @@
 -- Icu_GetDutyCycleValues: its steps, what holds at each, and that they are right.
--- From Measure, Calls, Steady, icu_machine: Channels, One and 1 more.
+-- From Measure, Calls, Steady, module_machines: icu.Channels, One and 1 more.
 -- Used by service/duty/rt, Lawful, Windows.
 use Rattle.std.proofs.Common.{◌≡◌, ◌==◌, [], ◌∷◌, ◌∙◌}
 use Rattle.icu_driver.specs.Terms
 use Terms.{ActiveIs, After, and_parts, answers, ap, AreRight, arith, Before, Bodies, Bool, Call, Called, capture_at, Captures, Chip, DutyBody, false, GetDutyCycleValues, icu_ground, IcuTable, IcuRepresents, IcuState, Is_after, Is_before, is_duty_cycle, is_measurement, is_some, Lag, List, Load, None, none, off_on, Option, Origin, outcome, Period, refl, settled, SignalMeasurement, Some, Store, subst, sym, Told, true, value_or, ValueIs, waiting_value, with_capture, word_of, World, ℕ}
-use Rattle.icu_machine.specs.declared.call.Call.TheVariants.{Channel}
+use Rattle.module_machines.specs.declared.icu.call.Call.TheVariants.{Channel}
 use Rattle.icu_driver.specs.declared.service.duty.DutyBody.TheVariants.{Waits, Active, Hand}
 use Rattle.icu_driver.specs.laws.{Base.{Move, BodyTaken, goes, acts_on, ends, numbers, Nothing, Shortens, word}}
 use Rattle.icu_driver.specs.laws.{Base.{SWITCHES, VALUES, TIMES}, Calls.{MayCall, acts_is, measures, to_mode, may_row}}
 use Rattle.icu_driver.specs.laws.{Measure.{OfSome, IsPair, IsMeasured, waits_double, handed_waits, one_is, row_switches}}
-use Rattle.icu_machine.specs.laws.{Channels.{with_same}}
+use Rattle.module_machines.specs.icu.laws.{Channels.{with_same}}
 use Rattle.icu_driver.specs.laws.{Measure.{row_values, all_handed, unwaiting, handing}, One.{IsRow}}
 use Rattle.icu_driver.specs.laws.{Rows.{rows_of}, Steady.{calm_at, Good, AllGood, steady, steady_right}}
-use Rattle.icu_machine.specs.declared.table.Channel as configured
+use Rattle.module_machines.specs.declared.icu.table.Channel as configured
 
 abbrev pub duty_work : DutyBody → Move
 duty_work (Waits c) = Load (word SWITCHES c)

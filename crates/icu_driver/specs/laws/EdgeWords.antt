@@ -1,5 +1,5 @@
 -- What an edge leaves of a channel beside its queue and count: its words, its course and its place for a stamp.
--- From icu_machine: Edges, icu_machine: Channels.
+-- From module_machines: icu.Edges, module_machines: icu.Channels.
 -- Used by Levels.
 use Rattle.std.proofs.Common.{◌≡◌, ℕ, ◌+◌, ◌%◌, ◌<◌, ◌≤◌, ◌^◌, Bool, true, false, ◌&&◌, ◌||◌, ◌==◌, not, nat_lt, [], ◌∷◌, ◌++◌, length, List, Option, Some, None, refl, sym, ◌∙◌, ap, subst, arith, length-append}
 use Rattle.std.specs.Prelude.{if◌then◌else◌}
@@ -7,13 +7,13 @@ use Rattle.std.specs.List.{AllByRecursion}
 use Rattle.std.proofs.lemmas.Bool.Decides.{nat_tests}
 use Rattle.mcal_base.specs.declared.config.icu.IcuMeasurementMode.{IcuMeasurementMode}
 use Rattle.mcal_base.specs.declared.config.icu.IcuMeasurementMode.TheVariants.{SignalEdgeDetect, EdgeCounter, Timestamp, SignalMeasurement}
-use Rattle.icu_machine.specs.Edges.{Edge}
+use Rattle.module_machines.specs.icu.Edges.{Edge}
 use Rattle.icu_driver.specs.Refinement.{ChannelWords, ModeWords, IsCourse, IsStart, HasPlace, Stamped, Is_on, Is_stopped, Is_fresh}
-use Rattle.icu_machine.specs.Machine.{Capture, edge_taken, edge_queued, is_taken, edge_at_pin}
-use Rattle.icu_machine.specs.Table.{is_counter, is_measurement, chooses}
-use Rattle.icu_machine.specs.declared.table.Channel.{Channel}
-use Rattle.icu_machine.specs.laws.Channels.{by_if}
-use Rattle.icu_machine.specs.laws.Edges.{still, taken-still}
+use Rattle.module_machines.specs.icu.Machine.{Capture, edge_taken, edge_queued, is_taken, edge_at_pin}
+use Rattle.module_machines.specs.icu.Table.{is_counter, is_measurement, chooses}
+use Rattle.module_machines.specs.declared.icu.table.Channel.{Channel}
+use Rattle.module_machines.specs.icu.laws.Channels.{by_if}
+use Rattle.module_machines.specs.icu.laws.Edges.{still, taken-still}
 
 -- ---- words
 

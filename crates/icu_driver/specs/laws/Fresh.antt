@@ -1,10 +1,10 @@
 -- At power on, and after each other reset, words and registers stand for the machine's first state.
--- From icu_machine: Channels.
+-- From module_machines: icu.Channels.
 -- Used by RefinementRight, Measure.
 use Rattle.std.proofs.Common.{◌≡◌, ℕ, ◌+◌, ◌<◌, false, List, [], Option, Some, None, refl, sym, ◌∙◌, ap, subst, arith}
 use Rattle.std.specs.Prelude.{is_some}
 use Rattle.mcal_base.specs.facts.Truths.{off_on}
-use Rattle.chip_captures.specs.Captures.{captures_fresh, capture_at as chip_capture, closed}
+use Rattle.chip_blocks.specs.captures.Captures.{captures_fresh, capture_at as chip_capture, closed}
 use Rattle.chip_model.specs.Chip.{Chip, word_of, reset_chip}
 use Rattle.chip_model.proofs.WordLaws.{slice_index-blank}
 use Rattle.mcal_base.specs.Bits.{bit_of}
@@ -17,15 +17,15 @@ use Rattle.mcal_base.specs.declared.directive.Reason.{Reason}
 use Rattle.run_model.specs.World.{World}
 use Rattle.run_model.specs.Outside.{StandsIn}
 use Rattle.run_model.proofs.OutsideLaws.{stands-reset}
-use Rattle.icu_machine.specs.Edges.{values_by, newest}
+use Rattle.module_machines.specs.icu.Edges.{values_by, newest}
 use Rattle.icu_driver.specs.Refinement.{settled, none, CaptureAgrees, WiredAs, ChannelWords, ModeWords, Stamped, Is_fresh, ValueIs, ActiveIs, waiting_value, HasPlace, HasTurns, IcuRepresents}
-use Rattle.icu_machine.specs.Machine.{untouched, first_state}
-use Rattle.icu_machine.specs.Table.{channel_of}
+use Rattle.module_machines.specs.icu.Machine.{untouched, first_state}
+use Rattle.module_machines.specs.icu.Table.{channel_of}
 use Rattle.icu_driver.specs.Words.{word}
 use Rattle.icu_driver.specs.declared.words.TheConstants.{VALUES, TIMES}
-use Rattle.icu_machine.specs.declared.table.Channel.{Channel}
-use Rattle.icu_machine.specs.declared.table.IcuTable.{IcuTable}
-use Rattle.icu_machine.specs.laws.Channels.{by_eight}
+use Rattle.module_machines.specs.declared.icu.table.Channel.{Channel}
+use Rattle.module_machines.specs.declared.icu.table.IcuTable.{IcuTable}
+use Rattle.module_machines.specs.icu.laws.Channels.{by_eight}
 
 closed_at : (pins : List (Option ℕ)) (time c : ℕ) → c < 8 → chip_capture (captures_fresh pins time) c ≡ closed
 closed_at pins time c lt = by_eight (λ i. chip_capture (captures_fresh pins time) i ≡ closed) refl refl refl refl refl refl refl refl c lt

@@ -7,18 +7,18 @@ use Terms.{acted, acting, After, answers, ap, AreRight, arith, bare, Before, bel
 use Terms.{capture_at, CaptureAgrees, CaptureFlush, CaptureGateClear, CaptureGateSet, Captures, channel_answer}
 use Terms.{channel_of, channel_work, ChannelCall, ChannelWords, Chip, chip_after, chip_capture, counts_edges}
 use Terms.{DisableEdgeDetection, EdgeCounter, emptying, EnableEdgeDetection, eq_self, false, flushed, GateBody, halves, icu_ground, IcuTable, IcuMeasurementMode, IcuRepresents, IcuState, Is_after, Is_before, is_counter, is_measurement, is_timestamp, Lag, length-at_bits, ModeWords, None, none, off_on, opening, Option, Origin, outcome, refl, settled, SignalEdgeDetect, SignalMeasurement, Some, stands-move, StandsLow, StopSignalMeasurement, subst, suits, switched, sym, Timestamp, Told, true, with_capture, word_of, World, Write, ℕ}
-use Rattle.icu_machine.specs.declared.call.Call.TheVariants.{Channel}
+use Rattle.module_machines.specs.declared.icu.call.Call.TheVariants.{Channel}
 use Rattle.icu_driver.specs.declared.service.gate.GateBody.TheVariants.{Open, Empty, Close, Drop}
 use Rattle.icu_driver.specs.laws.{Calls.{MayCall, acts_is, detects, measures, to_mode, from_mode, is_there, counting}}
 use Rattle.icu_driver.specs.laws.{Calls.{place_by, turns_by, switched_course, off_place, off_turns, opening_at}}
 use Rattle.icu_driver.specs.laws.{Calls.{emptying_at, bare_at, calm_on}, Channels.{opened_agrees, emptied_agrees}}
 use Rattle.icu_driver.specs.laws.{Channels.{closed_agrees, dropped_agrees}, One.{ChannelAgrees, channel_agrees}}
-use Rattle.icu_machine.specs.laws.{Channels.{with_same}}
+use Rattle.module_machines.specs.icu.laws.{Channels.{with_same}}
 use Rattle.icu_driver.specs.laws.{One.{one_agrees, settled_at, same_state, with_state, left_channel}}
 use Rattle.icu_driver.specs.laws.{One.{left_gate, channel_new, gate_new}, Steady.{AllGood, steady, steady_right}}
 use Rattle.icu_driver.specs.laws.{Base.{Move, Act, no_answer, BodyTaken, goes, acts_on, ends, Nothing, Shortens, bit}}
-use Rattle.chip_captures.specs.declared.capture.Act.TheVariants as acts
-use Rattle.icu_machine.specs.declared.table.Channel as configured
+use Rattle.chip_blocks.specs.declared.captures.capture.Act.TheVariants as acts
+use Rattle.module_machines.specs.declared.icu.table.Channel as configured
 
 abbrev pub gate_work : GateBody → Move
 gate_work (Open c) = Write CaptureGateSet (bit c)

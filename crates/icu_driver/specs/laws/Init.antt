@@ -1,5 +1,5 @@
 -- Icu_Init: its steps, what holds at each, and that they are right.
--- From Calls, One, Steady, RefinementRight, icu_machine: Channels and 3 more.
+-- From Calls, One, Steady, RefinementRight, module_machines: icu.Channels and 3 more.
 -- Used by DeInit, service/init/rt, Lawful, Windows.
 use Rattle.std.proofs.Common.{◌≡◌, ◌≢◌, ◌+◌, ◌-◌, ◌*◌, ◌<◌, ◌&&◌, ◌||◌, ◌∙◌, if◌then◌else◌}
 use Rattle.icu_driver.specs.Terms
@@ -20,8 +20,8 @@ use Rattle.icu_driver.specs.laws.{Base.{MARKS, VALUES, TIMES}, Calls.{bare_at, o
 use Rattle.icu_driver.specs.laws.{Measure.{none_served}, One.{channel_new, words_left, off_channel}, Steady.{AllGood}}
 use Rattle.icu_driver.specs.laws.{Steady.{steady, steady_right}}
 use Rattle.icu_driver.specs.declared.service.init.InitBody.TheVariants.{Store}
-use Rattle.chip_captures.specs.declared.capture.Capture as chips
-use Rattle.chip_captures.specs.declared.capture.Condition.TheVariants as conditions
+use Rattle.chip_blocks.specs.declared.captures.capture.Capture as chips
+use Rattle.chip_blocks.specs.declared.captures.capture.Condition.TheVariants as conditions
 
 abbrev pub init_work : InitBody → Move
 init_work (Condition d c) = Write (CaptureCondition c) (first_condition (channel_of d c))

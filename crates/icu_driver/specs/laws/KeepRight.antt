@@ -15,7 +15,7 @@ use Rattle.icu_driver.specs.laws.{Channels.{popped_agrees, closed_agrees, droppe
 use Rattle.icu_driver.specs.laws.{Count.{halves_join}, Indices.{HasRead, fills_is, next_is, left_is, notified_is}}
 use Rattle.icu_driver.specs.laws.{Indices.{place_next}, KeepSteps.{fills, next_index, left_now, keep_read, keep_work}}
 use Rattle.icu_driver.specs.laws.{KeepSteps.{keep_takes, keep_left, keep_shortens}, Measure.{one_is}, One.{IsAt, ChipLeft}}
-use Rattle.icu_machine.specs.laws.{Channels.{with_same}}
+use Rattle.module_machines.specs.icu.laws.{Channels.{with_same}}
 use Rattle.icu_driver.specs.laws.{One.{ChannelAgrees, channel_agrees, one_agrees, settled_at, same_state}}
 use Rattle.icu_driver.specs.laws.{One.{with_state, left_latched, left_channel, left_gate, left_word, channel_new}}
 use Rattle.icu_driver.specs.laws.{One.{gate_new, word_new, word_old, stamps_old, mode_left, words_left}, Rows.{rows_of}}
@@ -25,7 +25,7 @@ use Rattle.icu_driver.specs.laws.{Serve.{told_of, owes_notice, owes_no_error}, S
 use Rattle.icu_driver.specs.laws.{Stamp.{row_sizes, row_intervals, row_places, row_values, New_mark, New_place}}
 use Rattle.icu_driver.specs.laws.{Stamp.{New_left, stamp_closed}, Steady.{without_edges, calm_at, oldest, AllGood}}
 use Rattle.icu_driver.specs.laws.{Steady.{fronted, fronted_right}}
-use Rattle.chip_captures.specs.declared.capture.Act.TheVariants as turns
+use Rattle.chip_blocks.specs.declared.captures.capture.Act.TheVariants as turns
 
 -- ---- what is under work: words, and a place of the stamps
 

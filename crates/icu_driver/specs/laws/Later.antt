@@ -1,25 +1,25 @@
 -- The block in time: a level that comes from outside reaches block and machine alike, whatever is under work.
--- From Parts, icu_machine: Channels.
+-- From Parts, module_machines: icu.Channels.
 -- Used by Levels.
 use Rattle.std.proofs.Common.{◌≡◌, ℕ, ◌<◌, Bool, true, false, ◌||◌, ◌==◌, not, nat_lt, length, Option, Some, None, refl, sym, ◌∙◌, ap, subst, arith}
 use Rattle.std.specs.Prelude.{if◌then◌else◌, slice_set}
 use Rattle.std.proofs.lemmas.Bool.Decides.{nat_tests}
-use Rattle.chip_captures.specs.Captures.{Captures, capture_at as chip_capture, pin_of, is_pin, channels_at, acting, caught, closed, after_edge}
-use Rattle.chip_captures.specs.declared.capture.Act.TheVariants.{Catch}
-use Rattle.chip_captures.specs.declared.capture.Capture as chips
+use Rattle.chip_blocks.specs.captures.Captures.{Captures, capture_at as chip_capture, pin_of, is_pin, channels_at, acting, caught, closed, after_edge}
+use Rattle.chip_blocks.specs.declared.captures.capture.Act.TheVariants.{Catch}
+use Rattle.chip_blocks.specs.declared.captures.capture.Capture as chips
 use Rattle.chip_model.specs.Chip.{Chip, outside_at, is_other, levelled}
 use Rattle.mcal_base.proofs.BitLaws.{get_or-at_bits, has_bit-bits_of}
 use Rattle.mcal_base.specs.declared.directive.Order.TheVariants.{Level}
 use Rattle.run_model.specs.World.{World}
 use Rattle.run_model.specs.Outside.{StandsIn}
-use Rattle.icu_machine.specs.Edges.{is_same}
+use Rattle.module_machines.specs.icu.Edges.{is_same}
 use Rattle.icu_driver.specs.Refinement.{Lag, CaptureAgrees, BlockAgrees, WiredAs, FitsIcu, pin_by}
-use Rattle.icu_machine.specs.Machine.{IcuState, Capture, capture_at, by_channel, edge_at_pin, edge_taken, moved}
-use Rattle.icu_machine.specs.Table.{channel_of}
-use Rattle.icu_machine.specs.declared.table.Channel.{Channel}
-use Rattle.icu_machine.specs.declared.table.IcuTable.{IcuTable}
+use Rattle.module_machines.specs.icu.Machine.{IcuState, Capture, capture_at, by_channel, edge_at_pin, edge_taken, moved}
+use Rattle.module_machines.specs.icu.Table.{channel_of}
+use Rattle.module_machines.specs.declared.icu.table.Channel.{Channel}
+use Rattle.module_machines.specs.declared.icu.table.IcuTable.{IcuTable}
 use Rattle.icu_driver.specs.laws.Parts.{edge_agrees}
-use Rattle.icu_machine.specs.laws.Channels.{by_channel_at}
+use Rattle.module_machines.specs.icu.laws.Channels.{by_channel_at}
 
 -- a channel of the block after an edge
 caught_at : (b : Captures) (pin c : ℕ) (rising : Bool) → length b.captures ≡ 8 → c < 8 → chip_capture (after_edge b pin rising) c ≡ (if is_pin (pin_of b c) pin then caught b.time rising (chip_capture b c) else chip_capture b c)

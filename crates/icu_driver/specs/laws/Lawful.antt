@@ -18,7 +18,7 @@ use Rattle.icu_driver.specs.laws.{Look.{allowed, sizes_of, edges_of, is_stop, un
 use Rattle.icu_driver.specs.laws.{Look.{asked_word}, Measure.{measure_bodies, measure_right}, SampleRight.{sample_bodies}}
 use Rattle.icu_driver.specs.laws.{SampleRight.{sample_right}, Stamp.{stamp_bodies, stamp_right}, Windows.{icu_seen}}
 use Rattle.icu_driver.specs.laws.{Windows.{icu_sees}}
-use Rattle.icu_machine.specs.declared.call.Call.TheVariants as calls
+use Rattle.module_machines.specs.declared.icu.call.Call.TheVariants as calls
 use Rattle.icu_driver.specs.declared.service.count.CountBody.TheVariants as counts
 use Rattle.icu_driver.specs.declared.service.keep.KeepBody.TheVariants as keeps
 use Rattle.icu_driver.specs.declared.service.sample.SampleBody.TheVariants as samples

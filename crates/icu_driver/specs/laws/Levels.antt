@@ -1,10 +1,10 @@
 -- An outside level is set: words and registers agree with the machine as before.
--- From EdgeWords, icu_machine: Edges, Alternation, Later, icu_machine: Channels.
+-- From EdgeWords, module_machines: icu.Edges, Alternation, Later, module_machines: icu.Channels.
 -- Used by Over.
 use Rattle.std.proofs.Common.{◌≡◌, ℕ, ◌+◌, ◌<◌, Bool, true, false, length, refl, sym, ◌∙◌, ap, subst}
 use Rattle.std.specs.Prelude.{if◌then◌else◌, is_some}
-use Rattle.chip_captures.specs.Captures.{pin_of, channels_at, acting}
-use Rattle.chip_captures.specs.declared.capture.Act.TheVariants.{Catch}
+use Rattle.chip_blocks.specs.captures.Captures.{pin_of, channels_at, acting}
+use Rattle.chip_blocks.specs.declared.captures.capture.Act.TheVariants.{Catch}
 use Rattle.chip_model.specs.Chip.{Chip, happened, word_of}
 use Rattle.chip_model.proofs.HistoryLaws.{level_leaves}
 use Rattle.mcal_base.specs.Bits.{has_bit}
@@ -12,15 +12,15 @@ use Rattle.mcal_base.proofs.BitLaws.{length-at_bits}
 use Rattle.mcal_base.specs.declared.directive.Order.TheVariants.{Level}
 use Rattle.run_model.specs.World.{World, world_after}
 use Rattle.run_model.proofs.OutsideLaws.{stands-event}
-use Rattle.icu_machine.specs.Edges.{is_same}
+use Rattle.module_machines.specs.icu.Edges.{is_same}
 use Rattle.icu_driver.specs.Refinement.{Lag, FitsIcu, IcuRepresents, ChannelWords, IsCourse, HasTurns, IsClean, all_are, state_word}
-use Rattle.icu_machine.specs.Machine.{IcuState, Capture, capture_at, by_channel, edge_at_pin, moved, stamp_in}
-use Rattle.icu_machine.specs.Table.{channel_of}
-use Rattle.icu_machine.specs.declared.table.IcuTable.{IcuTable}
+use Rattle.module_machines.specs.icu.Machine.{IcuState, Capture, capture_at, by_channel, edge_at_pin, moved, stamp_in}
+use Rattle.module_machines.specs.icu.Table.{channel_of}
+use Rattle.module_machines.specs.declared.icu.table.IcuTable.{IcuTable}
 use Rattle.icu_driver.specs.laws.EdgeWords.{words_still, pin_off_same, pin_course, place_still}
 use Rattle.icu_driver.specs.laws.Later.{level_block}
-use Rattle.icu_machine.specs.laws.Edges.{still, pin_still}
-use Rattle.icu_machine.specs.laws.Channels.{by_channel_at}
+use Rattle.module_machines.specs.icu.laws.Edges.{still, pin_still}
+use Rattle.module_machines.specs.icu.laws.Channels.{by_channel_at}
 use Rattle.icu_driver.specs.laws.Alternation.{pin_turns, pin_kept}
 
 module _ (d : IcuTable) (fits : FitsIcu d) (gap : Lag) (chip : Chip) (w : World) (s : IcuState) (pin : ℕ) (v : Bool) (h : IcuRepresents d gap chip w s) where

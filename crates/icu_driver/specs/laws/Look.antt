@@ -9,8 +9,8 @@ use Terms.{EnableNotification, error_by, ErrorName, errors_of, facts_by, false, 
 use Rattle.icu_driver.specs.laws.{Base.{no_answer, Nothing}, Bodies.{IcuBody, init_body, deinit_body, change_body}}
 use Rattle.icu_driver.specs.laws.{Bodies.{count_body, gate_body, stamp_body, measure_body, duty_body}}
 use Rattle.mcal_base.specs.declared.service.Service.TheVariants as services
-use Rattle.icu_machine.specs.declared.call.Call.TheVariants as calls
-use Rattle.icu_machine.specs.declared.table.Channel as configured
+use Rattle.module_machines.specs.declared.icu.call.Call.TheVariants as calls
+use Rattle.module_machines.specs.declared.icu.table.Channel as configured
 use Rattle.icu_driver.specs.declared.service.change.ChangeBody.TheVariants as changes
 use Rattle.icu_driver.specs.declared.service.count.CountBody.TheVariants as counts
 use Rattle.icu_driver.specs.declared.service.deinit.DeInitBody.TheVariants as deinits

@@ -7,19 +7,19 @@ use Terms.{acted, acting, ActiveIs, After, AllByRecursion, and_parts, answers, a
 use Terms.{begins_rising, below_test, bit_of, Bodies, Bool, Call, Capture, capture_at, CaptureAgrees, CaptureFlush}
 use Terms.{CaptureGateSet, Captures, channel_of, Chip, chip_after, chip_capture, cons_option, DutyCycle, Edge}
 use Terms.{ends_rising, eq_self, false, filter_map, flushed, GetTimeElapsed, Hand, handed, HasTurns, HighTime, icu_ground, IcuTable, IcuRepresents, IcuSignalMeasurementProperty, IcuState, Is_after, Is_before, is_counter, is_duty_cycle, is_measurement, is_some, is_timestamp, Lag, length-at_bits, List, Load, LowTime, MeasureBody, measured_edges, ModeWords, newest, None, none, not, not-true, numbers, off_on, opening, Option, or_true, Origin, outcome, PeriodTime, refl, seen_by, seen_number, settled, SignalMeasurement, Some, stands-move, started, StartSignalMeasurement, Store, subst, switched, sym, Told, true, Unhand, Unsee, value_of, value_or, ValueIs, values, values_by, values_none, waiting_value, with_capture, word_of, World, Write, ℕ}
-use Rattle.icu_machine.specs.declared.call.Call.TheVariants.{Channel}
+use Rattle.module_machines.specs.declared.icu.call.Call.TheVariants.{Channel}
 use Rattle.icu_driver.specs.declared.service.measure.MeasureBody.TheVariants.{Open, Empty, Waits, Value}
 use Rattle.icu_driver.specs.laws.{Base.{Move, no_answer, BodyTaken, goes, acts_on, ends, number, Nothing, Shortens}}
 use Rattle.icu_driver.specs.laws.{Base.{word, bit, SWITCHES, SIZES, VALUES, TIMES}, Calls.{MayCall, acts_is, measures}}
 use Rattle.icu_driver.specs.laws.{Calls.{to_mode, from_mode, is_there, counting, place_by, switched_course, opening_at}}
 use Rattle.icu_driver.specs.laws.{Calls.{bare_at, may_row}, Change.{as_course}, Channels.{emptied_agrees, block_as}}
 use Rattle.icu_driver.specs.laws.{Gate.{opened}, One.{IsRow, ChannelAgrees, channel_agrees, one_agrees, settled_at}}
-use Rattle.icu_machine.specs.laws.{Channels.{with_same}}
+use Rattle.module_machines.specs.icu.laws.{Channels.{with_same}}
 use Rattle.icu_driver.specs.laws.{One.{with_state, left_same, left_channel, channel_new, gate_new, word_new}}
 use Rattle.icu_driver.specs.laws.{Rows.{rows_of, rows_behind, rows_at, row_others, row_stored, New_waits, New_seen}}
 use Rattle.icu_driver.specs.laws.{Rows.{measure_closed}, Steady.{calm_at, AllGood, steady, steady_right}}
-use Rattle.chip_captures.specs.declared.capture.Act.TheVariants as turns
-use Rattle.icu_machine.specs.declared.table.Channel as configured
+use Rattle.chip_blocks.specs.declared.captures.capture.Act.TheVariants as turns
+use Rattle.module_machines.specs.declared.icu.table.Channel as configured
 
 abbrev pub measure_work : MeasureBody → Move
 measure_work (Open c) = Write CaptureGateSet (bit c)

@@ -1,13 +1,13 @@
 -- One channel under a step: the other ones are as they were.
--- From service_outline: Words, icu_machine: Channels, service_outline: SweepWords.
+-- From service_outline: Words, module_machines: icu.Channels, service_outline: SweepWords.
 -- Used by KeepRight, Change, DeInit, Stamp, SampleRight and 8 more.
 use Rattle.std.proofs.Common.{◌≡◌, ◌≢◌, ◌+◌, ◌%◌, ◌<◌, ◌≤◌, ◌^◌, ◌||◌, ◌∙◌, if◌then◌else◌}
-use Rattle.icu_machine.specs.laws.Channels.{with_other}
+use Rattle.module_machines.specs.icu.laws.Channels.{with_other}
 use Rattle.icu_driver.specs.Terms
 use Terms.{Act, acted, acting, ActiveIs, all_are, ap, arith, bit, Bool, Capture, capture_at}
 use Terms.{CaptureAgrees, Captures, Channel, channel_of, ChannelWords, Chip, chip_after, chip_capture, chip_with}
 use Terms.{closed, each_but, EdgeCounter, false, get_or-at_bits, get_or-set_other, get_or-set_same, has_bit, has_bit-pow_other, has_bit-pow_same, HasPlace, HasTurns, IcuTable, IcuMeasurementMode, IcuRepresents, IcuState, INTERVALS, is_some, IsClean, IsCourse, Lag, length, length-at_bits, length-set, MARKS, ModeWords, nat_lt, nat_tests, None, off_on, OppositeIs, Option, place_of, PLACES, refl, seen_by, settled, SignalEdgeDetect, SignalMeasurement, SIZES, slice_index_or, Some, stamp_in, Stamped, Stamps, stands-move, StandsIn, StartIs, STATE, state_word, Store, stored_other, stored_same, subst, SWITCHES, sym, TIMES, Timestamp, true, ValueIs, VALUES, waiting_value, with_capture, word, word_of, WORDS, World, ℕ}
-use Rattle.chip_captures.specs.declared.capture.Capture as chips
+use Rattle.chip_blocks.specs.declared.captures.capture.Capture as chips
 
 -- ---- rows of words
 

@@ -3,8 +3,8 @@
 -- Used by RefinementRight.
 use Rattle.std.proofs.Common.{◌≡◌, ℕ, ◌+◌, ◌<◌, ◌≤◌, ◌||◌, Bool, true, length, List, ◌++◌, Option, Some, None, refl, sym, ◌∙◌, ap, subst, arith}
 use Rattle.std.specs.Prelude.{slice_index_or, is_some}
-use Rattle.chip_captures.specs.Captures.{closed}
-use Rattle.chip_captures.specs.declared.capture.Capture as chips
+use Rattle.chip_blocks.specs.captures.Captures.{closed}
+use Rattle.chip_blocks.specs.declared.captures.capture.Capture as chips
 use Rattle.chip_model.specs.Chip.{Chip, happened, word_of, is_masked}
 use Rattle.mcal_base.specs.Bits.{has_bit}
 use Rattle.mcal_base.specs.declared.config.icu.IcuMeasurementMode.{IcuMeasurementMode}
@@ -19,13 +19,13 @@ use Rattle.run_model.specs.Outside.{StandsIn}
 use Rattle.run_model.proofs.OutsideLaws.{stands-event}
 use Rattle.service_outline.specs.Outline.{Comes}
 use Rattle.service_outline.specs.laws.Words.{word_later, fills_there}
-use Rattle.icu_machine.specs.Bounds.{icu_setting}
+use Rattle.module_machines.specs.icu.Bounds.{icu_setting}
 use Rattle.icu_driver.specs.Refinement.{Lag, FitsIcu, IcuRepresents, CaptureAgrees, ChannelWords, ModeWords, Stamped, ValueIs, ActiveIs, StartIs, OppositeIs, HasTurns, Alternate, EndsAt, waiting_value, seen_by}
-use Rattle.icu_machine.specs.Machine.{IcuState, Capture, capture_at, moved}
-use Rattle.icu_machine.specs.Table.{channel_of}
+use Rattle.module_machines.specs.icu.Machine.{IcuState, Capture, capture_at, moved}
+use Rattle.module_machines.specs.icu.Table.{channel_of}
 use Rattle.icu_driver.specs.Words.{word}
-use Rattle.icu_machine.specs.declared.table.Channel.{Channel}
-use Rattle.icu_machine.specs.declared.table.IcuTable.{IcuTable}
+use Rattle.module_machines.specs.declared.icu.table.Channel.{Channel}
+use Rattle.module_machines.specs.declared.icu.table.IcuTable.{IcuTable}
 use Rattle.icu_driver.specs.declared.words.TheConstants.{STATE, MARKS, INTERVALS, PLACES, VALUES, TIMES}
 use Rattle.icu_driver.specs.laws.Levels.{level_agrees}
 

@@ -1,21 +1,21 @@
 -- An edge, and what a frame writes to gates, queues and counts: block and machine do the same.
--- From icu_machine: Edges.
+-- From module_machines: icu.Edges.
 -- Used by Steady, Later.
 use Rattle.std.proofs.Common.{◌≡◌, ℕ, suc, ◌+◌, ◌%◌, ◌^◌, Bool, true, false, ◌&&◌, ◌||◌, not, nat_lt, List, [], ◌∷◌, ◌++◌, length, Some, refl, sym, ◌∙◌, ap, subst}
 use Rattle.std.specs.Prelude.{if◌then◌else◌, map}
-use Rattle.chip_captures.specs.Captures.{take_edge, caught, chooses as chip_chooses}
-use Rattle.chip_captures.specs.declared.capture.Capture as chips
-use Rattle.chip_captures.specs.declared.capture.Condition.TheVariants as conditions
-use Rattle.chip_captures.specs.declared.capture.Mode.{Mode}
-use Rattle.chip_captures.specs.declared.capture.Mode.TheVariants.{Keeps, Counts}
+use Rattle.chip_blocks.specs.captures.Captures.{take_edge, caught, chooses as chip_chooses}
+use Rattle.chip_blocks.specs.declared.captures.capture.Capture as chips
+use Rattle.chip_blocks.specs.declared.captures.capture.Condition.TheVariants as conditions
+use Rattle.chip_blocks.specs.declared.captures.capture.Mode.{Mode}
+use Rattle.chip_blocks.specs.declared.captures.capture.Mode.TheVariants.{Keeps, Counts}
 use Rattle.mcal_base.specs.declared.config.icu.IcuStartEdge.{IcuStartEdge}
 use Rattle.mcal_base.specs.declared.config.icu.IcuStartEdge.TheVariants.{Rising, Falling, Both}
-use Rattle.icu_machine.specs.Edges.{Edge}
+use Rattle.module_machines.specs.icu.Edges.{Edge}
 use Rattle.icu_driver.specs.Refinement.{CaptureAgrees, kept, chosen, condition_by, mode_by, bare}
-use Rattle.icu_machine.specs.Machine.{Capture, edge_queued, is_taken, edge_taken}
-use Rattle.icu_machine.specs.Table.{is_counter, is_measurement, chooses}
-use Rattle.icu_machine.specs.declared.table.Channel.{Channel}
-use Rattle.icu_machine.specs.laws.Edges.{see_if, taken-still}
+use Rattle.module_machines.specs.icu.Machine.{Capture, edge_queued, is_taken, edge_taken}
+use Rattle.module_machines.specs.icu.Table.{is_counter, is_measurement, chooses}
+use Rattle.module_machines.specs.declared.icu.table.Channel.{Channel}
+use Rattle.module_machines.specs.icu.laws.Edges.{see_if, taken-still}
 
 -- ---- lists of edges
 

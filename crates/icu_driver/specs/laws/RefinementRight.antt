@@ -1,13 +1,13 @@
 -- The ground keeps what it owes: under moves elsewhere, at rest, at notices and errors.
--- From service_outline: Words, Over, service_outline: There, Fresh, icu_machine: Channels.
+-- From service_outline: Words, Over, service_outline: There, Fresh, module_machines: icu.Channels.
 -- Used by Lawful, Keeps, KeepRight, Init, Fits and 9 more.
 use Rattle.std.proofs.Common.{◌≡◌, ℕ, suc, ◌+◌, ◌-◌, ◌/◌, ◌%◌, ◌*◌, ◌<◌, ◌≤◌, ◌^◌, Bool, true, false, ◌&&◌, ◌||◌, ◌==◌, not, nat_lt, List, [], ◌∷◌, length, map, Option, Some, None, refl, sym, ◌∙◌, ap, subst, arith}
 use Rattle.std.specs.Prelude.{is_some, IsSome, if◌then◌else◌}
 use Rattle.std.proofs.lemmas.Bool.Decides.{nat_tests}
 use Rattle.std.proofs.lemmas.Bool.{and_parts, or_left, or_right}
 use Rattle.mcal_base.specs.facts.Truths.{clear_apart, set_apart}
-use Rattle.chip_captures.specs.Captures.{capture_at as chip_capture, is_waiting}
-use Rattle.chip_captures.specs.declared.capture.Edge as chip_edges
+use Rattle.chip_blocks.specs.captures.Captures.{capture_at as chip_capture, is_waiting}
+use Rattle.chip_blocks.specs.declared.captures.capture.Edge as chip_edges
 use Rattle.chip_model.specs.Chip.{Chip, chip_after, after_read, is_pending}
 use Rattle.chip_model.specs.Histories.{sets_rate}
 use Rattle.chip_model.proofs.HistoryLaws.{rate-left}
@@ -30,23 +30,23 @@ use Rattle.service_outline.specs.Outline.{IsGround}
 use Rattle.mcal_base.specs.There.{names_there}
 use Rattle.mcal_base.specs.laws.There.{move_there}
 use Rattle.service_outline.specs.laws.Words.{stores_in, word_apart}
-use Rattle.icu_machine.specs.Bounds.{is_capture, is_for_lines, may_write, is_own_word, is_stamp, may_name, icu_may, channel_count}
-use Rattle.icu_machine.specs.Checks.{error_by, service_of, channel_service}
-use Rattle.icu_machine.specs.Edges.{Edge}
+use Rattle.module_machines.specs.icu.Bounds.{is_capture, is_for_lines, may_write, is_own_word, is_stamp, may_name, icu_may, channel_count}
+use Rattle.module_machines.specs.icu.Checks.{error_by, service_of, channel_service}
+use Rattle.module_machines.specs.icu.Edges.{Edge}
 use Rattle.icu_driver.specs.Refinement.{has_lines, owns_written, icu_owns, FitsIcu, Lag, settled, kept, IcuRepresents, icu_ground}
-use Rattle.icu_machine.specs.Machine.{IcuState, first_state, capture_at, work, asked, acts_by, happens, ready, ready_by, waits, is_on}
-use Rattle.icu_machine.specs.Table.{channel_of, channel_of_line, channel_number}
-use Rattle.icu_machine.specs.declared.call.Call.{Call}
-use Rattle.icu_machine.specs.declared.call.Call.TheVariants.{Init, DeInit}
-use Rattle.icu_machine.specs.declared.call.Call.TheVariants as calls
-use Rattle.icu_machine.specs.declared.call.ChannelCall.{ChannelCall}
-use Rattle.icu_machine.specs.declared.call.ChannelCall.TheVariants.{SetActivationCondition}
-use Rattle.icu_machine.specs.declared.table.Channel.{Channel}
-use Rattle.icu_machine.specs.declared.table.IcuTable.{IcuTable}
+use Rattle.module_machines.specs.icu.Machine.{IcuState, first_state, capture_at, work, asked, acts_by, happens, ready, ready_by, waits, is_on}
+use Rattle.module_machines.specs.icu.Table.{channel_of, channel_of_line, channel_number}
+use Rattle.module_machines.specs.declared.icu.call.Call.{Call}
+use Rattle.module_machines.specs.declared.icu.call.Call.TheVariants.{Init, DeInit}
+use Rattle.module_machines.specs.declared.icu.call.Call.TheVariants as calls
+use Rattle.module_machines.specs.declared.icu.call.ChannelCall.{ChannelCall}
+use Rattle.module_machines.specs.declared.icu.call.ChannelCall.TheVariants.{SetActivationCondition}
+use Rattle.module_machines.specs.declared.icu.table.Channel.{Channel}
+use Rattle.module_machines.specs.declared.icu.table.IcuTable.{IcuTable}
 use Rattle.icu_driver.specs.declared.words.TheConstants.{STATE}
 use Rattle.icu_driver.specs.laws.Fresh.{reset_agrees}
 use Rattle.icu_driver.specs.laws.Over.{same_agrees, later_agrees}
-use Rattle.icu_machine.specs.laws.Channels.{by_eight}
+use Rattle.module_machines.specs.icu.laws.Channels.{by_eight}
 
 -- ---- channels and lines by number
 

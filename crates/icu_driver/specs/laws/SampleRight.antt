@@ -12,7 +12,7 @@ use Rattle.icu_driver.specs.laws.{Base.{MARKS, SIZES, INTERVALS, PLACES, VALUES,
 use Rattle.icu_driver.specs.laws.{Calls.{place_by, may_row}, Change.{as_course}, Channels.{popped_agrees, block_as}}
 use Rattle.icu_driver.specs.laws.{Count.{halves_join}, DetectSteps.{serves}, Handler.{is_whole}, Measure.{OfSome, IsOne}}
 use Rattle.icu_driver.specs.laws.{Measure.{waits_single}, One.{IsRow, ChannelAgrees, channel_agrees, one_agrees}}
-use Rattle.icu_machine.specs.laws.{Channels.{with_same}}
+use Rattle.module_machines.specs.icu.laws.{Channels.{with_same}}
 use Rattle.icu_driver.specs.laws.{One.{settled_at, same_state, with_state, left_same, left_latched}}
 use Rattle.icu_driver.specs.laws.{One.{left_channel, channel_new, word_new}, Rows.{rows_of, rows_behind, behind_row}}
 use Rattle.icu_driver.specs.laws.{Rows.{rows_at, row_others, row_stored, New_waits, New_mark, New_seen, New_start}}

@@ -6,7 +6,7 @@ use Rattle.std.proofs.Common.{if◌then◌else◌}
 use Rattle.icu_driver.specs.Terms
 use Terms.{AllByRecursion, ap, arith, bit_of, Bool, Capture, capture_at, Channel, channel_of, channel_of_line, Chip, DevError, Edge, error_in, false, happens, icu_machine, IcuTable, IcuRepresents, IcuState, info_of, IsCourse, kinds_by, length, List, missed_after, nat_lt, nat_tests, None, not, Notice, NoticeKind, notices_in, notices_of, Option, outcome, ready, ready_by, refl, served, served_by, served_edge, Serves, settled, Some, subst, suc, sym, Told, true, waits, with_capture, World, ℕ}
 use Rattle.icu_driver.specs.laws.{Base.{line, no_answer}, DetectSteps.{owed_if}, Steady.{oldest}}
-use Rattle.chip_captures.specs.declared.capture.Edge as chip_edges
+use Rattle.chip_blocks.specs.declared.captures.capture.Edge as chip_edges
 
 -- ---- the line of a channel
 

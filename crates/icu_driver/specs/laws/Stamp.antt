@@ -7,7 +7,7 @@ use Terms.{acted, acting, acts_by, After, AllByRecursion, answers, ap, AreRight,
 use Terms.{below_test, Bodies, Bool, Call, Called, Capture, capture_at, CaptureAgrees, CaptureFlush, CaptureGateClear}
 use Terms.{CaptureGateSet, Captures, channel_of, Chip, chip_after, chip_capture, Cleans, Done, Empty, emptying}
 use Terms.{Epilogue, eq_other, eq_self, error_by, error_told, false, flushed, GetTimestampIndex, HasPlace, icu_ground, icu_machine, IcuTable, IcuNotStarted, IcuRepresents, IcuState, index, index_by, interval_by, Is_after, Is_before, is_counter, Is_fresh, is_linear, is_measurement, Is_on, is_some, Is_stopped, is_timestamp, IsStart, KeepsClean, Lag, left_by, length, length-at_bits, List, Load, mark_in, missed_after, ModeWords, nat_tests, None, none, not, off_on, On, opening, Option, Origin, outcome, owed_error, refl, reporting, settled, size_word, slice_index_or, Some, StampBody, Stamped, Stamping, stamps_edges, StampWords, stands-move, Start, Started, started, StartTimestamp, StepsTo, still, StopTimestamp, Store, subst, switched, sym, tells_error, TellsAs, Timestamp, Told, true, with_capture, word_of, World, Write, ℕ}
-use Rattle.icu_machine.specs.declared.call.Call.TheVariants.{Channel}
+use Rattle.module_machines.specs.declared.icu.call.Call.TheVariants.{Channel}
 use Rattle.icu_driver.specs.declared.service.stamp.StampBody.TheVariants.{Open, Size, Interval, Index, Left, Look}
 use Rattle.icu_driver.specs.declared.service.stamp.StampBody.TheVariants.{Close, Drop, Off}
 use Rattle.icu_driver.specs.laws.{Base.{Move, Act, no_answer, BodyTaken, goes, acts_on, ends, number, Nothing}}
@@ -16,14 +16,14 @@ use Rattle.icu_driver.specs.laws.{Base.{VALUES}, Calls.{MayCall, acts_is, stamps
 use Rattle.icu_driver.specs.laws.{Calls.{counting, turns_by, switched_course, off_place, off_turns, opening_at}}
 use Rattle.icu_driver.specs.laws.{Calls.{bare_at, calm_on, may_row}, Channels.{emptied_agrees, closed_agrees}}
 use Rattle.icu_driver.specs.laws.{Channels.{dropped_agrees, block_as}, Gate.{opened}, One.{IsAt, IsRow, ChannelAgrees}}
-use Rattle.icu_machine.specs.laws.{Channels.{with_same}}
+use Rattle.module_machines.specs.icu.laws.{Channels.{with_same}}
 use Rattle.icu_driver.specs.laws.{One.{channel_agrees, one_agrees, settled_at, same_state, with_state}}
 use Rattle.icu_driver.specs.laws.{One.{left_same, left_channel, left_gate, channel_new, gate_new, word_new}}
 use Rattle.icu_driver.specs.laws.{Rows.{has_row, rows_of, rows_behind, behind_row, rows_at, row_others, row_stored}}
 use Rattle.icu_driver.specs.laws.{Rows.{still_not}, Steady.{without_edges, calm_at, AllGood, fronted, fronted_right}}
-use Rattle.chip_captures.specs.declared.capture.Act.TheVariants as turns
+use Rattle.chip_blocks.specs.declared.captures.capture.Act.TheVariants as turns
 use Rattle.mcal_base.specs.declared.service.Service.TheVariants as services
-use Rattle.icu_machine.specs.declared.table.Channel as configured
+use Rattle.module_machines.specs.declared.icu.table.Channel as configured
 
 abbrev pub stamp_work : StampBody → Move
 stamp_work (Open r) = Write CaptureGateSet (bit r.channel)

@@ -1,12 +1,12 @@
 -- What a family of bodies owes: what its places rest on stays while the hardware moves.
--- From icu_machine: Channels, icu_machine: Edges, Parts, service_outline: Acts, Tables and 1 more.
+-- From module_machines: icu.Channels, module_machines: icu.Edges, Parts, service_outline: Acts, Tables and 1 more.
 -- Used by SampleRight, KeepRight, Change, DetectRight, Duty and 8 more.
 use Rattle.std.proofs.Common.{◌≡◌, ◌+◌, ◌%◌, ◌<◌, ◌^◌, ◌==◌, [], ◌∷◌, ◌++◌, ◌∙◌, if◌then◌else◌}
 use Rattle.icu_driver.specs.Terms
 use Terms.{acting, ap, AreRight, arith, At, at_bits, bare, bare_block, Bodies, BodyTaken, Bool, by_channel}
 use Terms.{by_channel_at, by_if, Call, Capture, capture_at, Captures, Catch, caught-bare, Channel, channel_of}
 use Terms.{channels_at, Chip, Cleans, Edge, edge_at_pin, edge_queued, edge_taken, enumerate_from, false, Fill, happened, has_bit, icu_ground, icu_may, IcuTable, IcuState, is_counter, is_same, is_taken, Lag, length, Level, level_leaves, List, map, marks_of, Move, moved, nat_lt, never_clean, None, not, Option, Order, Origin, pin_still, refl, RightAt, same_marks, Shortens, Some, still, subst, sym, Told, true, word_later, word_of, WORDS, World, ℕ}
-use Rattle.chip_captures.specs.declared.capture.Capture as chips
+use Rattle.chip_blocks.specs.declared.captures.capture.Capture as chips
 
 -- ---- the block, but for what edges change
 

@@ -1,10 +1,10 @@
 -- The channels of a state, by number.
--- From icu_machine: Channels.
+-- From module_machines: icu.Channels.
 -- Used by Steady, Stamp.
 use Rattle.std.proofs.Common.{◌≡◌, ℕ, ◌<◌, ◌≤◌, [], ◌∷◌, refl, arith}
 use Rattle.std.specs.Prelude.{slice_index_or}
 use Rattle.chip_model.specs.Chip.{Chip, word_of}
-use Rattle.icu_machine.specs.laws.Channels.{by_eight}
+use Rattle.module_machines.specs.icu.laws.Channels.{by_eight}
 use Rattle.icu_driver.specs.Refinement.{marks_of}
 use Rattle.icu_driver.specs.Words.{word}
 use Rattle.icu_driver.specs.declared.words.TheConstants.{STATE, MARKS}

@@ -2,8 +2,8 @@ ghost use Rattle.std.specs.Prelude.{◌≡◌};
 ghost use Rattle.icu_driver.specs.laws.DeInit as spec;
 
 use crate::words::{CHANNELS, LINES, MARKS, STATE, SWITCHES, word};
-use icu_machine::IcuTable;
 use mcal_base::{IcuMeasurementMode, Move, Reg};
+use module_machines::icu::IcuTable;
 use service_outline::{Body, BodyTaken, Epilogue, acts, ends, goes, nothing};
 
 /// `Icu_DeInit`, from the load of the state word on.

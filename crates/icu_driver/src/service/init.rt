@@ -2,8 +2,8 @@ ghost use Rattle.std.specs.Prelude.{◌≡◌};
 ghost use Rattle.icu_driver.specs.Words as spec;
 
 use crate::words::{LINES, STATE};
-use icu_machine::{Channel, IcuTable};
 use mcal_base::{IcuMeasurementMode, IcuStartEdge, Move, Reg};
+use module_machines::icu::{Channel, IcuTable};
 use service_outline::{Body, BodyTaken, Epilogue, acts_with, goes, nothing};
 
 /// `Icu_Init`, from the load of the state word on.

@@ -9,7 +9,7 @@ use Rattle.run_model.specs.Legal.{IsLegal}
 use Rattle.run_model.specs.Moment.{start_moment}
 use Rattle.run_model.specs.Script.{deeds_of}
 use Rattle.script_runner.specs.Scripts.{chip_for}
-use Rattle.icu_machine.specs.declared.table.IcuTable.{IcuTable}
+use Rattle.module_machines.specs.declared.icu.table.IcuTable.{IcuTable}
 use Rattle.adc_driver.specs.declared.driver.AdcDriver.{AdcDriver}
 use Rattle.spi_driver.specs.declared.driver.SpiDriver.{SpiDriver}
 use Rattle.mcal_drivers.specs.Drivers.{drivers_of, system}

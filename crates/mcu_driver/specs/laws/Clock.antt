@@ -9,8 +9,8 @@ use Terms.{DistributePllClock, ends, ENotOk, EOk, Epilogue, error_by, error_told
 use Terms.{goes, InitClock, is_locked, Is_this_frame, isnt_zero, IsSlowPll, IsThisFrame, LongBodies, Look, may, mcu_basis, mcu_machine, McuTable, McuPllNotLocked, McuRepresents, McuState, Move, multiplier_of, named, nat_le, nat_tests, None, not, Nothing, Option, Origin, outcome, owing, Pll, pll_of, Read, refl, Reservations, resets_chip, Shortens, Some, Start, subst, sym, Take, tells_error, true, value_of, World, Write, ℕ}
 use Rattle.mcu_driver.specs.laws.{Base.{plain, WorksTo, plain_right, acted}, RefinementRight.{all_moved}, Look.{MayAct}}
 use Rattle.mcu_driver.specs.laws.{Look.{locks, unlocked_owed}, Query.{lock_here}}
-use Rattle.chip_units.specs.Clock as block
-use Rattle.mcu_machine.specs.declared.call.Call.TheVariants as calls
+use Rattle.chip_blocks.specs.units.Clock as block
+use Rattle.module_machines.specs.declared.mcu.call.Call.TheVariants as calls
 
 abbrev pub clock_work : ClockBody → Move
 clock_work (Start m) = Write ClockPll m

@@ -6,13 +6,13 @@ use Rattle.std.specs.Prelude.{bit_and}
 use Rattle.port_driver.specs.Terms
 use Terms.{all-step, AllLet, ap, arith, bit_of, blocks, Bool, Chip, chip_after, Directions, false, Fixed, has_bit}
 use Terms.{HasAll, inl, inr, is_guests, is_out, IsWhole, length, Levels, List, Made, mark_of, Move, nat_tests, not, owns, pin_at, pin_of, PinFlip, PinsAgree, PinState, Port, port_setting, PortTable, PortPut, PortRepresents, PortState, rank_of, Read, refl, Reservations, services_driver, slice_index, STATE, subst, sym, true, wants, word_of, words-write, World, Write, ℕ}
-use Rattle.chip_units.specs.Pins as pins
-use Rattle.chip_units.proofs.PortLaws.{flip-in, flip-named, flip-other, put-in, put-named, put-spared}
+use Rattle.chip_blocks.specs.units.Pins as pins
+use Rattle.chip_blocks.proofs.of_units.PortLaws.{flip-in, flip-named, flip-other, put-in, put-named, put-spared}
 use Rattle.run_model.specs.Causes.{guarded}
-use Rattle.guest_runner.specs.Guest.{LetsIn}
-use Rattle.guest_runner.specs.OutlineLaws.{KeepsAgreeing, services-let}
-use Rattle.port_machine.specs.Bounds.{PinAgrees}
-use Rattle.port_machine.specs.Machine.{Put, Inverted, names_pin, with_change, with_latch}
+use Rattle.service_outline.specs.guests.Guest.{LetsIn}
+use Rattle.service_outline.specs.guests.OutlineLaws.{KeepsAgreeing, services-let}
+use Rattle.module_machines.specs.port.Bounds.{PinAgrees}
+use Rattle.module_machines.specs.port.Machine.{Put, Inverted, names_pin, with_change, with_latch}
 use Rattle.port_driver.specs.laws.{Halves.{length-after, put_none}, Lawful.{port, port_right}, RefinementRight.{basis_right}}
 use Rattle.port_driver.specs.laws.{RefinementRight.{pins_agree, put_mode_none}}
 

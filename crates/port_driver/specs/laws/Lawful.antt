@@ -16,7 +16,7 @@ use Rattle.port_driver.specs.laws.{Latches.{written_at, next_written, level_more
 use Rattle.port_driver.specs.laws.{Look.{looked_by, begins, direction_within, mode_within, mode_given, asked_word}}
 use Rattle.port_driver.specs.laws.{Pins.{pin_bodies, pin_right}, Ranks.{configured_few}, Refresh.{refresh_bodies}}
 use Rattle.port_driver.specs.laws.{Refresh.{refresh_right, Is_same}}
-use Rattle.port_machine.specs.declared.call.Call.TheVariants as calls
+use Rattle.module_machines.specs.declared.port.call.Call.TheVariants as calls
 use Rattle.port_driver.specs.declared.service.init.InitDone.TheVariants as inits
 
 abbrev pub port_bodies : (d : PortTable) → LongBodies (port_basis d) PortBody

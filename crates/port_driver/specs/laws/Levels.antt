@@ -4,7 +4,7 @@ use Rattle.std.proofs.Common.{◌≡◌, ◌<◌, if◌then◌else◌}
 use Rattle.port_driver.specs.Terms
 use Terms.{Adc, Bool, Dio, Icu, is_pulse, level_at, Option, pin_at, PinsAgree, PortPinMode, PortState, Pwm, refl, Spi}
 use Terms.{World, ℕ}
-use Rattle.chip_units.specs.Pins as pins
+use Rattle.chip_blocks.specs.units.Pins as pins
 
 same_pulse : (m : PortPinMode) → pins.is_pulse m ≡ is_pulse m
 same_pulse Adc = refl

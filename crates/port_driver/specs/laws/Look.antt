@@ -7,7 +7,7 @@ use Terms.{arith, Asked, bit_of, Bool, Call, Direction, Done, error_by, ErrorNam
 use Terms.{has_mode, Init, is_some, length, List, Looked, Mode, nat_lt, nat_tests, no_answer, None, none_holds, not, not-false, Nothing, Option, owed_error, Pin, pin_of, PortTable, PortPinDirection, PortPinMode, refl, RefreshPortDirection, Refused, reporting, service_of, SetPinDirection, SetPinMode, slice_index_or, Some, true, ℕ}
 use Rattle.port_driver.specs.declared.service.refresh.RefreshBody.TheVariants.{Write}
 use Rattle.port_driver.specs.laws.Bodies.{PortBody, init_body, refresh_body, pin_body}
-use Rattle.port_machine.specs.declared.call.Call.TheVariants as calls
+use Rattle.module_machines.specs.declared.port.call.Call.TheVariants as calls
 
 abbrev pub facts_of : Asked → ℕ → List Bool
 facts_of q word = facts_by q.driver q.call (word == 0)

@@ -12,7 +12,7 @@ use Rattle.port_driver.specs.laws.RefinementRight.{put_mode_none, written_agrees
 use Rattle.port_driver.specs.laws.RefinementRight.{may_halves, may_mode, IsSilentMove, calm_halves, sends_halves}
 use Rattle.port_driver.specs.laws.RefinementRight.{may_dry, dry_halves}
 use Rattle.port_driver.specs.laws.Halves.{halves_after, length-after, put_none, single_after}
-use Rattle.port_machine.specs.declared.call.Call.TheVariants as calls
+use Rattle.module_machines.specs.declared.port.call.Call.TheVariants as calls
 
 abbrev pub pin_work : PinBody → Move
 pin_work (Direction p x) = Write (register Directions (is_out x) (p / 32)) (2 ^ (p % 32))

@@ -12,7 +12,7 @@ use Terms.{Level, level_leaves, Levels, list_any, Load, lt_zero, Made, may, mode
 use Terms.{names_there, nat_lt, nat_tests, None, not, Option, Order, Origin, Outcome, outcome, owners, owns, past_wrote}
 use Terms.{Pin, pin_at, pin_of, PinDirectionClear, PinDirectionSet, PinFlip, PinMode, PinOutClear, PinOutSet, PinsAgree, port_basis, port_may, port_setting, PortTable, PortPinMode, PortPut, PortRepresents, PortState, PowerOn, put_mode, Pwm, rank_of, rate-left, Read, Reason, refl, Reg, register, Reservations, reset_chip, resets_chip, SendsRight, sets_rate, Side, slice_index, slice_index-blank, slice_set, Some, SOURCES, Spi, STATE, Steady, Store, stores_in, subst, suc, sym, tells_nothing, TimerLow, true, wants, WasReset, word_apart, word_later, word_of, words-write, World, world_after, Write, writes_latches, written_in, zero, ℕ}
 use Rattle.port_driver.specs.laws.Halves.{halves_after, put_none}
-use Rattle.chip_units.specs.Pins as pins
+use Rattle.chip_blocks.specs.units.Pins as pins
 
 pub put_mode_none : (k : Option Pin) (rank : ℕ) (old : PortPinMode) → put_mode k rank 0 old ≡ old
 put_mode_none None rank old = refl

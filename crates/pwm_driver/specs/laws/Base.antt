@@ -7,7 +7,7 @@ use Terms.{above, AreLong, AreRight, arith, AsksNone, Bodies, BodyTaken, Bool, C
 use Terms.{DisableNotification, EnableNotification, Entered, false, GetOutputState, happened, Init, is_reset_service}
 use Terms.{Lag, Level, level_leaves, LongBodies, Move, never_clean, Option, Order, Origin, over, Pulses, pwm_basis, pwm_may, PwmTable, PwmState, refl, Reservations, RightAt, service_of, SetDutyCycle, SetOutputToIdle, SetPeriodAndDuty, short, short_right, Shortens, subst, sym, Tick, Told, true, World, world_after, ℕ}
 use Rattle.service_outline.specs.Outline.{At}
-use Rattle.pwm_machine.specs.declared.call.Call.TheVariants.{Channel}
+use Rattle.module_machines.specs.declared.pwm.call.Call.TheVariants.{Channel}
 use Rattle.pwm_driver.specs.laws.RefinementRight.{basis_right, plain_move}
 
 -- what holds at a place, at a time

@@ -13,10 +13,10 @@ use Rattle.pwm_driver.specs.declared.service.deinit.DeInitBody.TheVariants.{Stor
 use Rattle.pwm_driver.specs.laws.{Base.{AllGood, steady_above, family, family_right}, Look.{Passed}, Units.{chip_with}}
 use Rattle.pwm_driver.specs.laws.{Units.{none_held, setup_kept, waved_at, off_lines, never, kinds_not_state}}
 use Rattle.pwm_driver.specs.laws.{Units.{kinds_not_period, idle_written}}
-use Rattle.chip_pulses.specs.Pulses as pulses
-use Rattle.chip_pulses.specs.declared.pulse.Output.TheVariants as units
-use Rattle.chip_pulses.specs.declared.pulse.Pulse as unit
-use Rattle.pwm_machine.specs.declared.call.Call.TheVariants as calls
+use Rattle.chip_blocks.specs.pulses.Pulses as pulses
+use Rattle.chip_blocks.specs.declared.pulses.pulse.Output.TheVariants as units
+use Rattle.chip_blocks.specs.declared.pulses.pulse.Pulse as unit
+use Rattle.module_machines.specs.declared.pwm.call.Call.TheVariants as calls
 
 abbrev pub rest_of : ℕ → Option Channel → Move
 rest_of c None = Load STATE

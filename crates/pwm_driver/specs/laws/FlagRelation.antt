@@ -1,14 +1,14 @@
 -- The flags of a pulse unit against the mark of its channel.
--- From pwm_machine: Relation.
+-- From module_machines: pwm.Relation.
 -- Used by Units, RefinementRight.
 use Rattle.std.proofs.Common.{◌≡◌, ◌||◌, ◌∙◌, ap, Bool, false, Some, subst, true, ℕ}
-use Rattle.chip_pulses.specs.Pulses as pulses
-use Rattle.chip_pulses.specs.Pulses.{changed_between}
-use Rattle.chip_pulses.specs.declared.pulse.Pulse as unit
-use Rattle.pwm_machine.specs.Machine.{is_marked_by, Pulse}
-use Rattle.pwm_machine.specs.Units.{chosen, IsBegun, output_in}
-use Rattle.pwm_machine.specs.laws.Relation.{chosen_same, chosen_or}
-use Rattle.pwm_machine.specs.declared.call.PwmEdge.{PwmEdge}
+use Rattle.chip_blocks.specs.pulses.Pulses as pulses
+use Rattle.chip_blocks.specs.pulses.Pulses.{changed_between}
+use Rattle.chip_blocks.specs.declared.pulses.pulse.Pulse as unit
+use Rattle.module_machines.specs.pwm.Machine.{is_marked_by, Pulse}
+use Rattle.module_machines.specs.pwm.Units.{chosen, IsBegun, output_in}
+use Rattle.module_machines.specs.pwm.laws.Relation.{chosen_same, chosen_or}
+use Rattle.module_machines.specs.declared.pwm.call.PwmEdge.{PwmEdge}
 use Rattle.pwm_driver.specs.Refinement.{MarkAgrees, MarksAgree, UnitAgrees}
 
 flagged_by : (edge : PwmEdge) (high : Bool) (now : ℕ) (p : unit.Pulse) (x : Pulse) → p.output ≡ output_in high x.output → IsBegun x.output x.since → MarkAgrees edge p x → (time : ℕ) → chosen edge (pulses.is_flagged true p time) (pulses.is_flagged false p time) ≡ is_marked_by (Some edge) high time x

@@ -1,5 +1,5 @@
 -- The flags of all channels: what a read gives, and what a write clears.
--- From Parts, pwm_machine: Channels, pwm_machine: Changes, service_outline: SweepWords, Units.
+-- From Parts, module_machines: pwm.Channels, module_machines: pwm.Changes, service_outline: SweepWords, Units.
 -- Used by Serve, Notify.
 use Rattle.std.proofs.Common.{◌≡◌, ◌≢◌, ◌+◌, ◌*◌, ◌/◌, ◌%◌, ◌<◌, ◌≤◌, ◌^◌, ◌&&◌, ◌||◌, ◌==◌, ◌∙◌, if◌then◌else◌}
 use Rattle.pwm_driver.specs.Terms
@@ -8,10 +8,10 @@ use Terms.{channel_of, channel_other, channel_same, Chip, chip_after, chosen, cl
 use Terms.{flags_of, flags_to, GivesWay, has_bit, has_bit-bits_of, has_channel-cleared, HasChannel, Idle, is_flagged}
 use Terms.{is_marked_by, is_some, IsBegun, IsQuiet, KindAgrees, length, level_of, MarksAgree, None, not_it, not_low}
 use Terms.{Option, Output, past_it, period_word, polarity_of, Pulse, pulse_at, pulse_at-cleared, PulseFlags, Pulses, PwmTable, PwmEdge, PwmRepresents, PwmState, refl, Reservations, Rising, Runs, settled, Some, stands, stands-move, subst, sym, true, turns_between, TurnsBetween, UnitAgrees, with_pulse, word_of, World, Write, ℕ}
-use Rattle.pwm_machine.specs.laws.{Changes.{times_of, of_times}}
+use Rattle.module_machines.specs.pwm.laws.{Changes.{times_of, of_times}}
 use Rattle.pwm_driver.specs.laws.{Units.{none_held}}
-use Rattle.chip_pulses.specs.Pulses as pulses
-use Rattle.chip_pulses.specs.declared.pulse.Pulse as unit
+use Rattle.chip_blocks.specs.pulses.Pulses as pulses
+use Rattle.chip_blocks.specs.declared.pulses.pulse.Pulse as unit
 
 -- ---- bits
 

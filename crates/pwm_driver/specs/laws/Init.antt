@@ -1,5 +1,5 @@
 -- Pwm_Init: its steps, and what holds at each.
--- From Parts, pwm_machine: Channels.
+-- From Parts, module_machines: pwm.Channels.
 -- Used by InitRight, service/init/rt, Lawful, Windows, InitWrites and 1 more.
 use Rattle.std.proofs.Common.{◌≡◌, ◌+◌, ◌-◌, ◌/◌, ◌%◌, ◌<◌, ◌≤◌, ◌&&◌, [], ◌∷◌, ◌∙◌, if◌then◌else◌}
 use Rattle.pwm_driver.specs.Terms
@@ -8,9 +8,9 @@ use Terms.{channel_of, Commit, committed_after, Enable, EnableSet, ends, false, 
 use Terms.{InitBody, is_some, IsThisFrame, Lag, level, LINES, List, Load, LongBodies, Move, nat_lt, no_answer, None}
 use Terms.{Nothing, Option, Origin, Own, Part, period_word, PointAssertion, PulseCommit, PulseDuty, PulsePeriod, PulsePolarity, Pulses, pwm_basis, pwm_may, PwmTable, PwmState, refl, Reservations, resets_chip, settled, Setup, Some, STATE, Stores, suc, Sweep, sweep, Sweeping, true, Within, World, Write, zero, ℕ}
 use Rattle.pwm_driver.specs.declared.service.init.InitBody.TheVariants.{Store}
-use Rattle.chip_pulses.specs.Pulses as pulses
-use Rattle.chip_pulses.specs.declared.pulse.Output.TheVariants as units
-use Rattle.pwm_machine.specs.declared.call.Call.TheVariants as calls
+use Rattle.chip_blocks.specs.pulses.Pulses as pulses
+use Rattle.chip_blocks.specs.declared.pulses.pulse.Output.TheVariants as units
+use Rattle.module_machines.specs.declared.pwm.call.Call.TheVariants as calls
 
 -- ---- the defaults, with the mask open
 

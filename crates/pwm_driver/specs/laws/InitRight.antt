@@ -17,10 +17,10 @@ use Rattle.pwm_driver.specs.laws.{Init.{init_left, init_spot, init_bodies, begin
 use Rattle.pwm_driver.specs.laws.{Init.{setup_is, setup_may, setup_plain, setup_commits}, InitWrites.{less, one}}
 use Rattle.pwm_driver.specs.laws.{InitWrites.{step_by}, Output.{wave_is}, Units.{chip_with, off_set, setup_kept}}
 use Rattle.pwm_driver.specs.laws.{Units.{waved_at}}
-use Rattle.chip_pulses.specs.Pulses as pulses
-use Rattle.chip_pulses.specs.declared.pulse.Output.TheVariants as units
-use Rattle.chip_pulses.specs.declared.pulse.Pulse as unit
-use Rattle.pwm_machine.specs.declared.call.Call.TheVariants as calls
+use Rattle.chip_blocks.specs.pulses.Pulses as pulses
+use Rattle.chip_blocks.specs.declared.pulses.pulse.Output.TheVariants as units
+use Rattle.chip_blocks.specs.declared.pulses.pulse.Pulse as unit
+use Rattle.module_machines.specs.declared.pwm.call.Call.TheVariants as calls
 
 -- ---- a commit
 

@@ -8,9 +8,9 @@ use Terms.{None, none, not, Option, period_in, period_word, polarity_of, pulse_a
 use Rattle.pwm_driver.specs.laws.{Init.{defaults, part}, Output.{level_set}, Units.{chip_with, never, off_lines}}
 use Rattle.pwm_driver.specs.laws.{Units.{off_set, period_below, period_not_kinds, period_not_state, period_other}}
 use Rattle.pwm_driver.specs.laws.{Units.{waved}}
-use Rattle.chip_pulses.specs.Pulses as pulses
-use Rattle.chip_pulses.specs.declared.pulse.Pulse as unit
-use Rattle.pwm_machine.specs.declared.call.Call.TheVariants as calls
+use Rattle.chip_blocks.specs.pulses.Pulses as pulses
+use Rattle.chip_blocks.specs.declared.pulses.pulse.Pulse as unit
+use Rattle.module_machines.specs.declared.pwm.call.Call.TheVariants as calls
 
 -- ---- one more default is written
 

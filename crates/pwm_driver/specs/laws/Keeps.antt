@@ -1,5 +1,5 @@
 -- The driver keeps to its module: registers, words and lines of others are nothing to it.
--- From RefinementRight, Lawful, pwm_machine: Channels.
+-- From RefinementRight, Lawful, module_machines: pwm.Channels.
 -- Used by mcal_drivers: proofs/Joining.
 use Rattle.std.proofs.Common.{◌≡◌, ◌+◌, ◌-◌, ◌/◌, ◌%◌, ◌<◌, ◌≤◌, ◌^◌, ◌==◌, ◌&&◌, if◌then◌else◌}
 use Rattle.pwm_driver.specs.Terms

@@ -24,7 +24,7 @@ use Rattle.pwm_driver.specs.laws.{Notify.{notify_right}, Output.{output_bodies, 
 use Rattle.pwm_driver.specs.laws.{Rest.{rest_right}, Serve.{serve_work, serve_takes, serve_bodies, serve_right}}
 use Rattle.pwm_driver.specs.laws.{Windows.{pwm_seen, setup_sees, setup_unseen, deinit_sees, output_sees, rest_sees}}
 use Rattle.pwm_driver.specs.laws.{Windows.{notify_plain, serve_plain}}
-use Rattle.pwm_machine.specs.declared.call.Call.TheVariants as calls
+use Rattle.module_machines.specs.declared.pwm.call.Call.TheVariants as calls
 use Rattle.pwm_driver.specs.declared.service.deinit.DeInitBody.TheVariants as deinits
 use Rattle.pwm_driver.specs.declared.service.output.OutputBody.TheVariants as outputs
 use Rattle.pwm_driver.specs.declared.service.init.InitBody.TheVariants as inits

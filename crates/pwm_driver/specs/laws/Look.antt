@@ -6,7 +6,7 @@ use Rattle.pwm_driver.specs.Terms
 use Terms.{answer_refused, arith, Ask, Asked, Bool, Call, Channel, channel_of, ChannelCall, DisableNotification, Done}
 use Terms.{EnableNotification, error_by, ErrorName, errors_of, facts_by, false, Goes, has_notification, is_some, length, List, Looked, no_answer, None, none_holds, not, not-false, Nothing, Option, owed_error, PwmTable, PwmState, refl, Refused, reporting, Rest, service_of, SetDutyCycle, SetOutputToIdle, SetPeriodAndDuty, slice_index_or, Some, state_word, true, ℕ}
 use Rattle.pwm_driver.specs.laws.Bodies.{PwmBody, init_body, deinit_body, output_body, rest_body, notify_body}
-use Rattle.pwm_machine.specs.declared.call.Call.TheVariants as calls
+use Rattle.module_machines.specs.declared.pwm.call.Call.TheVariants as calls
 use Rattle.pwm_driver.specs.declared.service.deinit.DeInitBody.TheVariants as deinits
 use Rattle.pwm_driver.specs.declared.service.notify.NotifyBody.TheVariants as notices
 use Rattle.pwm_driver.specs.declared.service.output.OutputBody.TheVariants as outputs

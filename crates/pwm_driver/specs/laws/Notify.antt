@@ -1,5 +1,5 @@
 -- Pwm_EnableNotification and Pwm_DisableNotification: their steps, what holds at each, and that they are right.
--- From Parts, Base, pwm_machine: Channels, Flags, Units and 3 more.
+-- From Parts, Base, module_machines: pwm.Channels, Flags, Units and 3 more.
 -- Used by Lawful, service/notify/rt, Windows.
 use Rattle.std.proofs.Common.{◌≡◌, ◌≢◌, ◌+◌, ◌<◌, ◌≤◌, ◌^◌, ◌&&◌, ◌||◌, ◌∙◌}
 use Rattle.pwm_driver.specs.Terms
@@ -13,8 +13,8 @@ use Rattle.pwm_driver.specs.declared.service.notify.NotifyBody.TheVariants.{Load
 use Rattle.pwm_driver.specs.laws.{Base.{AllGood, steady_above, family, family_right}, Flags.{begun_later}}
 use Rattle.pwm_driver.specs.laws.{Flags.{unflagged_agrees, flags_cleared}, Look.{MayAct}, Units.{none_held}}
 use Rattle.pwm_driver.specs.laws.{Units.{kinds_not_state, kinds_not_period}}
-use Rattle.chip_pulses.specs.Pulses as pulses
-use Rattle.pwm_machine.specs.declared.call.Call.TheVariants as calls
+use Rattle.chip_blocks.specs.pulses.Pulses as pulses
+use Rattle.module_machines.specs.declared.pwm.call.Call.TheVariants as calls
 
 abbrev pub notify_work : NotifyBody → Move
 notify_work (Load c edge) = Loads KINDS

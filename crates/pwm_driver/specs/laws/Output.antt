@@ -1,5 +1,5 @@
 -- Pwm_SetDutyCycle and Pwm_SetPeriodAndDuty: their steps, what holds at each, and that they are right.
--- From Units, Base, pwm_machine: Channels, Parts, Look.
+-- From Units, Base, module_machines: pwm.Channels, Parts, Look.
 -- Used by service/output/rt, Lawful, Windows, InitWrites, InitRight.
 use Rattle.std.proofs.Common.{◌≡◌, ◌<◌, ◌≤◌, ◌==◌, ◌∙◌, if◌then◌else◌}
 use Rattle.pwm_driver.specs.Terms
@@ -11,9 +11,9 @@ use Terms.{Polarity, polarity_of, Pulse, pulse_at, pulse_at-same, PulseCommit, P
 use Rattle.pwm_driver.specs.declared.service.output.OutputBody.TheVariants.{Load, Commit}
 use Rattle.pwm_driver.specs.laws.{Base.{AllGood, steady_above, family, family_right, pulses_of}, Look.{MayAct}}
 use Rattle.pwm_driver.specs.laws.{Units.{chip_with, unit_set, both_set, waved, perioded, commit_agrees, period_kept}}
-use Rattle.chip_pulses.specs.Pulses as pulses
-use Rattle.chip_pulses.specs.declared.pulse.Pulse as unit
-use Rattle.pwm_machine.specs.declared.call.Call.TheVariants as calls
+use Rattle.chip_blocks.specs.pulses.Pulses as pulses
+use Rattle.chip_blocks.specs.declared.pulses.pulse.Pulse as unit
+use Rattle.module_machines.specs.declared.pwm.call.Call.TheVariants as calls
 
 abbrev pub output_work : OutputBody → Move
 output_work (Load r) = Loads (period_word r.channel)

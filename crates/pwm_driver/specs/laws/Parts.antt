@@ -9,7 +9,7 @@ use Rattle.mcal_base.specs.Bits.{has_bit}
 use Rattle.mcal_base.proofs.BitLaws.{has_bit-or, has_bit-pow_same, has_bit-pow_other}
 use Rattle.service_outline.specs.laws.StepKinds.{or_true}
 use Rattle.pwm_driver.specs.Words.{bit, both}
-use Rattle.pwm_machine.specs.declared.table.PwmTable.{PwmTable}
+use Rattle.module_machines.specs.declared.pwm.table.PwmTable.{PwmTable}
 
 -- ---- the channels of a driver
 

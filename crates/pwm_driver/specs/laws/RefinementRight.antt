@@ -1,5 +1,5 @@
 -- The basis keeps what it owes: at the start, in time, under moves elsewhere and over a reset.
--- From service_outline: Words, pwm_machine: Channels, service_outline: There, pwm_machine: Relation, FlagRelation.
+-- From service_outline: Words, module_machines: pwm.Channels, service_outline: There, module_machines: pwm.Relation, FlagRelation.
 -- Used by Serve, Keeps, Base, Lawful, InitRight and 1 more.
 use Rattle.std.proofs.Common.{◌≡◌, ◌+◌, ◌-◌, ◌/◌, ◌%◌, ◌<◌, ◌≤◌, ◌^◌, ◌&&◌, ◌||◌, ◌==◌, [], ◌∷◌, ◌∙◌, if◌then◌else◌}
 use Rattle.pwm_driver.specs.Terms
@@ -13,12 +13,12 @@ use Terms.{Lag, length, Level, level_at, level_leaves, line-pulse, LinesAgree, L
 use Terms.{move_there, names_there, nat_lt, nat_tests, None, not, Option, Order, Outcome, outcome, owns_written}
 use Terms.{period_word, PinFlip, polarity_of, PowerOn, Pulse, pulse_at, PulseCommit, PulseDuty, PulseEdges, PulseFlags}
 use Terms.{PulseIdle, PulseOut, PulsePeriod, PulsePolarity, pulses_fresh, pwm_basis, pwm_may, pwm_owns, pwm_setting, PwmTable, PwmEdge, PwmRepresents, PwmState, rate-left, Read, ready, ready_by, Reason, refl, Reg, Reservations, reset_chip, ResetRequest, resets_chip, rises, Rising, SerialData, set_apart, sets_rate, settled, silent, slice_index-blank, slice_index_or, Some, some_same, SOURCES, stands-event, stands-move, stands-reset, StandsIn, STATE, Steady, Store, stores_in, subst, sym, tells_nothing, Tick, TimerLow, true, UnitAgrees, within, word_apart, word_later, word_of, work, World, world_after, Write, ℕ}
-use Rattle.pwm_machine.specs.declared.call.Call.TheVariants.{Channel}
-use Rattle.pwm_machine.specs.laws.Relation.{level_same}
+use Rattle.module_machines.specs.declared.pwm.call.Call.TheVariants.{Channel}
+use Rattle.module_machines.specs.pwm.laws.Relation.{level_same}
 use Rattle.pwm_driver.specs.laws.FlagRelation.{flagged_same}
-use Rattle.chip_pulses.specs.Pulses as pulses
-use Rattle.chip_pulses.specs.declared.pulse.Pulse as unit
-use Rattle.pwm_machine.specs.declared.table.Channel as configured
+use Rattle.chip_blocks.specs.pulses.Pulses as pulses
+use Rattle.chip_blocks.specs.declared.pulses.pulse.Pulse as unit
+use Rattle.module_machines.specs.declared.pwm.table.Channel as configured
 
 -- ---- after a reset
 

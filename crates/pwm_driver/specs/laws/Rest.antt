@@ -1,5 +1,5 @@
 -- Pwm_SetOutputToIdle and Pwm_GetOutputState: their step, and that it is right.
--- From Base, Units, Look, Parts, pwm_machine: Channels and 1 more.
+-- From Base, Units, Look, Parts, module_machines: pwm.Channels and 1 more.
 -- Used by service/rest/rt, Lawful, Windows.
 use Rattle.std.proofs.Common.{◌≡◌, ◌<◌, ◌≤◌, ◌==◌, ◌∙◌}
 use Rattle.pwm_driver.specs.Terms
@@ -8,9 +8,9 @@ use Terms.{Channel, channel_of, channel_work, Chip, chip_after, ends, false, Idl
 use Terms.{level_at, LongBodies, missed_after, Move, no_answer, None, none, Nothing, Option, Origin, outcome, over, polarity_of, pulse_at, PulseIdle, PulseOut, Pulses, put_out, pwm_basis, pwm_machine, PwmTable, PwmRepresents, PwmState, Read, refl, Reservations, Rest, RestBody, SetOutputToIdle, settled, Shortens, Some, some_is, stands-move, StandsIn, StepsTo, subst, sym, tells_nothing, Told, true, UnitAgrees, with_pulse, World, Write, ℕ}
 use Rattle.pwm_driver.specs.laws.{Base.{AllGood, steady_above, family, family_right}, RefinementRight.{outputs_same}}
 use Rattle.pwm_driver.specs.laws.{Look.{Passed, MayAct}, Units.{both_set, put_agrees, idle_written}}
-use Rattle.chip_pulses.specs.Pulses as pulses
-use Rattle.chip_pulses.specs.declared.pulse.Output.TheVariants as units
-use Rattle.pwm_machine.specs.declared.call.Call.TheVariants as calls
+use Rattle.chip_blocks.specs.pulses.Pulses as pulses
+use Rattle.chip_blocks.specs.declared.pulses.pulse.Output.TheVariants as units
+use Rattle.module_machines.specs.declared.pwm.call.Call.TheVariants as calls
 
 abbrev pub rest_work : RestBody → Move
 rest_work (Rest c high) = Write (PulseIdle c) (level high)

@@ -9,7 +9,7 @@ use Terms.{LongBodies, missed_after, Move, nat_lt, nat_tests, no_answer, None, n
 use Rattle.pwm_driver.specs.laws.Base.{AllGood, steady_above, family, family_right}
 use Rattle.pwm_driver.specs.laws.Flags.{stands_due, unflagged_agrees, flags_cleared, marked_later}
 use Rattle.pwm_driver.specs.laws.RefinementRight.{due_here, due_line, quiet_none}
-use Rattle.chip_pulses.specs.Pulses as pulses
+use Rattle.chip_blocks.specs.pulses.Pulses as pulses
 use Rattle.pwm_driver.specs.declared.service.serve.ServeBody.TheVariants as places
 
 abbrev pub serve_work : ServeBody → Move

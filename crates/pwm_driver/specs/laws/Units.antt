@@ -1,5 +1,5 @@
 -- One pulse unit and one channel of the machine change together.
--- From pwm_machine: Relation, pwm_machine: Channels, service_outline: Words, service_outline: SweepWords, FlagRelation.
+-- From module_machines: pwm.Relation, module_machines: pwm.Channels, service_outline: Words, service_outline: SweepWords, FlagRelation.
 -- Used by DeInit, InitWrites, Output, InitRight, Notify and 2 more.
 use Rattle.std.proofs.Common.{◌≡◌, ◌≢◌, ◌<◌, ◌||◌, [], ◌∷◌, ◌∙◌}
 use Rattle.pwm_driver.specs.Terms
@@ -7,11 +7,11 @@ use Terms.{AllRight, AllSetUp, ap, arith, behind, Bool, Channel, channel_of, cha
 use Terms.{chip_after, chosen, each_but, eq_other, false, is_marked_by, is_notified, is_some, IsBegun, IsQuiet, IsSetUp}
 use Terms.{KindAgrees, KINDS, length, length-set, level, level_of, LinesAgree, MarksAgree, None, none, Option, Output}
 use Terms.{output_in, period_word, polarity_of, Pulse, pulse_at, pulse_at-other, pulse_at-same, PulseIdle, Pulses, put_out, PwmTable, PwmEdge, PwmRepresents, PwmState, refl, Reservations, settled, Some, stands-move, StandsIn, STATE, Store, stored_other, stored_same, subst, sym, true, turns, turns_to, UnitAgrees, UnitsAgree, Wave, with_new, with_pulse, word_of, WORDS, World, Write, ℕ}
-use Rattle.pwm_machine.specs.laws.Relation.{level_same, chosen_or, chosen_turns, committed_same, with_new_begun}
+use Rattle.module_machines.specs.pwm.laws.Relation.{level_same, chosen_or, chosen_turns, committed_same, with_new_begun}
 use Rattle.pwm_driver.specs.laws.FlagRelation.{flagged_same}
-use Rattle.chip_pulses.specs.Pulses as pulses
-use Rattle.chip_pulses.specs.declared.pulse.Output.TheVariants as units
-use Rattle.chip_pulses.specs.declared.pulse.Pulse as unit
+use Rattle.chip_blocks.specs.pulses.Pulses as pulses
+use Rattle.chip_blocks.specs.declared.pulses.pulse.Output.TheVariants as units
+use Rattle.chip_blocks.specs.declared.pulses.pulse.Pulse as unit
 
 -- ---- an output that is put out
 

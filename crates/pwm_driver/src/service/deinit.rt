@@ -3,7 +3,7 @@ ghost use Rattle.pwm_driver.specs.laws.DeInit as spec;
 
 use crate::words::{KINDS, LINES, STATE, level};
 use mcal_base::{Move, Reg};
-use pwm_machine::PwmTable;
+use module_machines::pwm::PwmTable;
 use service_outline::{Body, BodyTaken, Epilogue, acts, ends, goes, nothing};
 
 /// `Pwm_DeInit`, from the load of the state word on.

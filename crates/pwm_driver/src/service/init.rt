@@ -4,7 +4,7 @@ ghost use Rattle.pwm_driver.specs.laws.Init as spec;
 use crate::driver::PwmDriver;
 use crate::words::{LINES, STATE, absolute, level, period_word};
 use mcal_base::{Move, Reg};
-use pwm_machine::{Channel, PwmTable};
+use module_machines::pwm::{Channel, PwmTable};
 use service_outline::{Body, BodyTaken, Epilogue, Objects, acts_with, goes, nothing};
 
 /// The defaults of all channels, four objects each, written with the mask open: the word of the period, and the registers

@@ -1,6 +1,6 @@
 use crate::words::{KINDS, both, with, without};
 use mcal_base::{Move, Reg};
-use pwm_machine::PwmEdge;
+use module_machines::pwm::PwmEdge;
 use service_outline::{Body, BodyTaken, Epilogue, acts, ends, goes, nothing};
 
 /// `Pwm_EnableNotification` and `Pwm_DisableNotification`, from the load of the state word on.

@@ -1,6 +1,6 @@
 -- What is legal of where a frame acted, and of what it read and wrote, from what its body owes.
 -- From StepKinds.
--- Used by Steps, wdg_driver: Body, held_example: ToyLaws, gpt_driver: Mode, gpt_driver: Switch and 6 more.
+-- Used by Steps, wdg_driver: Body, driver_examples: held.ToyLaws, gpt_driver: Mode, gpt_driver: Switch and 6 more.
 use Rattle.std.proofs.Common.{◌≡◌, ℕ, ◌<◌, Bool, true, false, ◌&&◌, ◌||◌, List, [], ◌∷◌, Option, Some, None, refl, sym, ◌∙◌, subst, arith}
 use Rattle.std.specs.List.{Contains}
 use Rattle.std.proofs.lemmas.Bool.{or_from}

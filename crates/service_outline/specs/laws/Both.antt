@@ -1,5 +1,5 @@
 -- Long bodies of either of two kinds owe no more.
--- Used by held_example: ToyLaws, SweepRight.
+-- Used by driver_examples: held.ToyLaws, SweepRight.
 use Rattle.std.proofs.Common.{inl, inr}
 use Rattle.std.specs.Prelude.{◌≡◌, ℕ, ◌<◌, Bool, true, false, ◌||◌, List, ◌∷◌, Option, Some, None}
 use Rattle.chip_model.specs.Chip.{Chip, value_of, chip_after, happened, is_masked}

@@ -1,5 +1,5 @@
 -- The writes that calls owe: where they owe none all are made, and a write that was made stays made.
--- Used by held_example: ToyLaws, ShortServices.
+-- Used by driver_examples: held.ToyLaws, ShortServices.
 use Rattle.std.proofs.Common.{◌≡◌, ℕ, Bool, true, false, ◌&&◌, ◌||◌, ◌∙◌, ap, List, [], ◌∷◌, Option, Some, None, refl, sym, subst}
 use Rattle.std.specs.List.{list_any}
 use Rattle.std.proofs.lemmas.Bool.{or_left, or_right}

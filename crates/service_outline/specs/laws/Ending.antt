@@ -1,5 +1,5 @@
 -- A body whose step ends no frame goes on as ever.
--- Used by held_example: ToyLaws, Owing.
+-- Used by driver_examples: held.ToyLaws, Owing.
 use Rattle.std.proofs.Common.{◌≡◌, ℕ, Bool, List, Option, None, sym, subst}
 use Rattle.chip_model.specs.Chip.{Chip}
 use Rattle.mcal_base.specs.declared.answer.Answer.{Answer}

@@ -1,6 +1,6 @@
 -- A driver whose frames follow the outline is lawful.
 -- From Steps.
--- Used by guest_runner: OutlineLaws, held_example: ToyLaws, ShortServices, mcal_drivers: Laws, mcu_driver: frames/rt.
+-- Used by guests.OutlineLaws, driver_examples: held.ToyLaws, ShortServices, mcal_drivers: Laws, mcu_driver: frames/rt.
 use Rattle.std.proofs.Common.{◌≡◌, ℕ, ◌<◌, ◌≤◌, arith, nat_lt, Bool, ◌&&◌, ◌||◌, not, true, false, List, [], ◌∷◌, Option, Some, None, refl, sym, ◌∙◌, ap, subst}
 use Rattle.std.specs.Prelude.{is_some}
 use Rattle.chip_model.specs.Chip.{Chip, value_of, chip_after, expiry_of, happened, reset_chip, is_masked, is_pending}

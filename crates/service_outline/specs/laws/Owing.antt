@@ -1,7 +1,7 @@
 -- While moves are owed, the agreement after them stays what it was: each of them leaves one less, the hardware leaves it, and a
 -- reset forgets it. So a basis with moves that are owed is a basis, and bodies owe nothing more at the places that owe moves.
 -- From ShortServices, StepKinds, Ending.
--- Used by held_example: ToyLaws.
+-- Used by driver_examples: held.ToyLaws.
 use Rattle.std.proofs.Common.{◌≡◌, ℕ, zero, suc, ◌+◌, ◌<◌, Bool, true, false, ◌||◌, List, [], Option, Some, None, refl, sym, ◌∙◌, ap, subst, arith}
 use Rattle.chip_model.specs.Chip.{Chip, value_of, chip_after, expiry_of, happened, reset_chip, is_masked}
 use Rattle.chip_model.proofs.HistoryLaws.{osc-move}

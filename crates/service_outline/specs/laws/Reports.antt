@@ -4,7 +4,7 @@ use Rattle.std.proofs.Common.{◌≡◌, [], Option, Some, None, refl}
 use Rattle.mcal_base.specs.declared.answer.Answer.{Answer}
 use Rattle.mcal_base.specs.declared.error_name.ErrorName.{ErrorName}
 use Rattle.mcal_base.specs.declared.moves.DevError.{DevError}
-use Rattle.det_errors.specs.Reports.{reported}
+use Rattle.mcal_base.specs.det_errors.Reports.{reported}
 use Rattle.run_model.specs.Machine.{Machine, tells_error}
 use Rattle.run_model.specs.Frame.{Called, report_as}
 use Rattle.service_outline.specs.Done.{owed_report, owed_error}

@@ -1,5 +1,5 @@
 -- What is legal of the windows of a frame, from what its body owes of them.
--- Used by Steps, wdg_driver: Lawful, held_example: ToyLaws, gpt_driver: Count, gpt_driver: Lawful.
+-- Used by Steps, wdg_driver: Lawful, driver_examples: held.ToyLaws, gpt_driver: Count, gpt_driver: Lawful.
 use Rattle.std.proofs.Common.{◌≡◌, ℕ, suc, Bool, true, false, ◌&&◌, ◌||◌, List, [], ◌∷◌, Option, Some, None, refl, sym, ◌∙◌, ap, subst, arith}
 use Rattle.std.specs.Prelude.{is_some, if◌then◌else◌}
 use Rattle.std.specs.List.{Contains, list_any}

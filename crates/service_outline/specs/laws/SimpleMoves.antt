@@ -1,6 +1,6 @@
 -- Moves that commute with the hardware exactly: loads and stores of driver words, while no array is filled, and writes that
 -- enable or disable lines.
--- Used by held_example: ToyLaws.
+-- Used by driver_examples: held.ToyLaws.
 use Rattle.std.proofs.Common.{◌≡◌, ℕ, ◌<◌, Bool, true, false, Option, Some, refl, sym, ap, subst}
 use Rattle.std.specs.Prelude.{if◌then◌else◌, slice_index}
 use Rattle.chip_model.specs.Chip.{Chip, value_of, chip_after, expiry_of, happened, reset_chip, levelled, is_other, outside_at}

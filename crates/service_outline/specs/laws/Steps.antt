@@ -1,6 +1,6 @@
 -- Each step of a frame that follows the outline is right, from what its driver owes.
 -- From StepKinds, Acts, Seen, Fuel.
--- Used by Lawful, guest_runner: OutlineLaws.
+-- Used by Lawful, guests.OutlineLaws.
 use Rattle.std.proofs.Common.{◌≡◌, ℕ, ◌+◌, ◌<◌, ◌≤◌, ◌==◌, ◌||◌, not, Bool, true, false, List, [], ◌∷◌, Option, Some, None, refl, sym, ap, subst, arith, inl, inr}
 use Rattle.chip_model.specs.Chip.{Chip, value_of, chip_after}
 use Rattle.mcal_base.specs.declared.answer.Answer.{Answer}

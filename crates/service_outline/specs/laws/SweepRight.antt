@@ -1,6 +1,6 @@
 -- A sweep owes no more.
 -- From Both, ShortServices, StepKinds, Acts, SweepWords.
--- Used by held_example: ToyLaws.
+-- Used by driver_examples: held.ToyLaws.
 use Rattle.std.proofs.Common.{◌≡◌, ℕ, ◌+◌, ◌-◌, ◌<◌, ◌≤◌, Bool, true, false, ◌||◌, nat_lt, List, None, refl, sym, subst, arith}
 use Rattle.std.specs.Prelude.{if◌then◌else◌}
 use Rattle.mcal_base.specs.facts.Numbers.{lt_is}

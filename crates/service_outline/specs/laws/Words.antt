@@ -1,5 +1,5 @@
 -- What a move and a hardware event leave of the driver words.
--- Used by held_example: ToyLaws, wdg_driver: Ground, spi_starting: services.StartBegun, wdg_driver: Body and 13 more.
+-- Used by driver_examples: held.ToyLaws, wdg_driver: Ground, wdg_driver: Body and 13 more.
 use Rattle.std.proofs.Common.{◌≡◌, ℕ, ◌+◌, ◌<◌, ◌≢◌, Bool, true, false, List, ◌++◌, length, take, drop, refl, sym, ◌∙◌, ap, subst, arith, length-set, get_or-set_same, get_or-set_other}
 use Rattle.std.specs.Prelude.{slice_index}
 use Rattle.std.proofs.lemmas.List.{length-append, length-take, get_or_append_left, get_or-take}

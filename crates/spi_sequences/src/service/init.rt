@@ -5,9 +5,9 @@ ghost use Rattle.spi_sequences.specs.laws.services.InitSteps as spec;
 use crate::words::{JOBS, SEQUENCES, STATE, job_word, order, running_word, sequence_word};
 use mcal_base::{Move, Routine};
 use service_outline::{Body, BodyTaken, Epilogue, acts_with, goes, nothing};
-use spi_jobs::{Placed, Side, free, publish};
 use spi_machine::SpiTable;
 use word_shapes::Put;
+use word_shapes::jobs::{Placed, Side, free, publish};
 
 /// `Spi_Init`, from the load of the state word on. Until it acts the module is uninitialised.
 #[derive(Clone, Copy)]

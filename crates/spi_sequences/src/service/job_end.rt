@@ -1,14 +1,14 @@
 ghost use Rattle.std.specs.Prelude.{◌≡◌, ◌-◌};
 ghost use Rattle.word_shapes.specs.PriorityQueue.{again_gave, drop_gave};
 ghost use Rattle.word_shapes.specs.TripleBuffer.{take_gave};
-ghost use Rattle.spi_jobs.specs.Parts.{has_ended, commit_ends, keep_ends};
+ghost use Rattle.word_shapes.specs.jobs.Parts.{has_ended, commit_ends, keep_ends};
 ghost use Rattle.spi_sequences.specs.laws.services.ServeSteps as spec;
 
 use crate::service::serve::{Ended, Leaving, SequenceNext, ServePlace, ServeStep, Served, goes};
 use crate::words::{CANCELLED, FAILED, next_of, with_next};
 use mcal_base::{Notice, NoticeKind, Routine};
-use spi_jobs::{Commit, Keep, Side, Taker, publish, release};
 use spi_machine::SpiTable;
+use word_shapes::jobs::{Commit, Keep, Side, Taker, publish, release};
 use word_shapes::{Again, Dropped, Take};
 
 /// What follows a step that ends a pin of a failed job.

@@ -3,8 +3,8 @@ ghost use Rattle.spi_sequences.specs.laws.services.ChannelSteps as spec;
 
 use mcal_base::{Answer, AnswerName, Head, Move, Routine, Words};
 use service_outline::{Body, BodyTaken, Epilogue, acts, copied, ends, goes, nothing};
-use spi_jobs::{Placed, Side, bank_of, gave, release};
 use word_shapes::Take;
+use word_shapes::jobs::{Placed, Side, bank_of, gave, release};
 
 /// `Spi_ReadIB`, from the load of the state word on: the newest bank is pinned at the act and read with the mask open.
 #[derive(Drop)]

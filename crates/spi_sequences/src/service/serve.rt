@@ -2,7 +2,7 @@ ghost use Rattle.std.specs.Prelude.{◌≡◌, ◌-◌, None};
 ghost use Rattle.word_shapes.specs.TripleBuffer.{take_gave};
 ghost use Rattle.word_shapes.specs.declared.again.Again.TheVariants as agains;
 ghost use Rattle.word_shapes.specs.declared.dropped.Dropped.TheVariants as drops;
-ghost use Rattle.spi_jobs.specs.Parts.{has_ended, find_gave, finding, keep_ends, taker_of};
+ghost use Rattle.word_shapes.specs.jobs.Parts.{has_ended, find_gave, finding, keep_ends, taker_of};
 ghost use Rattle.spi_sequences.specs.Words.{cancelled_bit, has_mark, order_places, position_in, run_in, search_of};
 ghost use Rattle.spi_sequences.specs.declared.service.serve.ServePlace.TheVariants as places;
 ghost use Rattle.spi_sequences.specs.declared.service.serve.ServeStep.TheVariants.{Goes};
@@ -14,8 +14,8 @@ use crate::words::{
     running_word, search, sequence_word,
 };
 use mcal_base::{Event, Move, Notice, Reg, Routine};
-use spi_jobs::{Commit, Find, Keep, Placed, Side, Taker, asked, release, taker_of};
 use spi_machine::SpiTable;
+use word_shapes::jobs::{Commit, Find, Keep, Placed, Side, Taker, asked, release, taker_of};
 use word_shapes::{Again, Dropped, Take};
 
 /// The word in transfer that is served.

@@ -1,6 +1,6 @@
 use mcal_base::{AnswerName, Move};
 use service_outline::{Body, BodyTaken, Epilogue, acts_with, named};
-use spi_jobs::{Placed, SetUp};
+use word_shapes::jobs::{Placed, SetUp};
 
 /// `Spi_SetupEB`, from the load of the state word on.
 #[derive(Clone, Copy)]

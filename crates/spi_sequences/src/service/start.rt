@@ -1,7 +1,7 @@
 ghost use Rattle.std.specs.Prelude.{◌≡◌, None};
 ghost use Rattle.word_shapes.specs.PriorityQueue.{front_gave, next_gave};
 ghost use Rattle.word_shapes.specs.TripleBuffer.{take_gave};
-ghost use Rattle.spi_jobs.specs.Parts.{has_ended, find_gave, prepare_ends};
+ghost use Rattle.word_shapes.specs.jobs.Parts.{has_ended, find_gave, prepare_ends};
 ghost use Rattle.spi_sequences.specs.declared.service.start.Started.TheVariants.{Goes};
 ghost use Rattle.spi_sequences.specs.laws.services.StartSteps as spec;
 
@@ -9,8 +9,8 @@ use crate::words::{
     MARKS, NEXTS, Running, has, next_of, position_word, running_word, search, started_bit,
 };
 use mcal_base::{Event, Move, Reg, Routine, Unit};
-use spi_jobs::{Find, Prepare, Side, gave, release};
 use spi_machine::SpiTable;
+use word_shapes::jobs::{Find, Prepare, Side, gave, release};
 use word_shapes::{Front, Next, Take};
 
 /// The job that is chosen, by these next jobs and marks.

@@ -1,5 +1,5 @@
 ghost use Rattle.std.specs.Prelude.{◌≡◌, slice_index_or, slice_set};
-ghost use Rattle.spi_jobs.specs.Parts.{find_gave, has_ended, keep_ends, prepare_ends};
+ghost use Rattle.word_shapes.specs.jobs.Parts.{find_gave, has_ended, keep_ends, prepare_ends};
 ghost use Rattle.spi_sequences.specs.laws.services.ServeSteps.{begins_of, first_internal};
 ghost use Rattle.word_shapes.specs.TripleBuffer.{put_gave};
 ghost use Rattle.spi_sequences.specs.laws.services.SyncSteps as spec;
@@ -13,9 +13,9 @@ use crate::words::{
 };
 use mcal_base::{AnswerName, ErrorName, Event, Move, Reg, Routine, Service};
 use service_outline::{Body, BodyTaken, Epilogue, acts_with, ends, error, goes, named};
-use spi_jobs::{Find, Keep, Placed, Prepare, Side, Taker, asked, publish, taker_of};
 use spi_machine::SpiTable;
 use word_shapes::Put;
+use word_shapes::jobs::{Find, Keep, Placed, Prepare, Side, Taker, asked, publish, taker_of};
 
 /// A place of `Spi_SyncTransmit`, from the load of the state word on. A job begins in one window, in which the job before
 /// it ends, each further word in another one, and the sequence ends in the last one. Between them the mask is open, and

@@ -3,9 +3,9 @@ ghost use Rattle.spi_sequences.specs.laws.services.ChannelSteps as spec;
 
 use mcal_base::{AnswerName, Move, Routine};
 use service_outline::{Body, BodyTaken, Epilogue, acts_with, goes, named};
-use spi_jobs::{Placed, Side, free, publish};
 use spi_machine::Pointer;
 use word_shapes::Put;
+use word_shapes::jobs::{Placed, Side, free, publish};
 
 /// The words that an internal channel is to send.
 #[derive(Clone, Copy)]

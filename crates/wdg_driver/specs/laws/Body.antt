@@ -5,7 +5,7 @@ use Rattle.std.proofs.Common.{◌≡◌, ℕ, ◌<◌, Bool, true, false, not, O
 use Rattle.std.specs.Prelude.{if◌then◌else◌, is_some}
 use Rattle.std.proofs.lemmas.Bool.{lt-ltb}
 use Rattle.chip_model.specs.Chip.{Chip, chip_after, word_of}
-use Rattle.chip_units.specs.Watchdogs.{loaded}
+use Rattle.chip_blocks.specs.units.Watchdogs.{loaded}
 use Rattle.mcal_base.specs.declared.answer.Answer.{Answer}
 use Rattle.mcal_base.specs.declared.answer_name.AnswerName.TheVariants.{EOk}
 use Rattle.mcal_base.specs.declared.config.wdg.WdgMode.{WdgMode}
@@ -23,21 +23,21 @@ use Rattle.service_outline.specs.declared.done.BodyTaken.{BodyTaken}
 use Rattle.service_outline.specs.declared.done.Epilogue.TheVariants.{Nothing}
 use Rattle.service_outline.specs.laws.Acts.{never_clean}
 use Rattle.service_outline.specs.laws.Words.{stored_same, stored_other}
-use Rattle.wdg_machine.specs.Bounds.{may}
-use Rattle.wdg_machine.specs.Checks.{error_by}
+use Rattle.module_machines.specs.wdg.Bounds.{may}
+use Rattle.module_machines.specs.wdg.Checks.{error_by}
 use Rattle.wdg_driver.specs.Refinement.{Lag, settled, both_behind, timeout_behind, WatchRepresents, WdgRepresents, wdg_ground}
-use Rattle.wdg_machine.specs.Machine.{WdgState, started, set_mode, acts_by, acts}
-use Rattle.wdg_machine.specs.Table.{allows}
-use Rattle.wdg_machine.specs.Numbers.{narrow}
+use Rattle.module_machines.specs.wdg.Machine.{WdgState, started, set_mode, acts_by, acts}
+use Rattle.module_machines.specs.wdg.Table.{allows}
+use Rattle.module_machines.specs.wdg.Numbers.{narrow}
 use Rattle.wdg_driver.specs.Words.{mode_word, state_word, load_of}
-use Rattle.wdg_machine.specs.declared.call.Call.{Call}
-use Rattle.wdg_machine.specs.declared.call.Call.TheVariants.{SetMode}
-use Rattle.wdg_machine.specs.declared.table.WdgTable.{WdgTable}
+use Rattle.module_machines.specs.declared.wdg.call.Call.{Call}
+use Rattle.module_machines.specs.declared.wdg.call.Call.TheVariants.{SetMode}
+use Rattle.module_machines.specs.declared.wdg.table.WdgTable.{WdgTable}
 use Rattle.wdg_driver.specs.declared.service.Says.{Says}
 use Rattle.wdg_driver.specs.declared.service.Says.TheVariants.{Silent, Accepted}
 use Rattle.wdg_driver.specs.declared.service.WdgBody.{WdgBody}
 use Rattle.wdg_driver.specs.declared.service.WdgBody.TheVariants.{Look, Start, KeepMode, KeepTimeout}
-use Rattle.wdg_machine.specs.declared.table.Timing.{Timing}
+use Rattle.module_machines.specs.declared.wdg.table.Timing.{Timing}
 use Rattle.wdg_driver.specs.declared.words.TheConstants.{STATE, TIMEOUT}
 use Rattle.wdg_driver.specs.laws.RefinementRight.{loaded_agrees}
 

@@ -14,8 +14,8 @@ use Rattle.service_outline.specs.ShortServices.{driver_of}
 use Rattle.mcal_base.specs.There.{names_there}
 use Rattle.step_runner.specs.Whose.{only, is_of, module_of_register, module_of_word, WritesWithin, NamesWithin, WritesOthers, NamesOthers, KeepsTo}
 use Rattle.step_runner.proofs.Whose.{not-unless}
-use Rattle.wdg_machine.specs.Bounds.{is_register, is_own_word, owns}
-use Rattle.wdg_machine.specs.declared.table.WdgTable.{WdgTable}
+use Rattle.module_machines.specs.wdg.Bounds.{is_register, is_own_word, owns}
+use Rattle.module_machines.specs.declared.wdg.table.WdgTable.{WdgTable}
 use Rattle.wdg_driver.specs.laws.Lawful.{wdg}
 
 own_register : (r : Reg) → is_register r ≡ true → is_of (only Wdg) (module_of_register r) ≡ true

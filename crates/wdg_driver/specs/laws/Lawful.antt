@@ -19,15 +19,15 @@ use Rattle.service_outline.specs.declared.body.Looked.{Looked}
 use Rattle.service_outline.specs.declared.short.Short.{Short}
 use Rattle.service_outline.specs.laws.Reports.{error_told}
 use Rattle.service_outline.specs.laws.Seen.{plain_sees}
-use Rattle.wdg_machine.specs.Checks.{error_by, answer_refused}
+use Rattle.module_machines.specs.wdg.Checks.{error_by, answer_refused}
 use Rattle.wdg_driver.specs.Refinement.{settled, WdgRepresents, wdg_ground}
-use Rattle.wdg_machine.specs.Machine.{WdgState, set_mode, set_timeout, acts_by, wdg_machine}
-use Rattle.wdg_machine.specs.Table.{allows, FitsWdg}
+use Rattle.module_machines.specs.wdg.Machine.{WdgState, set_mode, set_timeout, acts_by, wdg_machine}
+use Rattle.module_machines.specs.wdg.Table.{allows, FitsWdg}
 use Rattle.wdg_driver.specs.Words.{mode_word, state_word, mode_in}
 use Rattle.wdg_driver.specs.declared.asked.Asked.{Asked}
-use Rattle.wdg_machine.specs.declared.call.Call.{Call}
-use Rattle.wdg_machine.specs.declared.call.Call.TheVariants.{Init, SetMode, SetTriggerCondition}
-use Rattle.wdg_machine.specs.declared.table.WdgTable.{WdgTable}
+use Rattle.module_machines.specs.declared.wdg.call.Call.{Call}
+use Rattle.module_machines.specs.declared.wdg.call.Call.TheVariants.{Init, SetMode, SetTriggerCondition}
+use Rattle.module_machines.specs.declared.wdg.table.WdgTable.{WdgTable}
 use Rattle.wdg_driver.specs.declared.service.WdgBody.{WdgBody}
 use Rattle.wdg_driver.specs.declared.service.WdgBody.TheVariants.{Look, Start, KeepMode, KeepTimeout}
 use Rattle.wdg_driver.specs.declared.words.TheConstants.{STATE}

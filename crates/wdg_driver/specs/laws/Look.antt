@@ -10,14 +10,14 @@ use Rattle.service_outline.specs.declared.body.Looked.{Looked}
 use Rattle.service_outline.specs.declared.body.Looked.TheVariants.{Refused, Goes}
 use Rattle.service_outline.specs.declared.done.Done.{Done}
 use Rattle.service_outline.specs.declared.done.Epilogue.TheVariants.{Nothing}
-use Rattle.wdg_machine.specs.Checks.{service_of, facts_by, error_by, answer_refused, reporting}
-use Rattle.wdg_machine.specs.Table.{allows}
-use Rattle.wdg_machine.specs.Numbers.{narrow}
+use Rattle.module_machines.specs.wdg.Checks.{service_of, facts_by, error_by, answer_refused, reporting}
+use Rattle.module_machines.specs.wdg.Table.{allows}
+use Rattle.module_machines.specs.wdg.Numbers.{narrow}
 use Rattle.wdg_driver.specs.Words.{mode_in}
 use Rattle.wdg_driver.specs.declared.asked.Asked.{Asked}
-use Rattle.wdg_machine.specs.declared.call.Call.TheVariants.{Init, SetMode, SetTriggerCondition}
-use Rattle.wdg_machine.specs.declared.call.Call.{Call}
-use Rattle.wdg_machine.specs.declared.table.WdgTable.{WdgTable}
+use Rattle.module_machines.specs.declared.wdg.call.Call.TheVariants.{Init, SetMode, SetTriggerCondition}
+use Rattle.module_machines.specs.declared.wdg.call.Call.{Call}
+use Rattle.module_machines.specs.declared.wdg.table.WdgTable.{WdgTable}
 use Rattle.wdg_driver.specs.declared.service.Says.TheVariants.{Silent}
 use Rattle.wdg_driver.specs.declared.service.WdgBody.{WdgBody}
 use Rattle.wdg_driver.specs.declared.service.WdgBody.TheVariants.{Look, Start}

@@ -9,8 +9,8 @@ use Rattle.chip_model.specs.Chip.{Chip, chip_after, happened, expiry_of, reset_c
 use Rattle.chip_model.specs.Histories.{sets_rate}
 use Rattle.chip_model.proofs.HistoryLaws.{level_leaves, rate-left}
 use Rattle.chip_model.proofs.WordLaws.{slice_index-blank}
-use Rattle.chip_units.specs.Watchdogs.{loaded, left_of}
-use Rattle.chip_units.specs.declared.watchdog.Watch.{Watch}
+use Rattle.chip_blocks.specs.units.Watchdogs.{loaded, left_of}
+use Rattle.chip_blocks.specs.declared.units.watchdog.Watch.{Watch}
 use Rattle.mcal_base.specs.declared.config.wdg.WdgMode.{WdgMode}
 use Rattle.mcal_base.specs.declared.config.wdg.WdgMode.TheVariants.{Off, Slow, Fast}
 use Rattle.mcal_base.specs.declared.directive.Order.{Order}
@@ -29,15 +29,15 @@ use Rattle.run_model.proofs.OutsideLaws.{stands-move, stands-event, stands-reset
 use Rattle.service_outline.specs.Outline.{IsGround, Comes}
 use Rattle.mcal_base.specs.laws.There.{move_there}
 use Rattle.service_outline.specs.laws.Words.{stores_in, word_apart, word_later, fills_there}
-use Rattle.wdg_machine.specs.Bounds.{owns, is_own_word, wdg_setting}
-use Rattle.wdg_machine.specs.Checks.{service_of, error_by}
+use Rattle.module_machines.specs.wdg.Bounds.{owns, is_own_word, wdg_setting}
+use Rattle.module_machines.specs.wdg.Checks.{service_of, error_by}
 use Rattle.wdg_driver.specs.Refinement.{Lag, settled, WatchRepresents, WdgRepresents, wdg_ground}
-use Rattle.wdg_machine.specs.Machine.{WdgState, first_state, unit_of, deadline_by, set_mode, set_timeout, work, acts_by, happens, expires}
-use Rattle.wdg_machine.specs.Table.{allows}
+use Rattle.module_machines.specs.wdg.Machine.{WdgState, first_state, unit_of, deadline_by, set_mode, set_timeout, work, acts_by, happens, expires}
+use Rattle.module_machines.specs.wdg.Table.{allows}
 use Rattle.wdg_driver.specs.Words.{load_by}
-use Rattle.wdg_machine.specs.declared.call.Call.{Call}
-use Rattle.wdg_machine.specs.declared.call.Call.TheVariants.{Init, SetMode, SetTriggerCondition}
-use Rattle.wdg_machine.specs.declared.table.WdgTable.{WdgTable}
+use Rattle.module_machines.specs.declared.wdg.call.Call.{Call}
+use Rattle.module_machines.specs.declared.wdg.call.Call.TheVariants.{Init, SetMode, SetTriggerCondition}
+use Rattle.module_machines.specs.declared.wdg.table.WdgTable.{WdgTable}
 use Rattle.wdg_driver.specs.declared.words.TheConstants.{STATE, TIMEOUT}
 
 -- ---- the watchdog's time

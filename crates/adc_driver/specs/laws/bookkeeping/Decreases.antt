@@ -22,8 +22,8 @@ use Rattle.adc_driver.specs.laws.bookkeeping.Rank.{begin_cost, claiming, copied_
 use Rattle.adc_driver.specs.laws.bookkeeping.Rank.{inputs_at, keeps_after, look_cost, making_cost, open_cost}
 use Rattle.adc_driver.specs.laws.bookkeeping.Rank.{out_cost, seek_cost, stage_cost, then_cost, limited_few, bodies}
 use Rattle.adc_driver.specs.laws.bookkeeping.Rank.{body_fuel}
-use Rattle.adc_stream.specs.declared.copying.Copied as streams
-use Rattle.adc_stream.specs.declared.copying.Copied.TheVariants as copied
+use Rattle.word_shapes.specs.declared.streams.copying.Copied as streams
+use Rattle.word_shapes.specs.declared.streams.copying.Copied.TheVariants as copied
 use Rattle.mcal_base.specs.facts.Truths.{or_true}
 
 -- the step leaves fewer than this, or is one of them

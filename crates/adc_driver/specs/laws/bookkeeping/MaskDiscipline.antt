@@ -23,8 +23,8 @@ use Terms.{value_of, whether_as, Window, WindowWrite, Within, Word, word_at, wor
 use Terms.{WriteBatch, yields_by, zero, ℕ}
 use Rattle.adc_driver.specs.laws.{bookkeeping.Decreases.{is_inner, is_inner_stage, narrows}, bookkeeping.Rank.{V}}
 use Rattle.adc_driver.specs.laws.{bookkeeping.Rank.{bodies, largest, few_inputs}, words.EitherOne.{either}}
-use Rattle.adc_stream.specs.declared.copying.Copied as streams
-use Rattle.adc_stream.specs.declared.copying.Copied.TheVariants as copied
+use Rattle.word_shapes.specs.declared.streams.copying.Copied as streams
+use Rattle.word_shapes.specs.declared.streams.copying.Copied.TheVariants as copied
 
 -- ---- which places are in a window
 

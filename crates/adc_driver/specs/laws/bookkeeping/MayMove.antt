@@ -1,6 +1,6 @@
 -- The move of each place that owes nothing is one that a frame of the module may make: it names a word of the module, or a register
 -- of the converters that is there, or the mask or a notice.
--- From adc_groups: words.WordsOfModule, adc_groups: services.Decisions, adc_turns: services.WriteBatchRight and 8 more.
+-- From adc_groups: words.WordsOfModule, adc_groups: services.Decisions, adc_laws: turns.services.WriteBatchRight and 8 more.
 -- Used by bookkeeping.Joined.
 use Rattle.std.proofs.Common.{◌≡◌, ◌+◌, ◌-◌, ◌*◌, ◌<◌, ◌≤◌, ◌&&◌, ◌||◌, [], ◌∷◌, ◌∙◌, ◌⊎◌, if◌then◌else◌}
 use Rattle.adc_driver.specs.Terms
@@ -24,8 +24,8 @@ use Terms.{unit_named, unit_within, whether_as, Window, WindowWrite, with_holds,
 use Terms.{word_there, WORDS, words_of, World, WriteBatch, Zero, zero, ℕ}
 use Rattle.adc_driver.specs.laws.words.EitherOne.{either}
 use Rattle.word_shapes.specs.PriorityQueue.{own_of}
-use Rattle.adc_stream.specs.declared.copying.Copied as streams
-use Rattle.adc_stream.specs.declared.copying.Copied.TheVariants as copied
+use Rattle.word_shapes.specs.declared.streams.copying.Copied as streams
+use Rattle.word_shapes.specs.declared.streams.copying.Copied.TheVariants as copied
 
 module _ (d : AdcTable) (fits : FitsAdc d) where
   -- a frame may make the move

@@ -22,8 +22,8 @@ use Rattle.adc_driver.specs.laws.bookkeeping.Rank.{open_cost, out_cost, requests
 use Rattle.adc_driver.specs.laws.bookkeeping.Rank.{stores_after, then_cost, yields_after, and_then_more, in_largest}
 use Rattle.adc_driver.specs.laws.bookkeeping.Rank.{in_most, lists_more}
 use Rattle.adc_groups.specs.declared.making.WindowWrite.TheVariants.{Write}
-use Rattle.adc_stream.specs.declared.copying.Copied as streams
-use Rattle.adc_stream.specs.declared.copying.Copied.TheVariants as copied
+use Rattle.word_shapes.specs.declared.streams.copying.Copied as streams
+use Rattle.word_shapes.specs.declared.streams.copying.Copied.TheVariants as copied
 
 -- a frame is done with the step, or the place where it goes on costs at most so much
 abbrev pub Covers : (steps : Bool) → AdcTable → ℕ → Decided → Type 0

@@ -18,7 +18,7 @@ use Terms.{Sets_up, SetupResultBuffer, slice_index, slice_index_or, Some, spot_a
 use Terms.{Stage, StartGroupConversion, Stops, Stops_turn, StructureOp, subst, suc, Surveys, sym, true, Window}
 use Terms.{with_holds, with_mark, Within, words_happened, World, world_after, WriteBatch, Zero, zero, ℕ}
 use Rattle.service_outline.specs.Services.{Outside}
-use Rattle.chip_converter.specs.Converters as chips
+use Rattle.chip_blocks.specs.converter.Converters as chips
 
 -- ---- what the hardware leaves
 

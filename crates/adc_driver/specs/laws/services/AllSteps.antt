@@ -1,6 +1,6 @@
 -- Each step of the driver's bodies is right, at each place that owes no move: where a frame looks, with the mask closed, where it makes
 -- its moves or opens the mask, and where the mask is open.
--- From adc_groups: services.CallSteps, adc_groups: services.SeekRight, adc_serving: services.ClaimRight and 14 more.
+-- From adc_groups: services.CallSteps, adc_groups: services.SeekRight, adc_laws: serving.services.ClaimRight and 14 more.
 -- Used by bookkeeping.Joined, bookkeeping.NoneWaitsPlaces.
 use Rattle.std.proofs.Common.{◌≡◌, ◌<◌}
 use Rattle.adc_driver.specs.Terms
@@ -20,7 +20,7 @@ use Terms.{suspend_looks, suspend_seeks, sym, take_flag, take_looks, Tells, tell
 use Terms.{trigger_looks, true, value_of, Window, with_holds, World, WriteBatch, yield_looks, ℕ}
 use Rattle.adc_driver.specs.laws.{bookkeeping.MaskDiscipline.{driver_place}, services.KeepCopySteps.{counts_step}}
 use Rattle.adc_driver.specs.laws.services.KeepCopySteps.{keeps_step}
-use Rattle.adc_stream.specs.declared.copying.Copied as streams
+use Rattle.word_shapes.specs.declared.streams.copying.Copied as streams
 
 -- a window to start a group is of one of the two units, claimed or not
 pub convert_unit : (d : AdcTable) (below : Reservations) (w : World) (s : AdcState) (o : Origin Call) (p : FrameHistory) (u g : ℕ) (c : Bool) → InWindow d (Window.Convert u g c) below w s o p → u < 2

@@ -11,10 +11,10 @@ use Terms.{Out, Outside, place_sum, positive, refl, Reservations, result_of, Rig
 use Terms.{Some, Store, subst, Suspended, sym, true, value_of, WholeRight, Window, World, ℕ}
 use Rattle.adc_driver.specs.laws.words.KeptWords.{limited_is, limited_most, few_places, keeps_more, keeps_all, keeper}
 use Rattle.adc_driver.specs.laws.words.KeptWords.{kept_agrees}
-use Rattle.chip_converter.specs.Converters as chips
-use Rattle.chip_converter.specs.Rounds as rounds
-use Rattle.adc_stream.specs.declared.copying.Copied.TheVariants as copied
-use Rattle.adc_stream.specs.declared.copying.Copied as streams
+use Rattle.chip_blocks.specs.converter.Converters as chips
+use Rattle.chip_blocks.specs.converter.Rounds as rounds
+use Rattle.word_shapes.specs.declared.streams.copying.Copied.TheVariants as copied
+use Rattle.word_shapes.specs.declared.streams.copying.Copied as streams
 use Rattle.adc_groups.specs.Refinement as ground
 
 is_none : (n : ℕ) → (n == 0) ≡ true → n ≡ 0

@@ -28,8 +28,8 @@ use Rattle.adc_groups.specs.laws.words.WordsChange.{past_state, past_unit, place
 use Rattle.adc_groups.specs.laws.words.WordsChange.{seven_low, six_low, small_low, turn_look, unit_low, units_apart}
 use Rattle.adc_groups.specs.laws.words.WordsOfModule.{bank_below, on_there, unit_is, unit_small, unit_within}
 use Rattle.std.proofs.lemmas.Bool.{not-true}
-use Rattle.chip_converter.specs.Converters as chips
-use Rattle.chip_converter.specs.Rounds as rounds
+use Rattle.chip_blocks.specs.converter.Converters as chips
+use Rattle.chip_blocks.specs.converter.Rounds as rounds
 
 -- the banks of a group stand as before where their words stay, and where the same put and take are under way
 pub banks_stay : {d : AdcTable} {before after : Reservations} {s : AdcState} {g : ℕ} (a b : Chip) → BanksAgree d before (word_of a) s g → ((k : ℕ) → own_of (trio_of (rounds_of d g)) k ≡ true → word_of b k ≡ word_of a k)

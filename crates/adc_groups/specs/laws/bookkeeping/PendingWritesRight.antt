@@ -1,6 +1,6 @@
 -- The moves that windows owe are as the outline asks for, and what is promised of the other unit stays.
 -- From hardware.HardwareCommutes, hardware.StableUnderHardware, words.Cases, service_outline: SimpleMoves and 3 more.
--- Used by services.RequestRight, services.StopRight, adc_turns: words.BegunWords and 7 more.
+-- Used by services.RequestRight, services.StopRight, adc_laws: turns.words.BegunWords and 7 more.
 use Rattle.std.proofs.Common.{◌≡◌, ◌≢◌, ◌+◌, ◌^◌, ◌<◌, ◌≤◌, ◌&&◌, ◌||◌, ◌==◌, [], ◌∷◌, ◌∙◌, if◌then◌else◌}
 use Rattle.adc_groups.specs.Terms
 use Terms.{aborts, aborts_by, ack_left, acks, AdcState, AdcTable, Agrees, Alike, Alike_but, alike_chips, Alike_same}
@@ -28,9 +28,9 @@ use Rattle.adc_groups.specs.laws.hardware.HardwareCommutes.{small_or, small_with
 use Rattle.adc_groups.specs.laws.hardware.HardwareCommutes.{unit_set, unkept_same}
 use Rattle.adc_groups.specs.laws.hardware.StableUnderHardware.{Goes_on, Is_left, Onward, onward_agrees, UnitGoes}
 use Rattle.adc_groups.specs.PendingWrites.{IsSound}
-use Rattle.chip_converter.specs.Rounds.{Round as ChipRound}
-use Rattle.chip_converter.specs.Converters as chips
-use Rattle.chip_converter.specs.Rounds as rounds
+use Rattle.chip_blocks.specs.converter.Rounds.{Round as ChipRound}
+use Rattle.chip_blocks.specs.converter.Converters as chips
+use Rattle.chip_blocks.specs.converter.Rounds as rounds
 
 any_same : (p q : ℕ → Bool) → ((h : ℕ) → p h ≡ q h) → (gs : List ℕ) → list_any p gs ≡ list_any q gs
 any_same p q same [] = refl

@@ -1,6 +1,6 @@
 -- The refinement's obligations without writes that wait, and what they rest on: numbers, turns of a unit, and who listens.
 -- From hardware.HardwareMoves, words.Cases, hardware.AfterReset, words.WordsOfModule and 6 more.
--- Used by adc_turns: services.AbortRight, services.EnableTriggerRight, services.StopRight and 14 more.
+-- Used by adc_laws: turns.services.AbortRight, services.EnableTriggerRight, services.StopRight and 14 more.
 use Rattle.std.proofs.Common.{◌≡◌, ◌≢◌, ◌+◌, ◌-◌, ◌*◌, ◌/◌, ◌^◌, ◌<◌, ◌≤◌, ◌&&◌, ◌||◌, ◌==◌, [], ◌∷◌, ◌∙◌}
 use Rattle.std.proofs.Common.{if◌then◌else◌}
 use Rattle.adc_groups.specs.Terms
@@ -28,7 +28,7 @@ use Rattle.adc_groups.specs.laws.{hardware.HardwareMoves.{plain}, hardware.Stabl
 use Rattle.adc_groups.specs.laws.words.WordsOfModule.{unit_is, unit_small}
 use Rattle.run_model.specs.Machine.{Starts}
 use Rattle.adc_machine.specs.{declared.call.Call.TheVariants.{Group}, Machine.{starts_on}}
-use Rattle.chip_converter.specs.Rounds as rounds
+use Rattle.chip_blocks.specs.converter.Rounds as rounds
 use Rattle.mcal_base.specs.declared.moves.Unit as units
 use Rattle.adc_machine.specs.declared.table.Group as configured
 

@@ -1,6 +1,6 @@
 -- What windows of the module owe: the hardware may move between any two of these moves, and either order comes to alike chips.
 -- From services.WriteBatchSteps, words.Cases, service_outline: SimpleMoves.
--- Used by bookkeeping.PendingWritesRight, services.StopWords, adc_serving: services.ServeActRight and 9 more.
+-- Used by bookkeeping.PendingWritesRight, services.StopWords, adc_laws: serving.services.ServeActRight and 9 more.
 use Rattle.std.proofs.Common.{◌≡◌, ◌≢◌, ◌+◌, ◌-◌, ◌*◌, ◌^◌, ◌<◌, ◌≤◌, ◌&&◌, ◌||◌, ◌==◌, [], ◌∷◌, ◌∙◌, if◌then◌else◌}
 use Rattle.adc_groups.specs.Terms
 use Terms.{ack_left, AdcTable, Add, add_gave, add_left, after_deeds, Again, again_gave, again_left, Alike, Alike_but}
@@ -18,10 +18,10 @@ use Terms.{same_from_bits_below, same_or_other, Search, search_move, set_apart, 
 use Terms.{slice_index, slice_index_or, slice_set, Some, some_same, Store, StructureOp, subst, suc, sym, Take}
 use Terms.{take_gave, take_left, TriggerClear, TriggerFlags, true, UnitsAlike, unused, whether, whether_as, WindowWrite}
 use Terms.{without, Word, word_number, words-read, words-write, words_happened, World, Write, ℕ}
-use Rattle.chip_converter.specs.Rounds.{Round}
+use Rattle.chip_blocks.specs.converter.Rounds.{Round}
 use Rattle.adc_groups.specs.PendingWrites.{is_owed, IsSound}
-use Rattle.chip_converter.specs.Converters as chips
-use Rattle.chip_converter.specs.Rounds as rounds
+use Rattle.chip_blocks.specs.converter.Converters as chips
+use Rattle.chip_blocks.specs.converter.Rounds as rounds
 use Rattle.word_shapes.specs.declared.add.Add.TheVariants as adds
 use Rattle.word_shapes.specs.declared.again.Again.TheVariants as agains
 use Rattle.word_shapes.specs.declared.choosing.Next.TheVariants as nexts

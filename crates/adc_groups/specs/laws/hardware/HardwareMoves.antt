@@ -22,8 +22,8 @@ use Rattle.adc_groups.specs.laws.hardware.StableUnderHardware.{now_here, Onward,
 use Rattle.adc_groups.specs.laws.words.WordsOfModule.{words_below}
 use Rattle.std.proofs.lemmas.Bool.{and_right}
 use Rattle.adc_machine.specs.Words.{is_converter}
-use Rattle.chip_converter.specs.Converters as chips
-use Rattle.chip_converter.specs.Rounds as rounds
+use Rattle.chip_blocks.specs.converter.Converters as chips
+use Rattle.chip_blocks.specs.converter.Rounds as rounds
 
 -- ---- levels and samples
 

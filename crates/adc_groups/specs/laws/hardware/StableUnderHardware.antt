@@ -1,6 +1,6 @@
 -- While nothing of the module's is made, words and registers go on agreeing: the hardware moves, or another module's frame does.
 -- From words.WordsOfModule, services.InitSteps, words.OrderWords.
--- Used by bookkeeping.PendingWritesRight, hardware.HardwareMoves, adc_turns: words.ListedInputs and 14 more.
+-- Used by bookkeeping.PendingWritesRight, hardware.HardwareMoves, adc_laws: turns.words.ListedInputs and 14 more.
 use Rattle.std.proofs.Common.{◌≡◌, ◌≢◌, ◌+◌, ◌-◌, ◌*◌, ◌/◌, ◌%◌, ◌<◌, ◌≤◌, ◌&&◌, ◌||◌, ◌==◌, [], ◌∷◌, ◌++◌, ◌∙◌}
 use Rattle.std.proofs.Common.{if◌then◌else◌}
 use Rattle.adc_groups.specs.Terms
@@ -20,8 +20,8 @@ use Rattle.adc_groups.specs.laws.words.{OrderWords.{order_kept}, WordsOfModule.{
 use Rattle.adc_groups.specs.laws.words.WordsOfModule.{few_inputs, first_words, IsOwnStore, kept_words, left_small}
 use Rattle.adc_groups.specs.laws.words.WordsOfModule.{low_words, on_there, order_words, place_words, running_words}
 use Rattle.adc_groups.specs.laws.words.WordsOfModule.{trio_words, unit_small, unit_within}
-use Rattle.chip_converter.specs.Converters as chips
-use Rattle.chip_converter.specs.Rounds as rounds
+use Rattle.chip_blocks.specs.converter.Converters as chips
+use Rattle.chip_blocks.specs.converter.Rounds as rounds
 
 -- a round goes on: what has ended keeps its result, and what ends meanwhile has its level
 pub record GoesOn (a b : Chip) (w x : World) (u : ℕ) : Type 0 where

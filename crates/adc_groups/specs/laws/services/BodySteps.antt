@@ -10,7 +10,7 @@ use StepTerms.{Keeps, limited, Looks, Makes, Move, no_answer, Nothing, Opens, Ou
 use StepTerms.{put_gave, put_left, put_move, Quits, Reads, Reg, rounds_of, Seeks, Serves, STATE, Surveys, Suspended}
 use StepTerms.{Take, take_left, take_move, take_start, TakePart, Tells, TriggerFlags, trio_of, Window, Word}
 use StepTerms.{word_number, WriteBatch}
-use Rattle.adc_stream.specs.declared.copying.Copied.TheVariants as copied
+use Rattle.word_shapes.specs.declared.streams.copying.Copied.TheVariants as copied
 use Rattle.adc_groups.specs.laws.services.Decisions.{entered, decided, flagged, surveyed, sought, chosen, pin, reading, aborted, copies_or}
 use Rattle.adc_groups.specs.laws.services.WriteBatchSteps.{making_move, making_left, making_event, making_over}
 use Rattle.adc_groups.specs.laws.services.ReadSteps.{newest_move, newest_left, newest_taken, newest_answer}

@@ -17,7 +17,7 @@ use StepTerms.{TriggerClear, TriggerFlags, TriggerSet, trio_of, unit_of, Window,
 use StepTerms.{zero_null}
 use Rattle.mcal_base.specs.declared.moves.Unit as units
 use Rattle.word_shapes.specs.declared.take.Take as takes
-use Rattle.adc_stream.specs.declared.copying.Copied.TheVariants as copied
+use Rattle.word_shapes.specs.declared.streams.copying.Copied.TheVariants as copied
 use Rattle.adc_groups.specs.declared.making.WindowWrite.TheVariants.{Write}
 use Rattle.adc_groups.specs.declared.outside.Outside.TheVariants.{Reads}
 use Rattle.adc_groups.specs.laws.services.WriteBatchSteps.{making}

@@ -1,6 +1,6 @@
 -- A trigger is enabled, its pulse is served, and what is left where it is off.
 -- From services.RequestRight, bookkeeping.FrameRule, words.StructureParts, bookkeeping.RefinementRight and 14 more.
--- Used by services.SingleWordSteps, services.StopRight, adc_serving: services.ServeActRight, services.CallSteps.
+-- Used by services.SingleWordSteps, services.StopRight, adc_laws: serving.services.ServeActRight, services.CallSteps.
 use Rattle.std.proofs.Common.{◌≡◌, ◌≢◌, ◌+◌, ◌*◌, ◌/◌, ◌%◌, ◌^◌, ◌<◌, ◌&&◌, ◌||◌, ◌==◌, [], ◌∷◌, ◌∙◌, ◌⊎◌}
 use Rattle.std.proofs.Common.{if◌then◌else◌}
 use Rattle.adc_groups.specs.Terms

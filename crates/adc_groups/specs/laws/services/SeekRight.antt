@@ -1,6 +1,6 @@
 -- A unit looks for the turn that comes next: which one is chosen, when it begins or yields, and the steps of the windows that seek it.
 -- From services.Decisions, services.BodySteps, services.CallSteps, services.SingleWordCalls and 7 more.
--- Used by adc_driver: services.AllSteps, adc_turns: services.KeepRight, adc_turns: services.StartRight and 5 more.
+-- Used by adc_driver: services.AllSteps, adc_laws: turns.services.KeepRight, adc_laws: turns.services.StartRight and 5 more.
 use Rattle.std.proofs.Common.{◌≡◌, ◌≢◌, ◌+◌, ◌-◌, ◌<◌, ◌≤◌, ◌&&◌, ◌||◌, ◌==◌, [], ◌∷◌, ◌∙◌, ◌⊎◌, if◌then◌else◌}
 use Rattle.adc_groups.specs.Terms
 use Terms.{aborts, aborts_by, adc_bodies, adc_machine, AdcBody, AdcGround, AdcState, AdcTable, Agrees, AllBelow}

@@ -1,6 +1,6 @@
 -- A window looks at its words and decides: acts that change nothing, and calls that change one word of their group.
 -- From services.Decisions, services.BodySteps, words.StoreOneWord, words.WindowWords, words.WordsOfModule and 5 more.
--- Used by services.CallSteps, adc_serving: services.PinRight, services.DeInitRight, services.SeekRight and 12 more.
+-- Used by services.CallSteps, adc_laws: serving.services.PinRight, services.DeInitRight, services.SeekRight and 12 more.
 use Rattle.std.proofs.Common.{◌≡◌, ◌≢◌, ◌+◌, ◌-◌, ◌*◌, ◌/◌, ◌%◌, ◌<◌, ◌≤◌, ◌||◌, [], ◌∷◌, ◌++◌, ◌∙◌, if◌then◌else◌}
 use Rattle.adc_groups.specs.Terms
 use Terms.{acts_and_ends, acts_by, adc_bodies, adc_machine, AdcBody, AdcGround, AdcState, AdcTable, add-mul, Agrees}

@@ -1,6 +1,6 @@
 -- A call stops a group: the step at which it acts, and all that its window makes after that; before it, a window's first move.
 -- From services.StopWords, services.RequestRight, words.StructureParts, bookkeeping.FrameRule and 15 more.
--- Used by services.SingleWordSteps, adc_serving: services.ServeRight, services.CallSteps and 4 more.
+-- Used by services.SingleWordSteps, adc_laws: serving.services.ServeRight, services.CallSteps and 4 more.
 use Rattle.std.proofs.Common.{◌≡◌, ◌≢◌, ◌+◌, ◌*◌, ◌/◌, ◌%◌, ◌<◌, ◌&&◌, ◌||◌, ◌==◌, [], ◌∷◌, ◌++◌, ◌∙◌, if◌then◌else◌}
 use Rattle.adc_groups.specs.Terms
 use Terms.{acts_by, adc_bodies, adc_machine, AdcBody, AdcGround, AdcState, AdcTable, Adding, after_list, after_making}

@@ -1,6 +1,6 @@
 -- A group is stopped: the state after it, and what its window's moves make of words and of the block.
 -- From hardware.HardwareCommutes, words.StructureParts, services.Decisions, bookkeeping.RefinementRight and 6 more.
--- Used by services.StopRight, adc_serving: services.ServeActRight, adc_serving: services.ServeWords and 1 more.
+-- Used by services.StopRight, adc_laws: serving.services.ServeActRight, adc_laws: serving.services.ServeWords and 1 more.
 use Rattle.std.proofs.Common.{◌≡◌, ◌≢◌, ◌+◌, ◌*◌, ◌^◌, ◌<◌, ◌≤◌, ◌&&◌, ◌||◌, ◌==◌, [], ◌∷◌, ◌++◌, ◌∙◌, if◌then◌else◌}
 use Rattle.adc_groups.specs.Terms
 use Terms.{Abort, ack_left, AdcState, AdcTable, after_deeds, after_list, AllMay, AllRight, and_false, and_true, ap}
@@ -21,7 +21,7 @@ use Rattle.adc_groups.specs.laws.words.StructureParts.{deeds_unit, deeds_whole, 
 use Rattle.adc_groups.specs.{laws.words.StructureParts.{units_set}, laws.words.WordsOfModule.{claim_words}}
 use Rattle.adc_groups.specs.{laws.words.WordsOfModule.{running_words}, PendingWrites.{IsSound}}
 use Rattle.mcal_base.specs.facts.Truths.{or_true}
-use Rattle.chip_converter.specs.Converters as chips
+use Rattle.chip_blocks.specs.converter.Converters as chips
 
 -- ---- the state
 

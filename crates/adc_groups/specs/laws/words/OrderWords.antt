@@ -1,6 +1,6 @@
 -- What an order of requests stands for after it was changed.
 -- From words.Cases.
--- Used by services.StopRight, adc_serving: services.ServeActRight, bookkeeping.FrameRule and 7 more.
+-- Used by services.StopRight, adc_laws: serving.services.ServeActRight, bookkeeping.FrameRule and 7 more.
 use Rattle.std.proofs.Common.{◌≡◌, ◌≢◌, ◌<◌, ◌&&◌, ◌||◌, ◌==◌, [], ◌∷◌, ◌++◌, ◌∙◌, ◌⊎◌, if◌then◌else◌}
 use Rattle.adc_groups.specs.Terms
 use Terms.{AdcState, AdcTable, added, and_parts, and_second, ap, arith, Bool, cases, Entry, eq_other, eq_self, false}

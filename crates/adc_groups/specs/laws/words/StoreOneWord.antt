@@ -1,6 +1,6 @@
 -- A store of a group's word, with the change of the group that it stands for, leaves all else agreeing.
 -- From words.WordsOfModule, hardware.StableUnderHardware, words.Cases, service_outline: Words, words.OrderWords.
--- Used by adc_serving: services.PinRight, services.SingleWordCalls, adc_driver: services.InitWords and 17 more.
+-- Used by adc_laws: serving.services.PinRight, services.SingleWordCalls, adc_driver: services.InitWords and 17 more.
 use Rattle.std.proofs.Common.{◌≡◌, ◌≢◌, ◌+◌, ◌-◌, ◌*◌, ◌/◌, ◌%◌, ◌<◌, ◌≤◌, ◌&&◌, ◌||◌, ◌==◌, [], ◌∷◌, ◌∙◌}
 use Rattle.std.proofs.Common.{if◌then◌else◌}
 use Rattle.adc_groups.specs.Terms

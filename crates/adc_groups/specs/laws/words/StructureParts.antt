@@ -1,6 +1,6 @@
 -- The parts of a structure's word, and what is so of the order between its writes.
 -- From service_outline: Words, words.WordsOfModule, services.WriteBatchSteps, words.Cases, words.StoreOneWord.
--- Used by services.RequestRight, adc_turns: services.AbortRight, adc_serving: services.ServeWords and 16 more.
+-- Used by services.RequestRight, adc_laws: turns.services.AbortRight, adc_laws: serving.services.ServeWords and 16 more.
 use Rattle.std.proofs.Common.{◌≡◌, ◌≢◌, ◌+◌, ◌-◌, ◌*◌, ◌<◌, ◌≤◌, ◌&&◌, ◌||◌, ◌==◌, [], ◌∷◌, ◌∙◌, if◌then◌else◌}
 use Rattle.adc_groups.specs.Terms
 use Terms.{AdcTable, adding, after_list, Answer, ap, AreListed, arith, Bool, Chip, chip_after, Continuation, deed_move}

@@ -1,6 +1,6 @@
 -- Words of one group change: those of the others stand elsewhere, and all that frames hold stays right.
 -- From hardware.StableUnderHardware, words.StoreOneWord, words.StructureParts, words.WordsOfModule and 2 more.
--- Used by bookkeeping.FrameRule, adc_serving: services.CopyRight, adc_serving: words.ControlWord and 4 more.
+-- Used by bookkeeping.FrameRule, adc_laws: serving.services.CopyRight, adc_laws: serving.words.ControlWord and 4 more.
 use Rattle.std.proofs.Common.{◌≡◌, ◌≢◌, ◌+◌, ◌-◌, ◌*◌, ◌/◌, ◌%◌, ◌<◌, ◌≤◌, ◌&&◌, ◌||◌, ◌==◌, [], ◌∷◌, ◌∙◌}
 use Rattle.std.proofs.Common.{if◌then◌else◌}
 use Rattle.adc_groups.specs.Terms
@@ -18,8 +18,8 @@ use Rattle.adc_groups.specs.laws.hardware.StableUnderHardware.{few_values, kept_
 use Rattle.adc_groups.specs.laws.words.StoreOneWord.{place_apart, start_from, trio_apart}
 use Rattle.adc_groups.specs.laws.words.StructureParts.{order_within, stands_words, word_there}
 use Rattle.adc_groups.specs.laws.words.WordsOfModule.{bank_below, claim_words, on_there}
-use Rattle.chip_converter.specs.Converters as chips
-use Rattle.chip_converter.specs.Rounds as rounds
+use Rattle.chip_blocks.specs.converter.Converters as chips
+use Rattle.chip_blocks.specs.converter.Rounds as rounds
 
 -- ---- rounds of other groups
 

@@ -1,6 +1,6 @@
 use Rattle.std.proofs.Common.{ap, sym, ◌∙◌}
 use Rattle.run_model.specs.Machine.{numbers}
-use Rattle.icu_machine.specs.Machine.{channel_answer}
+use Rattle.module_machines.specs.icu.Machine.{channel_answer}
 use Rattle.audit_captures.specs.Stands.{capture_of}
 use Rattle.audit_captures.proofs.checks.answer.Goals as goal
 

@@ -1,6 +1,6 @@
 -- The bit of each configured pin is put below those before it.
 use Rattle.std.proofs.Common.{◌≡◌, ◌∙◌, ap, arith}
-use Rattle.port_machine.specs.Bounds.{latch_duties, latch_duty}
+use Rattle.module_machines.specs.port.Bounds.{latch_duties, latch_duty}
 use Rattle.audit_subject.specs.Marks as spec
 use Rattle.audit_clock.proofs.LatchLaws.{marks_none, marks_more, marks_room}
 use Rattle.audit_clock.proofs.latches.marks.Goals as goal

@@ -1,6 +1,6 @@
 -- The pins so far.
 use Rattle.std.proofs.Common.{◌≡◌}
-use Rattle.port_machine.specs.Bounds.{latch_duties}
+use Rattle.module_machines.specs.port.Bounds.{latch_duties}
 use Rattle.audit_subject.specs.Marks as spec
 use Rattle.audit_clock.proofs.latches.marks.Given as goal
 

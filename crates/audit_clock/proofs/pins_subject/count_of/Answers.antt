@@ -3,8 +3,8 @@ use Rattle.std.proofs.Common.{rules, ◌≡◌, ◌≤◌, length, take, Option,
 use Rattle.std.specs.Prelude.{sum_by, slice_index_or}
 use Rattle.std.proofs.lemmas.List.{take_all}
 use Rattle.std.proofs.lemmas.List.Sums.{sum_by_more}
-use Rattle.port_machine.specs.Bounds as spec
-use Rattle.port_machine.specs.declared.table.Pin.{Pin}
+use Rattle.module_machines.specs.port.Bounds as spec
+use Rattle.module_machines.specs.declared.port.table.Pin.{Pin}
 use Rattle.audit_clock.proofs.pins_subject.count_of.Goals as goal
 
 counted_small : (k : Option Pin) → spec.counted k ≤ 1

@@ -1,5 +1,5 @@
 use Rattle.std.proofs.Common.{refl}
-use Rattle.port_machine.specs.Machine.{Inverted, with_change}
+use Rattle.module_machines.specs.port.Machine.{Inverted, with_change}
 use Rattle.audit_clock.proofs.ports.flips.Goals as goal
 
 pub returns-clause-is : goal.returns-clause-is

@@ -1,5 +1,5 @@
 use Rattle.std.proofs.Common.{subst, refl}
-use Rattle.port_machine.specs.Machine.{Put, with_change}
+use Rattle.module_machines.specs.port.Machine.{Put, with_change}
 use Rattle.audit_clock.specs.PinStands.{StandsFor}
 use Rattle.audit_clock.proofs.ports.puts_value.Goals as goal
 

@@ -1,6 +1,6 @@
 use Rattle.std.proofs.Common.{ap, ◌∙◌}
 use Rattle.run_model.specs.Machine.{answers}
-use Rattle.dio_machine.specs.Values.{level_answer}
+use Rattle.module_machines.specs.dio.Values.{level_answer}
 use Rattle.audit_clock.proofs.PortLevels.{level_same}
 use Rattle.audit_clock.proofs.ports.tells_level.Goals as goal
 

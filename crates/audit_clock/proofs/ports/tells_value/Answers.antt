@@ -1,6 +1,6 @@
 use Rattle.std.proofs.Common.{ap, ◌∙◌}
 use Rattle.run_model.specs.Machine.{answers, number}
-use Rattle.dio_machine.specs.Values.{moved_down}
+use Rattle.module_machines.specs.dio.Values.{moved_down}
 use Rattle.audit_clock.proofs.PortLevels.{value_same}
 use Rattle.audit_clock.proofs.ports.tells_value.Goals as goal
 

@@ -1,7 +1,7 @@
 use Rattle.std.proofs.Common.{ap, ◌∙◌, []}
-use Rattle.det_errors.specs.Rows.{first_error}
+use Rattle.mcal_base.specs.det_errors.Rows.{first_error}
 use Rattle.run_model.specs.Machine.{answers, tells_error}
-use Rattle.dio_machine.specs.Checks.{answer_refused, unknown}
+use Rattle.module_machines.specs.dio.Checks.{answer_refused, unknown}
 use Rattle.audit_clock.proofs.ports.unknown.Goals as goal
 
 pub returns-in-Some : goal.returns-in-Some

@@ -1,7 +1,7 @@
 use Rattle.std.proofs.Common.{◌≡◌, ◌-◌, ◌<◌, None, arith, drop, length, refl, slice_index_or, subst, suc}
 use Rattle.std.specs.Prelude.{option_map}
 use Rattle.chip_model.specs.Chip.{channel_from}
-use Rattle.pwm_machine.specs.Machine.{level_at}
+use Rattle.module_machines.specs.pwm.Machine.{level_at}
 use Rattle.audit_machines.proofs.Seen.{seen_more, seen_none, seen_same}
 use Rattle.audit_machines.proofs.around_pins.outputs_seen.Goals as goal
 

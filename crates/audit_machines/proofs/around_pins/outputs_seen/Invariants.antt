@@ -1,7 +1,7 @@
 use Rattle.std.proofs.Common.{◌≡◌, ℕ, ◌<◌, ◌≤◌, None, drop, slice_index_or}
 use Rattle.std.specs.Prelude.{option_map}
 use Rattle.chip_model.specs.Chip.{channel_from}
-use Rattle.pwm_machine.specs.Machine.{level_at}
+use Rattle.module_machines.specs.pwm.Machine.{level_at}
 use Rattle.run_model.specs.World.{World}
 use Rattle.audit_machines.proofs.around_pins.outputs_seen.Given as goal
 

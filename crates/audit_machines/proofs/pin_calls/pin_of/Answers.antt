@@ -1,5 +1,5 @@
 use Rattle.std.proofs.Common.{◌∙◌, ap}
-use Rattle.port_machine.specs.Machine.{level_of, pin_at}
+use Rattle.module_machines.specs.port.Machine.{level_of, pin_at}
 use Rattle.audit_machines.specs.Guest.{output_at}
 use Rattle.audit_machines.proofs.pin_calls.pin_of.Goals as goal
 

@@ -1,7 +1,7 @@
 use Rattle.std.proofs.Common.{subst}
-use Rattle.chip_units.specs.Pins as pins
-use Rattle.pwm_machine.specs.Bounds.{OutputsAgree}
-use Rattle.pwm_machine.specs.Machine.{PwmState}
+use Rattle.chip_blocks.specs.units.Pins as pins
+use Rattle.module_machines.specs.pwm.Bounds.{OutputsAgree}
+use Rattle.module_machines.specs.pwm.Machine.{PwmState}
 use Rattle.audit_frames.specs.Decides.{Decides}
 use Rattle.audit_frames.proofs.Deciding.{no, worded}
 use Rattle.audit_modules.specs.Agrees.{PinsUnless}

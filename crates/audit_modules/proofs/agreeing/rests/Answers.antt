@@ -1,7 +1,7 @@
 use Rattle.std.proofs.Common.{ℕ, subst}
 use Rattle.chip_model.specs.Chip.{word_of}
-use Rattle.chip_units.specs.Pins as pins
-use Rattle.port_machine.specs.Bounds.{PinsAgree}
+use Rattle.chip_blocks.specs.units.Pins as pins
+use Rattle.module_machines.specs.port.Bounds.{PinsAgree}
 use Rattle.spi_machine.specs.Bounds.{HoldsArrays}
 use Rattle.spi_machine.specs.State.{SpiState}
 use Rattle.audit_frames.specs.Decides.{Decides}

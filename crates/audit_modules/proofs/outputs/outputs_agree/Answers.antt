@@ -1,6 +1,6 @@
 use Rattle.std.proofs.Common.{◌≡◌}
-use Rattle.chip_pulses.specs.Pulses as chip
-use Rattle.pwm_machine.specs.Machine as machine
+use Rattle.chip_blocks.specs.pulses.Pulses as chip
+use Rattle.module_machines.specs.pwm.Machine as machine
 use Rattle.audit_modules.proofs.Below.{one_more, one_fails, all_pass}
 use Rattle.audit_modules.proofs.outputs.outputs_agree.Goals as goal
 

@@ -1,6 +1,6 @@
 use Rattle.std.proofs.Common.{◌≡◌, ℕ, ◌<◌}
-use Rattle.chip_pulses.specs.Pulses as chip
-use Rattle.pwm_machine.specs.Machine as machine
+use Rattle.chip_blocks.specs.pulses.Pulses as chip
+use Rattle.module_machines.specs.pwm.Machine as machine
 use Rattle.run_model.specs.World.{World}
 use Rattle.audit_modules.proofs.outputs.outputs_agree.Given as goal
 

@@ -1,6 +1,6 @@
 use Rattle.std.proofs.Common.{ap, ◌∙◌}
 use Rattle.audit_frames.proofs.Deciding.{no, worded}
-use Rattle.port_machine.specs.Machine.{PinState, is_out}
+use Rattle.module_machines.specs.port.Machine.{PinState, is_out}
 use Rattle.audit_modules.proofs.Below.{fails, same_values}
 use Rattle.audit_modules.proofs.pins.has_pin.Goals as goal
 

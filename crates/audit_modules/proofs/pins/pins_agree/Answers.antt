@@ -1,6 +1,6 @@
 use Rattle.std.proofs.Common.{arith}
-use Rattle.port_machine.specs.Bounds.{PinAgrees}
-use Rattle.port_machine.specs.Machine.{pin_at}
+use Rattle.module_machines.specs.port.Bounds.{PinAgrees}
+use Rattle.module_machines.specs.port.Machine.{pin_at}
 use Rattle.audit_modules.proofs.Below.{one_more, one_fails, all_pass}
 use Rattle.audit_modules.proofs.pins.pins_agree.Goals as goal
 

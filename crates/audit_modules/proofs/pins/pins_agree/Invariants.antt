@@ -1,6 +1,6 @@
 use Rattle.std.proofs.Common.{◌≡◌, ℕ, ◌<◌, length}
-use Rattle.port_machine.specs.Bounds.{PinAgrees}
-use Rattle.port_machine.specs.Machine.{PortState, pin_at}
+use Rattle.module_machines.specs.port.Bounds.{PinAgrees}
+use Rattle.module_machines.specs.port.Machine.{PortState, pin_at}
 use Rattle.audit_clock.specs.PinStands.{StandsFor}
 use Rattle.audit_modules.proofs.pins.pins_agree.Given as goal
 

@@ -1,5 +1,5 @@
 use Rattle.std.proofs.Common.{◌≡◌, slice_index}
-use Rattle.mcu_machine.specs.Machine.{ram_at}
+use Rattle.module_machines.specs.mcu.Machine.{ram_at}
 use Rattle.audit_modules.proofs.Below.{one_more, one_fails, all_pass}
 use Rattle.audit_modules.proofs.ram.ram_agrees.Goals as goal
 

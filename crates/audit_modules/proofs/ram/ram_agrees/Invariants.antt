@@ -1,5 +1,5 @@
 use Rattle.std.proofs.Common.{◌≡◌, ℕ, ◌<◌, slice_index}
-use Rattle.mcu_machine.specs.Machine.{McuState, ram_at}
+use Rattle.module_machines.specs.mcu.Machine.{McuState, ram_at}
 use Rattle.audit_clock.specs.ClockStands.{StandsFor}
 use Rattle.audit_modules.proofs.ram.ram_agrees.Given as goal
 

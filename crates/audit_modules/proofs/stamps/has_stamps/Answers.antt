@@ -1,6 +1,6 @@
 use Rattle.std.proofs.Common.{◌≡◌}
 use Rattle.chip_model.specs.Chip.{word_of}
-use Rattle.icu_machine.specs.Shown.{stamp_at}
+use Rattle.module_machines.specs.icu.Shown.{stamp_at}
 use Rattle.mcal_base.specs.Layout.{place_of}
 use Rattle.mcal_base.specs.declared.layout.Array.TheVariants.{Stamps}
 use Rattle.audit_modules.proofs.Below.{one_more, one_fails, all_pass}

@@ -1,5 +1,5 @@
 use Rattle.std.proofs.Common.{ℕ, ◌<◌}
-use Rattle.icu_machine.specs.Machine.{IcuState}
+use Rattle.module_machines.specs.icu.Machine.{IcuState}
 use Rattle.audit_captures.specs.Stands.{StandsFor}
 use Rattle.audit_modules.specs.Agrees.{StampsIf}
 use Rattle.audit_modules.proofs.stamps.stamps_agree.Given as goal

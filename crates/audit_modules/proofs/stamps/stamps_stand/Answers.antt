@@ -1,6 +1,6 @@
 use Rattle.std.proofs.Common.{ap, sym, ◌∙◌, is_some}
-use Rattle.icu_machine.specs.Table.{channel_of}
-use Rattle.icu_machine.specs.declared.table.IcuTable.{IcuTable}
+use Rattle.module_machines.specs.icu.Table.{channel_of}
+use Rattle.module_machines.specs.declared.icu.table.IcuTable.{IcuTable}
 use Rattle.mcal_base.specs.facts.Truths.{clash}
 use Rattle.audit_frames.proofs.Deciding.{yes, worded}
 use Rattle.audit_modules.proofs.stamps.stamps_stand.Goals as goal

@@ -1,6 +1,6 @@
 -- The bit of each configured channel is put below those before it.
 use Rattle.std.proofs.Common.{◌≡◌, ◌∙◌, ap, arith}
-use Rattle.pwm_machine.specs.Bounds.{duties, duty_of}
+use Rattle.module_machines.specs.pwm.Bounds.{duties, duty_of}
 use Rattle.audit_subject.specs.Marks as masks
 use Rattle.audit_pulses.specs.Duties as spec
 use Rattle.audit_pulses.proofs.DutyLaws.{marks_none, marks_more, marks_room}

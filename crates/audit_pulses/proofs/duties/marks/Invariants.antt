@@ -1,6 +1,6 @@
 -- The channels so far.
 use Rattle.std.proofs.Common.{◌≡◌}
-use Rattle.pwm_machine.specs.Bounds.{duties}
+use Rattle.module_machines.specs.pwm.Bounds.{duties}
 use Rattle.audit_subject.specs.Marks as masks
 use Rattle.audit_pulses.specs.Duties as spec
 use Rattle.audit_pulses.proofs.duties.marks.Given as goal

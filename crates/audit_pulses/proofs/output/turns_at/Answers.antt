@@ -1,8 +1,8 @@
 use Rattle.std.proofs.Common.{◌-◌, ap, sym, ◌∙◌}
-use Rattle.chip_pulses.specs.Regime.{regime_level, turns_to}
-use Rattle.pwm_machine.specs.Output as machine
-use Rattle.pwm_machine.specs.Units.{regime_in}
-use Rattle.pwm_machine.specs.laws.Relation.{regime_same}
+use Rattle.chip_blocks.specs.pulses.Regime.{regime_level, turns_to}
+use Rattle.module_machines.specs.pwm.Output as machine
+use Rattle.module_machines.specs.pwm.Units.{regime_in}
+use Rattle.module_machines.specs.pwm.laws.Relation.{regime_same}
 use Rattle.audit_pulses.specs.Stands.{regime_of}
 use Rattle.audit_pulses.proofs.output.turns_at.Goals as goal
 

@@ -3,9 +3,9 @@ use Rattle.std.proofs.Common.{◌≡◌, ℕ, Bool, false, subst, sym}
 use Rattle.std.specs.Bool.{OnTrue}
 use Rattle.std.proofs.lemmas.Bool.{OnTrue_from}
 use Rattle.chip_model.specs.Chip.{Chip, word_of}
-use Rattle.chip_units.specs.Pins as pins
-use Rattle.pwm_machine.specs.Bounds.{OutputsAgree}
-use Rattle.pwm_machine.specs.Machine.{PwmState}
+use Rattle.chip_blocks.specs.units.Pins as pins
+use Rattle.module_machines.specs.pwm.Bounds.{OutputsAgree}
+use Rattle.module_machines.specs.pwm.Machine.{PwmState}
 use Rattle.run_model.specs.World.{World}
 use Rattle.spi_machine.specs.Bounds.{HoldsArrays}
 use Rattle.spi_machine.specs.State.{SpiState}

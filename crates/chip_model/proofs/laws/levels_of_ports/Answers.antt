@@ -1,7 +1,7 @@
 -- Proved over the definitions.
 use Rattle.std.proofs.Common.{◌+◌, ◌*◌, refl}
 use Rattle.mcal_base.proofs.BitLaws.{has_bit-bits_of}
-use Rattle.chip_units.proofs.PortLaws.{flip-named, flip-other, flip-in}
+use Rattle.chip_blocks.proofs.of_units.PortLaws.{flip-named, flip-other, flip-in}
 use Rattle.chip_model.specs.Chip.{pin_of}
 use Rattle.chip_model.proofs.laws.levels_of_ports.Goals as goal
 

@@ -3,7 +3,7 @@ use Rattle.std.proofs.Common.{rules, ◌≡◌, ◌≤◌, length, take, None, �
 use Rattle.std.specs.Prelude.{sum_by, slice_index_or}
 use Rattle.std.proofs.lemmas.List.{take_all}
 use Rattle.std.proofs.lemmas.List.Sums.{sum_by_more}
-use Rattle.port_machine.specs.Bounds as spec
+use Rattle.module_machines.specs.port.Bounds as spec
 use Rattle.port_driver.specs.laws.Ranks.{counted_small}
 use Rattle.port_driver.proofs.bounds.count_of.Goals as goal
 

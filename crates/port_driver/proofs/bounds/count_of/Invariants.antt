@@ -1,6 +1,6 @@
 use Rattle.std.proofs.Common.{◌≡◌, ◌≤◌, take}
 use Rattle.std.specs.Prelude.{sum_by}
-use Rattle.port_machine.specs.Bounds as spec
+use Rattle.module_machines.specs.port.Bounds as spec
 use Rattle.port_driver.proofs.bounds.count_of.Given as goal
 
 abbrev pub invariant-loop-pin : goal.invariant-loop-pin

@@ -5,7 +5,7 @@ use Rattle.bench_report.specs.Lines.{Done}
 use Rattle.mcal_base.specs.declared.directive.Order.TheVariants.{Tick}
 use Rattle.run_model.specs.Moment.{Happens}
 use Rattle.report_auditor.specs.Auditing.{Stands}
-use Rattle.report_reading.specs.Steps.{Comes}
+use Rattle.report_text.specs.reading.Steps.{Comes}
 use Rattle.report_text.specs.Unread.{own_text}
 use Rattle.report_steps.specs.Going.{waited_to}
 use Rattle.report_steps.proofs.LinesLaws.{advances_none}

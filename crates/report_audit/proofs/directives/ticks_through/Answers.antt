@@ -6,7 +6,7 @@ use Rattle.mcal_base.specs.declared.directive.Order.TheVariants.{Tick}
 use Rattle.mcal_base.specs.declared.directive.Reason.TheVariants.{Watchdog}
 use Rattle.report_auditor.specs.Auditing.{Stands}
 use Rattle.report_auditor.specs.Deeds.{restarted}
-use Rattle.report_reading.specs.Blocks.{AuditState}
+use Rattle.report_text.specs.reading.Blocks.{AuditState}
 use Rattle.report_text.specs.Unread.{own_text}
 use Rattle.report_steps.specs.Going.{PrintsReset, waited_to}
 use Rattle.report_steps.proofs.LinesLaws.{advances_none}

@@ -6,8 +6,8 @@ use Rattle.chip_model.specs.Chip.{hung}
 use Rattle.run_model.specs.Moment.{start_moment}
 use Rattle.script_runner.specs.Scripts.{words_given}
 use Rattle.audit_subject.specs.Origins.{origin_of}
-use Rattle.report_reading.specs.Audits.{AuditsReport}
-use Rattle.report_reading.specs.Blocks.{place_from}
+use Rattle.report_text.specs.reading.Audits.{AuditsReport}
+use Rattle.report_text.specs.reading.Blocks.{place_from}
 use Rattle.report_text.specs.Unread.{Unread}
 use Rattle.report_audit.proofs.FirstLaws.{first_somewhere, first_sound, first_stands, none_counted, used_are}
 use Rattle.report_audit.proofs.VerdictLaws.{audited, passed}

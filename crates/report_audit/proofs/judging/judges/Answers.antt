@@ -2,7 +2,7 @@
 use Rattle.std.proofs.Common.{ℕ, ◌+◌, subst}
 use Rattle.std.specs.Prelude.{IfOk}
 use Rattle.std.proofs.lemmas.Bool.{OnTrue_at}
-use Rattle.report_reading.specs.Audits.{Audits}
+use Rattle.report_text.specs.reading.Audits.{Audits}
 use Rattle.script_runner.specs.Scripts.{words_given}
 use Rattle.trace_reader.specs.Reading.{parts_of}
 use Rattle.report_auditor.proofs.ServedParts.{fails}

@@ -2,7 +2,7 @@
 use Rattle.std.proofs.Common.{drop}
 use Rattle.run_model.specs.Legal.{IsServed}
 use Rattle.script_runner.specs.Scripts.{words_given}
-use Rattle.report_reading.specs.Blocks.{AuditState}
+use Rattle.report_text.specs.reading.Blocks.{AuditState}
 use Rattle.report_auditor.specs.Auditing.{IsReady, Stands}
 use Rattle.report_audit.specs.Obeying.{CanObeyAll, ComesTo}
 use Rattle.report_audit.proofs.judging.judges_on.Given as goal

@@ -4,7 +4,7 @@ use Rattle.std.proofs.lemmas.Bool.{OnTrue_at}
 use Rattle.mcal_base.specs.declared.directive.Order.TheVariants.{Tick}
 use Rattle.run_model.specs.Moment.{Happens}
 use Rattle.audit_base.proofs.Products.{if_ok}
-use Rattle.report_reading.specs.Steps.{Comes}
+use Rattle.report_text.specs.reading.Steps.{Comes}
 use Rattle.report_auditor.specs.Auditing.{Stands}
 use Rattle.report_auditor.specs.Deeds.{Judges}
 use Rattle.report_auditor.proofs.ServedParts.{as_run}

@@ -23,7 +23,7 @@ use Rattle.spi_driver.specs.laws.services.UnitFrames.{ahead_holds, ahead_of, ahe
 use Rattle.spi_driver.specs.laws.services.UnitFrames.{is_met, owed_holds, served_ahead, told_list, unit_after}
 use Rattle.spi_driver.specs.laws.services.UnitFrames.{unit_bodies, unit_windows, with_cleared}
 use Rattle.spi_driver.specs.laws.bookkeeping.MainFunctionHold.{handling_of, handling_over}
-use Rattle.spi_starting.specs.laws.services.StartAround.{GoesOwing as StartOn, owed_goes as start_on}
+use Rattle.spi_laws.specs.starting.laws.services.StartAround.{GoesOwing as StartOn, owed_goes as start_on}
 use Rattle.spi_machine.specs.declared.call.Call.TheVariants as calls
 use Rattle.spi_sequences.specs.declared.service.request.RequestPlace.TheVariants as request
 use Rattle.spi_sequences.specs.declared.service.request.Requested.TheVariants as requested

@@ -1,5 +1,5 @@
 -- Frames of units: their steps where they owe nothing.
--- From services.UnitFrames, spi_sequences: services.UnitSteps, spi_serving: services.ServeRight and 13 more.
+-- From services.UnitFrames, spi_sequences: services.UnitSteps, spi_laws: serving.services.ServeRight and 13 more.
 -- Used by services.UnitRight.
 use Rattle.std.proofs.Common.{◌≡◌, ◌+◌, ◌<◌, ◌&&◌, ◌||◌, [], ◌∷◌, ◌++◌, ◌∙◌, ◌⊎◌, if◌then◌else◌}
 use Rattle.spi_driver.specs.Terms

@@ -14,7 +14,7 @@ use Terms.{slice_get, slice_index_or, Some, some_is, SpiRepresents, SpiState, Sp
 use Terms.{trio_fits, trio_of, true, uses_channel, view, whether, word_of, WORDS, World, zero, ℕ}
 use Rattle.word_shapes.specs.TripleBuffer as trio
 use Rattle.spi_machine.specs.State as machine
-use Rattle.spi_serving.specs.laws.words.NextWords.{jobs_few}
+use Rattle.spi_laws.specs.serving.laws.words.NextWords.{jobs_few}
 use Rattle.spi_sequences.specs.laws.words.WordsToState as said
 
 -- ---- what is told

@@ -1,6 +1,6 @@
 -- One pending sequence is changed in its marks: what stays of the agreement, and that it stands for the changed state.
 -- From words.SameWords, words.JobPlaces, words.WordsOfModule, words.Cases, service_outline: Words and 3 more.
--- Used by spi_starting: words.UnitWords, spi_serving: words.NextWords, services.CancelRight and 2 more.
+-- Used by spi_laws: starting.words.UnitWords, spi_laws: serving.words.NextWords, services.CancelRight and 2 more.
 use Rattle.std.proofs.Common.{◌≡◌, ◌≢◌, ◌+◌, ◌*◌, ◌%◌, ◌^◌, ◌<◌, ◌≤◌, ◌==◌, ◌&&◌, ◌||◌, [], ◌∷◌, ◌++◌, ◌∙◌}
 use Rattle.std.proofs.Common.{if◌then◌else◌}
 use Rattle.spi_sequences.specs.Terms

@@ -1,6 +1,6 @@
 -- What a start chooses of a unit's order is what the machine starts next.
 -- From words.JobPlaces, words.Cases, words.WordsToState, services.InitPrepared, services.StartSteps and 1 more.
--- Used by spi_starting: services.StartRight, spi_starting: services.StartWords, spi_starting: Starting and 3 more.
+-- Used by spi_laws: starting.services.StartRight, spi_laws: starting.services.StartWords, spi_laws: starting.Starting and 3 more.
 use Rattle.std.proofs.Common.{◌≡◌, ◌<◌, ◌==◌, ◌&&◌, ◌||◌, [], ◌∷◌, ◌∙◌, if◌then◌else◌}
 use Rattle.spi_sequences.specs.Terms
 use Terms.{ap, arith, best, better, Bool, Chip, choice, Contains, entries_of, Entry, false, filter, FitsSpi, is_for}

@@ -1,7 +1,7 @@
 -- Each move that is owed leaves fewer: what is owed are loads and stores of the module's words, and writes for its
 -- lines.
 -- From services.ServeSteps, services.SyncSteps, services.StartSteps, services.UnitSteps, words.Cases and 4 more.
--- Used by spi_sending: services.SendRight, spi_driver: bookkeeping.KeepsToModule and 8 more.
+-- Used by spi_laws: sending.services.SendRight, spi_driver: bookkeeping.KeepsToModule and 8 more.
 use Rattle.std.proofs.Common.{◌≡◌, ◌+◌, ◌-◌, ◌*◌, ◌<◌, ◌≤◌, ◌==◌, ◌&&◌, if◌then◌else◌, [], ◌∷◌, ◌∙◌}
 use Rattle.spi_sequences.specs.Terms
 use Terms.{after_serve, after_start, All, and_parts, ap, arith, BodyTaken, Bool, cancel_drops, cancel_owed_at, Cancels}
@@ -34,10 +34,10 @@ use Rattle.word_shapes.specs.declared.take.Take.TheVariants as take
 use Rattle.word_shapes.specs.declared.add.Add.TheVariants as add
 use Rattle.word_shapes.specs.declared.again.Again.TheVariants as again
 use Rattle.word_shapes.specs.declared.put.Put.TheVariants as puts
-use Rattle.spi_jobs.specs.declared.banks.Commit.TheVariants as commits
-use Rattle.spi_jobs.specs.declared.keeping.Keep.TheVariants as keeps
-use Rattle.spi_jobs.specs.declared.keeping.Taker.TheVariants as takers
-use Rattle.spi_jobs.specs.declared.preparing.Prepare.TheVariants as prepares
+use Rattle.word_shapes.specs.declared.jobs.banks.Commit.TheVariants as commits
+use Rattle.word_shapes.specs.declared.jobs.keeping.Keep.TheVariants as keeps
+use Rattle.word_shapes.specs.declared.jobs.keeping.Taker.TheVariants as takers
+use Rattle.word_shapes.specs.declared.jobs.preparing.Prepare.TheVariants as prepares
 use Rattle.spi_sequences.specs.declared.service.cancel.CancelBody.TheVariants as cancels
 use Rattle.spi_sequences.specs.declared.service.request.RequestPlace.TheVariants as requests
 use Rattle.spi_sequences.specs.declared.service.serve.SequenceNext.TheVariants as courses

@@ -31,8 +31,8 @@ use Rattle.spi_sequences.specs.laws.{words.JobPlaces.{asked_unit, none_by}, word
 use Rattle.spi_sequences.specs.laws.words.WordsToState.{any_some, is_number, none_any, not_true}
 use Rattle.std.proofs.lemmas.Bool.{or_from}
 use Rattle.spi_machine.specs.declared.call.Call.TheVariants as calls
-use Rattle.chip_units.specs.Serials as serials
-use Rattle.chip_units.specs.declared.serial.Word as chips
+use Rattle.chip_blocks.specs.units.Serials as serials
+use Rattle.chip_blocks.specs.declared.units.serial.Word as chips
 use Rattle.mcal_base.specs.declared.moves.Unit as units
 
 -- ---- in time

@@ -1,7 +1,7 @@
 -- A pending sequence ends, and its jobs that never ran have the results that they had: the state is sound, and the
 -- words stand for it.
 -- From words.JobPlaces, words.Cases, words.SameWords.
--- Used by services.CancelRight, spi_serving: services.SequenceOverRight, spi_sending: services.SendLast and 9 more.
+-- Used by services.CancelRight, spi_laws: serving.services.SequenceOverRight, spi_laws: sending.services.SendLast and 9 more.
 use Rattle.std.proofs.Common.{◌≡◌, ◌≢◌, ◌+◌, ◌-◌, ◌<◌, ◌≤◌, ◌==◌, ◌&&◌, ◌||◌, [], ◌∷◌, ◌++◌, ◌∙◌, if◌then◌else◌}
 use Rattle.spi_sequences.specs.Terms
 use Terms.{all_of, and_false, AnswerName, ap, AreDifferent, arith, Bool, cancelled_bit, cases, Contains}

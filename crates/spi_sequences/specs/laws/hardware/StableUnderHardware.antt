@@ -18,8 +18,8 @@ use Terms.{WordsAgree, World, zero, ℕ}
 use Rattle.spi_sequences.specs.laws.words.SameWords.{end_later, sends_as, words_alike}
 use Rattle.spi_sequences.specs.laws.words.WordsOfModule.{destination_own, has_channel, own_held, own_set_up}
 use Rattle.spi_sequences.specs.laws.words.WordsOfModule.{source_own, word_of_own}
-use Rattle.chip_units.specs.Serials as serials
-use Rattle.chip_units.specs.declared.serial.Word as chips
+use Rattle.chip_blocks.specs.units.Serials as serials
+use Rattle.chip_blocks.specs.declared.units.serial.Word as chips
 
 -- the words of arrays that are as they were
 pub arrays_alike : (d : SpiTable) → FitsSpi d → (m m1 : ℕ → ℕ) (s : SpiState) (c : ℕ) → ((k : ℕ) → is_word_of d k ≡ true → m1 k ≡ m k) → HoldsArrays m d s c → HoldsArrays m1 d s c

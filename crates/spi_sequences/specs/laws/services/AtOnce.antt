@@ -1,6 +1,6 @@
 -- The moves of the module's frames wait for no word, but for one of a call that sends a sequence and waits.
 -- From services.ChannelSteps, services.UnitSteps, services.InitSteps, services.ModuleSteps and 4 more.
--- Used by spi_driver: bookkeeping.Lawful, spi_sending: services.SendRight.
+-- Used by spi_driver: bookkeeping.Lawful, spi_laws: sending.services.SendRight.
 use Rattle.std.proofs.Common.{◌∙◌}
 use Rattle.std.specs.Prelude.{◌≡◌, ◌&&◌, ◌==◌, if◌then◌else◌}
 use Rattle.spi_sequences.specs.Terms
@@ -12,8 +12,8 @@ use Terms.{whole_work, WholeBody, Write, WriteBody, ℕ}
 use Rattle.run_model.specs.Frame.{is_wait}
 use Rattle.word_shapes.specs.{declared.again.Again.{Again}, PriorityQueue.{add_move, again_move, drop_move, next_move}}
 use Rattle.word_shapes.specs.PriorityQueue.{search_move}
-use Rattle.spi_jobs.specs.{declared.finding.Find.{Find}, Parts.{asking, commit_move, find_move, keep_move}}
-use Rattle.spi_jobs.specs.Parts.{prepare_move}
+use Rattle.word_shapes.specs.{declared.jobs.finding.Find.{Find}, jobs.Parts.{asking, commit_move, find_move, keep_move}}
+use Rattle.word_shapes.specs.jobs.Parts.{prepare_move}
 use Rattle.spi_machine.specs.declared.call.AsyncMode.TheVariants.{Interrupt}
 use Rattle.spi_sequences.specs.{declared.service.whole.Whole.TheVariants.{Mode}, laws.services.ChannelSteps.{read_move}}
 use Rattle.spi_sequences.specs.laws.services.ChannelSteps.{read_work, set_up_work, write_work}
@@ -29,10 +29,10 @@ use Rattle.word_shapes.specs.declared.dropped.Dropped.TheVariants as drops
 use Rattle.word_shapes.specs.declared.put.Put.TheVariants as puts
 use Rattle.word_shapes.specs.declared.search.Search.TheVariants as searches
 use Rattle.word_shapes.specs.declared.take.Take.TheVariants as takes
-use Rattle.spi_jobs.specs.declared.banks.Commit.TheVariants as commits
-use Rattle.spi_jobs.specs.declared.finding.Find.TheVariants as finds
-use Rattle.spi_jobs.specs.declared.keeping.Keep.TheVariants as keeps
-use Rattle.spi_jobs.specs.declared.preparing.Prepare.TheVariants as prepares
+use Rattle.word_shapes.specs.declared.jobs.banks.Commit.TheVariants as commits
+use Rattle.word_shapes.specs.declared.jobs.finding.Find.TheVariants as finds
+use Rattle.word_shapes.specs.declared.jobs.keeping.Keep.TheVariants as keeps
+use Rattle.word_shapes.specs.declared.jobs.preparing.Prepare.TheVariants as prepares
 use Rattle.spi_sequences.specs.declared.service.cancel.CancelBody.TheVariants as cancel
 use Rattle.spi_sequences.specs.declared.service.init.InitPlace.TheVariants as init
 use Rattle.spi_sequences.specs.declared.service.query.JobPlace.TheVariants as job

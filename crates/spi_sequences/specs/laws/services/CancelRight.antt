@@ -1,6 +1,6 @@
 -- Spi_Cancel: that it is right.
 -- From words.NumbersApart, bookkeeping.SequenceEnded, words.WordsToState, words.JobPlaces and 12 more.
--- Used by spi_driver: bookkeeping.Lawful, services.RequestRight, spi_serving: services.SequenceOverRight and 10 more.
+-- Used by spi_driver: bookkeeping.Lawful, services.RequestRight, spi_laws: serving.services.SequenceOverRight and 10 more.
 use Rattle.std.proofs.Common.{◌≡◌, ◌≢◌, ◌+◌, ◌<◌, ◌≤◌, ◌==◌, ◌||◌, [], ◌∷◌, ◌∙◌, if◌then◌else◌}
 use Rattle.spi_sequences.specs.Terms
 use Terms.{Act, acts, acts_by, and_parts, Answer, ap, AreFree, AreLong, AreThere, AreWindows, arith, AssertedAt, bit_or}

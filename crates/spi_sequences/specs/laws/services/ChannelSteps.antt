@@ -7,7 +7,7 @@ use Terms.{goes, has_ended, length, List, Load, Mask, Move, named, named_with, n
 use Terms.{Option, packed, Placed, Pointer, Put, put_gave, put_left, put_move, ReadBody, ReadPlace, Received, releasing}
 use Terms.{Sent, set_up_word, SetUpBody, Some, source_word, Store, Take, take_gave, take_left, take_move, true, Unmask}
 use Terms.{Users, WriteBody, Written, ℕ}
-use Rattle.spi_jobs.specs.Parts.{committing}
+use Rattle.word_shapes.specs.jobs.Parts.{committing}
 use Rattle.spi_sequences.specs.declared.service.set_up.SetUpBody.TheVariants as set_up
 use Rattle.spi_sequences.specs.declared.service.write.WriteBody.TheVariants as write
 use Rattle.spi_sequences.specs.declared.service.read.ReadPlace.TheVariants as read

@@ -1,6 +1,6 @@
 -- What stands of a module that is being initialised, and what the steps of Spi_Init change of it.
 -- From words.SideWords, words.Cases, words.WordsOfModule, service_outline: Words, hardware.SourceFilled and 2 more.
--- Used by services.InitActRight, services.InitRight, bookkeeping.NextChosen, spi_starting: words.UnitWords.
+-- Used by services.InitActRight, services.InitRight, bookkeeping.NextChosen, spi_laws: starting.words.UnitWords.
 use Rattle.std.proofs.Common.{◌≡◌, ◌≢◌, ◌+◌, ◌*◌, ◌%◌, ◌/◌, ◌<◌, ◌==◌, ◌&&◌, [], ◌∷◌, ◌∙◌, ◌⊎◌, ◌++◌, if◌then◌else◌}
 use Rattle.spi_sequences.specs.Terms
 use Terms.{ap, arith, Banks, BanksAgree, Bool, Call, Called, carried_at, CarriesAgrees, Carrying, cases, Channel}

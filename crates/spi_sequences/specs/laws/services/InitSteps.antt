@@ -6,7 +6,7 @@ use Terms.{Act, bank_word, BodyTaken, Bool, Channel, channel_of, control_word, e
 use Terms.{InitBody, InitPlace, job_word, Load, Mask, Move, nat_lt, no_answer, None, Nothing, Option, order_word}
 use Terms.{Placed, placed_of, Put, put_gave, put_left, put_move, Received, running_word, Sent, sequence_word}
 use Terms.{set_up_word, Side, Some, SpiTable, STATE, Store, suc, true, Unmask, zero, ℕ}
-use Rattle.spi_jobs.specs.Parts.{committing}
+use Rattle.word_shapes.specs.jobs.Parts.{committing}
 use Rattle.spi_sequences.specs.declared.service.init.InitPlace.TheVariants as init
 
 -- the words of a side at first

@@ -1,6 +1,6 @@
 -- A request is accepted: the state is sound, the words stand for it, and what its window owes after the act.
 -- From words.NumbersApart, words.JobPlaces, bookkeeping.SequenceEnded, services.CancelRight and 9 more.
--- Used by spi_sending: services.SendStarts, spi_driver: services.RequestAsking and 3 more.
+-- Used by spi_laws: sending.services.SendStarts, spi_driver: services.RequestAsking and 3 more.
 use Rattle.std.proofs.Common.{◌≡◌, ◌≢◌, ◌+◌, ◌%◌, ◌<◌, ◌≤◌, ◌==◌, ◌&&◌, ◌||◌, [], ◌∷◌, ◌++◌, ◌∙◌, if◌then◌else◌, ◌⊎◌}
 use Rattle.spi_sequences.specs.Terms
 use Terms.{accepted, Add, add-ends, add_gave, adding, after_request, all_get, all_of, and_false, Answer, AnswerName, ap}

@@ -17,8 +17,8 @@ use Rattle.spi_sequences.specs.declared.service.serve.ServeStep.TheVariants.{Goe
 use Rattle.mcal_base.specs.declared.moves.Event.TheVariants as events
 use Rattle.word_shapes.specs.declared.again.Again.TheVariants as agains
 use Rattle.word_shapes.specs.declared.dropped.Dropped.TheVariants as drops
-use Rattle.spi_jobs.specs.declared.banks.Commit.TheVariants as commits
-use Rattle.spi_jobs.specs.declared.keeping.Taker.TheVariants as takers
+use Rattle.word_shapes.specs.declared.jobs.banks.Commit.TheVariants as commits
+use Rattle.word_shapes.specs.declared.jobs.keeping.Taker.TheVariants as takers
 use Rattle.spi_sequences.specs.declared.service.serve.SequenceNext.TheVariants as courses
 use Rattle.spi_sequences.specs.declared.service.serve.ServePlace.TheVariants as serve
 

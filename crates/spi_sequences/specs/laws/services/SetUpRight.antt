@@ -1,6 +1,6 @@
 -- Spi_SetupEB: that it is right.
 -- From words.WordsOfModule, words.SameWords, hardware.StableUnderHardware, service_outline: Words and 5 more.
--- Used by spi_driver: bookkeeping.Lawful, services.WriteRight, spi_serving: services.FurtherRight and 27 more.
+-- Used by spi_driver: bookkeeping.Lawful, services.WriteRight, spi_laws: serving.services.FurtherRight and 27 more.
 use Rattle.std.proofs.Common.{◌≡◌, ◌≢◌, ◌+◌, ◌<◌, ◌≤◌, ◌&&◌, ◌||◌, [], ◌∷◌, ◌∙◌, ◌++◌}
 use Rattle.spi_sequences.specs.Terms
 use Terms.{acts_by, AllRight, answers, ap, AreCarried, AreLong, arith, AssertedAt, begins_word, Bool, Call, Called}
@@ -20,7 +20,7 @@ use Rattle.spi_sequences.specs.laws.{services.ChannelSteps.{set_up_takes, set_up
 use Rattle.spi_sequences.specs.laws.words.SameWords.{right_as, run_alike, sends_as, sequences_alike}
 use Rattle.spi_sequences.specs.laws.words.WordsOfModule.{of_banks, of_held, of_one, of_set_up, own_set_up}
 use Rattle.spi_sequences.specs.laws.words.WordsOfModule.{past_the_first, word_of_own}
-use Rattle.spi_jobs.specs.declared.set_up.SetUp.{SetUp}
+use Rattle.word_shapes.specs.declared.jobs.set_up.SetUp.{SetUp}
 use Rattle.spi_machine.specs.Channels as channels
 use Rattle.spi_machine.specs.declared.call.Call.TheVariants as calls
 use Rattle.spi_sequences.specs.declared.service.set_up.SetUpBody.TheVariants as set_up

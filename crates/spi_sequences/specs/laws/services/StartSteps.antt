@@ -1,5 +1,5 @@
 -- The start window of a unit: its steps.
--- Used by spi_starting: services.StartRight, spi_starting: services.StartAround and 21 more.
+-- Used by spi_laws: starting.services.StartRight, spi_laws: starting.services.StartAround and 21 more.
 use Rattle.std.specs.Prelude.{◌+◌, ◌==◌, ◌&&◌, if◌then◌else◌, [], ◌∷◌}
 use Rattle.spi_sequences.specs.StepTerms
 use StepTerms.{bit_or, Bool, channel_at_place, channel_number, Chosen, false, Find, find_gave, find_left, find_move}

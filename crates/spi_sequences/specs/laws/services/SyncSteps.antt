@@ -1,6 +1,6 @@
 -- Spi_SyncTransmit: its steps.
 -- From services.ServeSteps, services.StartSteps.
--- Used by spi_sending: services.SendRight, spi_sending: services.SendFuel, spi_sending: services.SendOwed and 15 more.
+-- Used by spi_laws: sending.services.SendRight, spi_laws: sending.services.SendFuel, spi_laws: sending.services.SendOwed and 15 more.
 use Rattle.std.specs.Prelude.{◌+◌, ◌-◌, ◌/◌, ◌%◌, ◌==◌, ◌&&◌, if◌then◌else◌, [], ◌∷◌}
 use Rattle.spi_sequences.specs.StepTerms
 use StepTerms.{Act, Arrived, asking, BodyTaken, Bool, channel_at_place, channel_number, committing, ends, ENotOk, EOk}
@@ -14,7 +14,7 @@ use StepTerms.{slice_index_or, slice_set, Some, SpiSeqInProcess, SpiSyncTransmit
 use StepTerms.{SyncPlace, Taker, taker_of, true, Unmask, with_next_in, Write, ℕ}
 use Rattle.spi_sequences.specs.laws.services.ServeSteps.{begins_of, first_internal, keep_of, serve_move, serve_takes}
 use Rattle.spi_sequences.specs.laws.services.StartSteps.{unit_named}
-use Rattle.spi_jobs.specs.declared.keeping.Taker.TheVariants as takers
+use Rattle.word_shapes.specs.declared.jobs.keeping.Taker.TheVariants as takers
 use Rattle.spi_sequences.specs.declared.service.serve.SequenceNext.TheVariants as courses
 use Rattle.spi_sequences.specs.declared.service.serve.ServePlace.TheVariants as serve
 use Rattle.spi_sequences.specs.declared.service.sync.SyncPlace.TheVariants as place

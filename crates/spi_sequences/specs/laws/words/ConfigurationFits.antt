@@ -1,6 +1,6 @@
 -- What a driver that is made of a configuration has by its form: its rows.
 -- From words.Cases.
--- Used by spi_driver: words.ConfigurationFits, spi_driver: bookkeeping.Lawful, spi_sending: services.SendBegins.
+-- Used by spi_driver: words.ConfigurationFits, spi_driver: bookkeeping.Lawful, spi_laws: sending.services.SendBegins.
 use Rattle.std.proofs.Common.{◌≡◌, ◌==◌, [], ◌∷◌, if◌then◌else◌, ◌∙◌}
 use Rattle.spi_sequences.specs.Terms
 use Terms.{ap, is_some, Job, job_in, job_of, jobs_by_number, length, List, None, Option, refl, same_Some, Sequence}

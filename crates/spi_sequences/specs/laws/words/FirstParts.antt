@@ -1,6 +1,6 @@
 -- What a job sends of its channels as it starts: its words are the machine's.
 -- From services.ReadRight, services.WriteRight, words.Cases, words.WordsOfModule.
--- Used by spi_starting: services.StartRight, spi_sending: services.SendGoesOn, spi_starting: ToBegin and 11 more.
+-- Used by spi_laws: starting.services.StartRight, spi_laws: sending.services.SendGoesOn, spi_laws: starting.ToBegin and 11 more.
 use Rattle.std.proofs.Common.{◌≡◌, ◌+◌, ◌*◌, ◌/◌, ◌%◌, ◌<◌, ◌≤◌, ◌==◌, [], ◌∷◌, ◌++◌, ◌∙◌, if◌then◌else◌}
 use Rattle.spi_sequences.specs.Terms
 use Terms.{ap, arith, as_words, Bool, Channel, channel_at, channel_of, channel_words, ChannelState, Chip}
@@ -12,7 +12,7 @@ use Terms.{SpiTable, subst, sym, ToChannel, true, unpacked, Users, whether, widt
 use Terms.{World, ℕ}
 use Rattle.spi_sequences.specs.laws.{services.ReadRight.{length-first}, services.WriteRight.{first-at}}
 use Rattle.spi_sequences.specs.laws.{words.WordsOfModule.{has_channel}, words.WordsToState.{other_number}}
-use Rattle.spi_jobs.specs.declared.set_up.SetUp as jobs
+use Rattle.word_shapes.specs.declared.jobs.set_up.SetUp as jobs
 
 -- ---- the parts
 

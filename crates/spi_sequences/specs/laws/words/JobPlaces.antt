@@ -1,6 +1,6 @@
 -- Tests of numbers, what is so of some of a list, jobs by their places, and all sequences under way.
 -- From words.Cases.
--- Used by bookkeeping.SequenceEnded, spi_sending: bookkeeping.CarriedState, services.RequestRight and 39 more.
+-- Used by bookkeeping.SequenceEnded, spi_laws: sending.bookkeeping.CarriedState, services.RequestRight and 39 more.
 use Rattle.std.proofs.Common.{◌≡◌, ◌≢◌, ◌+◌, ◌-◌, ◌<◌, ◌≤◌, ◌==◌, ◌||◌, [], ◌∷◌, ◌++◌, ◌∙◌, if◌then◌else◌, ◌⊎◌}
 use Rattle.spi_sequences.specs.Terms
 use Terms.{all_of, ap, arith, Bool, cases, Contains, Contains-append_cases, Contains-append_left, Contains-append_right}

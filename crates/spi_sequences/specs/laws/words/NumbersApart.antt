@@ -1,6 +1,6 @@
 -- Numbers of words: which are none of a unit's order, and none of a sequence's. They name no words and no state, so that no
 -- search reads those.
--- Used by services.RequestRight, services.CancelRight, spi_serving: services.SequenceOverRight and 8 more.
+-- Used by services.RequestRight, services.CancelRight, spi_laws: serving.services.SequenceOverRight and 8 more.
 use Rattle.std.proofs.Common.{◌≡◌, ◌≢◌, ◌+◌, ◌-◌, ◌*◌, ◌/◌, ◌%◌, ◌^◌, ◌<◌, ◌≤◌, ◌==◌, ◌||◌, ◌∙◌, if◌then◌else◌}
 use Rattle.spi_sequences.specs.Terms
 use Terms.{and_assoc, and_le_r, and_mask, and_mod, and_shr, ap, arith, bit_and, bit_or, cancelled_bit, false, has_mark}

@@ -1,6 +1,6 @@
 -- Words of sequences, jobs and orders change with what is pending; the rest of the agreement stays.
 -- From words.SameWords, words.WordsOfModule, words.WordsToState, hardware.StableUnderHardware and 2 more.
--- Used by spi_starting: services.StartRight, spi_starting: words.UnitWords and 19 more.
+-- Used by spi_laws: starting.services.StartRight, spi_laws: starting.words.UnitWords and 19 more.
 use Rattle.std.proofs.Common.{◌≡◌, ◌+◌, ◌<◌, ◌≤◌, ◌==◌, ◌&&◌, ◌∷◌, ◌∙◌}
 use Rattle.spi_sequences.specs.Terms
 use Terms.{AllRight, AllSend, Answer, AnswerName, ap, AreCarried, AreOwed, arith, BanksAgree, Bool, Call, carried_at}

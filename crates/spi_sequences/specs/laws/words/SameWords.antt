@@ -1,6 +1,6 @@
 -- Words that are as they were stand for the same.
 -- From words.WordsOfModule, words.NumbersApart, words.Cases.
--- Used by words.SideWords, spi_sending: services.SendGoesOn, bookkeeping.MarkedState and 24 more.
+-- Used by words.SideWords, spi_laws: sending.services.SendGoesOn, bookkeeping.MarkedState and 24 more.
 use Rattle.std.proofs.Common.{◌≡◌, ◌≢◌, ◌+◌, ◌<◌, ◌≤◌, [], ◌∷◌, ◌++◌, ◌∙◌, if◌then◌else◌}
 use Rattle.spi_sequences.specs.Terms
 use Terms.{AllRight, AllSend, ap, arith, BanksAgree, Bool, Call, cancelled_bit, carried_at, Channel, channel_of}

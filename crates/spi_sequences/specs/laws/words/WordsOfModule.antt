@@ -1,6 +1,6 @@
 -- Which driver words are the module's: the first 64, those of each channel, and the users' arrays. They stand apart.
 -- From words.Cases.
--- Used by spi_serving: services.WellEnded, words.SideWords, spi_starting: services.StartAround and 50 more.
+-- Used by spi_laws: serving.services.WellEnded, words.SideWords, spi_laws: starting.services.StartAround and 50 more.
 use Rattle.std.proofs.Common.{◌≡◌, ◌≢◌, ◌+◌, ◌-◌, ◌*◌, ◌%◌, ◌<◌, ◌≤◌, ◌==◌, ◌&&◌, ◌||◌, [], ◌∷◌, ◌∙◌, if◌then◌else◌}
 use Rattle.spi_sequences.specs.Terms
 use Terms.{ap, arith, banked, block_of, Bool, Channel, channel_of, control_word, Destination, enumerate_from, eq_is}

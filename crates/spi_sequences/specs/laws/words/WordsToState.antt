@@ -1,6 +1,6 @@
 -- What the words of an initialised module say: of results, of pending sequences, and of what the units run.
 -- From words.JobPlaces, words.Cases, words.SameWords, words.WordsOfModule.
--- Used by services.QueryRight, services.CancelRight, services.ModuleRight, spi_serving: services.FreedUnit and 22 more.
+-- Used by services.QueryRight, services.CancelRight, services.ModuleRight, spi_laws: serving.services.FreedUnit and 22 more.
 use Rattle.std.proofs.Common.{◌≡◌, ◌+◌, ◌-◌, ◌*◌, ◌/◌, ◌%◌, ◌<◌, ◌==◌, ◌||◌, ◌∙◌, if◌then◌else◌}
 use Rattle.spi_sequences.specs.Terms
 use Terms.{all_of, AnswerName, ap, arith, Bool, carried_at, CarriesAgrees, Chip, Contains, Contains-get_or}

@@ -1,6 +1,6 @@
 use Rattle.std.proofs.Common.{◌≡◌, ℕ, List, string_bytes, subst}
 use Rattle.std.specs.Prelude.{IfOk}
-use Rattle.sign_kinds.specs.declared.signs.Sign.{Sign}
+use Rattle.trace_forms.specs.declared.kinds.signs.Sign.{Sign}
 use Rattle.trace_waves.specs.File.{waves}
 use Rattle.trace_waves.specs.declared.settings.Clock.TheVariants as clocks
 use Rattle.trace_drawing.proofs.program.printed.Goals as goal

@@ -3,7 +3,7 @@ use Rattle.std.specs.Prelude.{flat_map}
 use Rattle.std.proofs.lemmas.List.{take_all}
 use Rattle.trace_forms.specs.Rows.{row, sign_rows}
 use Rattle.trace_forms.specs.declared.rows.TheConstants.{HEAD}
-use Rattle.sign_kinds.specs.declared.signs.Sign.{Sign}
+use Rattle.trace_forms.specs.declared.kinds.signs.Sign.{Sign}
 use Rattle.trace_forms.proofs.Steps.{one_more}
 use Rattle.trace_forms.proofs.rows.all_rows.Goals as goal
 

@@ -1,5 +1,5 @@
 use Rattle.std.proofs.Common.{ap, false, [], ◌∙◌}
-use Rattle.icu_machine.specs.Machine.{Capture}
+use Rattle.module_machines.specs.icu.Machine.{Capture}
 use Rattle.audit_captures.proofs.capture.Capture.cleared.Goals as goal
 
 pub returns-clause-is : goal.returns-clause-is

@@ -1,5 +1,5 @@
 use Rattle.std.proofs.Common.{◌++◌, [], ◌∷◌, Some, true, false}
-use Rattle.icu_machine.specs.Machine.{Capture, completes}
+use Rattle.module_machines.specs.icu.Machine.{Capture, completes}
 use Rattle.audit_captures.specs.Stands.{edge_of, capture_of}
 use Rattle.audit_captures.proofs.ChannelLaws.{changed-same, same-follows}
 use Rattle.audit_captures.proofs.capture.Capture.measured.Goals as goal

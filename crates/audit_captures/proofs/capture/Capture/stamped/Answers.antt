@@ -1,6 +1,6 @@
 use Rattle.std.proofs.Common.{ℕ, ap, ◌∙◌, ◌+◌, ◌++◌, [], ◌∷◌, Some, false}
 use Rattle.std.specs.Prelude.{if◌then◌else◌, option_map}
-use Rattle.icu_machine.specs.Machine.{Capture, switched, is_full, index_by}
+use Rattle.module_machines.specs.icu.Machine.{Capture, switched, is_full, index_by}
 use Rattle.audit_captures.specs.Stands.{edge_of, capture_of, start_of}
 use Rattle.audit_captures.proofs.ChannelLaws.{changed-same, same-follows}
 use Rattle.audit_captures.proofs.capture.Capture.stamped.Goals as goal

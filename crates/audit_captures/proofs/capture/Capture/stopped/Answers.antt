@@ -1,6 +1,6 @@
 use Rattle.std.proofs.Common.{ap, sym, ◌∙◌, false}
 use Rattle.std.specs.Prelude.{if◌then◌else◌}
-use Rattle.icu_machine.specs.Machine.{switched}
+use Rattle.module_machines.specs.icu.Machine.{switched}
 use Rattle.audit_captures.specs.Stands.{capture_of}
 use Rattle.audit_captures.proofs.capture.Capture.stopped.Goals as goal
 

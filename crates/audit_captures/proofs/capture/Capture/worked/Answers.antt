@@ -1,6 +1,6 @@
 use Rattle.std.proofs.Common.{◌≡◌, ap, subst, sym, false, [], Some, ◌∙◌, ⊎_elim}
-use Rattle.icu_machine.specs.Machine.{Capture, channel_work}
-use Rattle.icu_machine.specs.declared.call.ChannelCall.{ChannelCall}
+use Rattle.module_machines.specs.icu.Machine.{Capture, channel_work}
+use Rattle.module_machines.specs.declared.icu.call.ChannelCall.{ChannelCall}
 use Rattle.audit_captures.specs.Stands.{capture_of, left_served, restarts}
 use Rattle.audit_captures.specs.declared.capture.Capture as kept
 use Rattle.audit_captures.proofs.capture.Capture.worked.Goals as goal

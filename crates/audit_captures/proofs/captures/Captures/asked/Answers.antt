@@ -1,6 +1,6 @@
 use Rattle.std.proofs.Common.{ap, subst, sym, ◌∙◌, refl}
-use Rattle.icu_machine.specs.Machine.{asked}
-use Rattle.icu_machine.specs.Table.{channel_of}
+use Rattle.module_machines.specs.icu.Machine.{asked}
+use Rattle.module_machines.specs.icu.Table.{channel_of}
 use Rattle.audit_base.specs.Comes.{Gives}
 use Rattle.audit_captures.specs.Stands.{CapturesKept, StandsFor}
 use Rattle.audit_captures.proofs.ChannelLaws.{channel-below}

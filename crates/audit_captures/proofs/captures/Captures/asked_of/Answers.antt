@@ -1,7 +1,7 @@
 use Rattle.std.proofs.Common.{ap, subst, sym, ◌∙◌, refl, Some}
 use Rattle.std.proofs.Math.Nat.{le_refl}
-use Rattle.icu_machine.specs.Machine.{capture_at, with_capture, channel_work, channel_answer}
-use Rattle.icu_machine.specs.Table.{channel_of}
+use Rattle.module_machines.specs.icu.Machine.{capture_at, with_capture, channel_work, channel_answer}
+use Rattle.module_machines.specs.icu.Table.{channel_of}
 use Rattle.run_model.specs.Machine.{answers}
 use Rattle.audit_captures.specs.Stands.{ChannelStands, StandsFor, restarts, left_served}
 use Rattle.audit_captures.proofs.ChannelLaws.{leaves-stands, kept-stored}

@@ -1,8 +1,8 @@
 use Rattle.std.proofs.Common.{◌≡◌, ℕ, refl, subst, sym, [], ◌∷◌}
 use Rattle.std.proofs.Math.Nat.{le_refl}
-use Rattle.icu_machine.specs.Machine as machine
-use Rattle.icu_machine.specs.Machine.{by_channel, capture_at, cleared}
-use Rattle.icu_machine.specs.Table.{channel_of}
+use Rattle.module_machines.specs.icu.Machine as machine
+use Rattle.module_machines.specs.icu.Machine.{by_channel, capture_at, cleared}
+use Rattle.module_machines.specs.icu.Table.{channel_of}
 use Rattle.audit_captures.proofs.ChannelLaws.{cleared-stored}
 use Rattle.audit_captures.specs.Stands.{StandsFor}
 use Rattle.audit_captures.proofs.ModuleLaws.{same-stamps, table-stands, table-stored}

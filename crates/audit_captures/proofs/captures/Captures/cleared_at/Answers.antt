@@ -1,6 +1,6 @@
 use Rattle.std.proofs.Common.{ap, subst, sym, ◌∙◌, Some}
-use Rattle.icu_machine.specs.Machine.{capture_at, cleared}
-use Rattle.icu_machine.specs.Table.{channel_of}
+use Rattle.module_machines.specs.icu.Machine.{capture_at, cleared}
+use Rattle.module_machines.specs.icu.Table.{channel_of}
 use Rattle.audit_captures.specs.Stands.{CapturesKept, ChannelStands}
 use Rattle.audit_captures.proofs.ChannelLaws.{none-stands}
 use Rattle.audit_captures.proofs.captures.Captures.cleared_at.Goals as goal

@@ -1,9 +1,9 @@
 use Rattle.std.proofs.Common.{◌≡◌, ℕ, ap, subst, sym, [], ◌∷◌}
 use Rattle.std.proofs.Math.Nat.{le_refl}
-use Rattle.icu_machine.specs.Machine as machine
-use Rattle.icu_machine.specs.Machine.{by_channel, capture_at, edge_at_pin}
-use Rattle.icu_machine.specs.Table.{channel_of}
-use Rattle.icu_machine.specs.laws.Edges.{pin_still}
+use Rattle.module_machines.specs.icu.Machine as machine
+use Rattle.module_machines.specs.icu.Machine.{by_channel, capture_at, edge_at_pin}
+use Rattle.module_machines.specs.icu.Table.{channel_of}
+use Rattle.module_machines.specs.icu.laws.Edges.{pin_still}
 use Rattle.audit_captures.specs.Stands.{StandsFor}
 use Rattle.audit_captures.proofs.ModuleLaws.{same-stamps, table-stands, table-stored}
 use Rattle.audit_captures.proofs.captures.Captures.edge.Goals as goal

@@ -1,6 +1,6 @@
 use Rattle.std.proofs.Common.{ap, subst, sym, ◌∙◌}
-use Rattle.icu_machine.specs.Machine.{capture_at, edge_at_pin}
-use Rattle.icu_machine.specs.Table.{channel_of}
+use Rattle.module_machines.specs.icu.Machine.{capture_at, edge_at_pin}
+use Rattle.module_machines.specs.icu.Table.{channel_of}
 use Rattle.audit_captures.specs.Stands.{CapturesKept, ChannelStands, capture_of}
 use Rattle.audit_captures.proofs.ChannelLaws.{same-stands}
 use Rattle.audit_captures.proofs.captures.Captures.edge_at.Goals as goal

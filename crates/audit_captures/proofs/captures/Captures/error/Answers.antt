@@ -1,7 +1,7 @@
 use Rattle.std.proofs.Common.{ap, ◌∙◌, not}
-use Rattle.det_errors.specs.Rows.{first_error}
-use Rattle.icu_machine.specs.Checks.{service_of, facts_by}
-use Rattle.icu_machine.specs.Machine.{is_on}
+use Rattle.mcal_base.specs.det_errors.Rows.{first_error}
+use Rattle.module_machines.specs.icu.Checks.{service_of, facts_by}
+use Rattle.module_machines.specs.icu.Machine.{is_on}
 use Rattle.audit_captures.specs.Stands.{CapturesKept}
 use Rattle.audit_captures.proofs.captures.Captures.error.Goals as goal
 

@@ -1,5 +1,5 @@
 use Rattle.std.proofs.Common.{ap, sym, ◌∙◌}
-use Rattle.icu_machine.specs.Machine.{is_on}
+use Rattle.module_machines.specs.icu.Machine.{is_on}
 use Rattle.audit_captures.specs.declared.capture.Capture as kept
 use Rattle.audit_captures.proofs.ModuleLaws.{on-same}
 use Rattle.audit_captures.proofs.captures.Captures.is_on.Goals as goal

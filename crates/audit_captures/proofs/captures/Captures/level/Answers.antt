@@ -1,8 +1,8 @@
 use Rattle.std.proofs.Common.{◌≡◌, ℕ, ap, subst, sym, ◌∙◌, refl, Bool, true, false, not}
 use Rattle.std.specs.Prelude.{if◌then◌else◌}
-use Rattle.icu_machine.specs.Edges.{is_same}
-use Rattle.icu_machine.specs.Machine.{IcuState, by_channel, capture_at, edge_at_pin}
-use Rattle.icu_machine.specs.Table.{channel_of}
+use Rattle.module_machines.specs.icu.Edges.{is_same}
+use Rattle.module_machines.specs.icu.Machine.{IcuState, by_channel, capture_at, edge_at_pin}
+use Rattle.module_machines.specs.icu.Table.{channel_of}
 use Rattle.audit_captures.specs.Stands.{StandsFor}
 use Rattle.audit_captures.proofs.captures.Captures.level.Goals as goal
 

@@ -1,6 +1,6 @@
 use Rattle.std.proofs.Common.{◌<◌, ap, subst, sym, ◌∙◌, ◌&&◌}
-use Rattle.icu_machine.specs.Machine.{capture_at, ready_by, waits}
-use Rattle.icu_machine.specs.Table.{channel_of_line, channel_number}
+use Rattle.module_machines.specs.icu.Machine.{capture_at, ready_by, waits}
+use Rattle.module_machines.specs.icu.Table.{channel_of_line, channel_number}
 use Rattle.audit_captures.specs.Stands.{CapturesKept}
 use Rattle.audit_captures.proofs.ChannelLaws.{channel-below}
 use Rattle.audit_captures.proofs.ServeLaws.{line-channel}

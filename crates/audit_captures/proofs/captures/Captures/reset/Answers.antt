@@ -1,5 +1,5 @@
 use Rattle.std.proofs.Common.{refl}
-use Rattle.icu_machine.specs.Table.{channel_of}
+use Rattle.module_machines.specs.icu.Table.{channel_of}
 use Rattle.audit_captures.proofs.ModuleLaws.{blank-stands, no-stamps, none-few}
 use Rattle.audit_captures.proofs.captures.Captures.reset.Goals as goal
 

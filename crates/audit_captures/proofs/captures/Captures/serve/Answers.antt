@@ -1,5 +1,5 @@
 use Rattle.std.proofs.Common.{◌≡◌, ◌<◌, ap, subst, sym, ◌∙◌, Some, None}
-use Rattle.icu_machine.specs.Table.{channel_of, channel_of_line, channel_number}
+use Rattle.module_machines.specs.icu.Table.{channel_of, channel_of_line, channel_number}
 use Rattle.audit_base.specs.Comes.{ComesIf}
 use Rattle.audit_captures.specs.Stands.{CapturesKept, StandsFor, served_on}
 use Rattle.audit_captures.proofs.ChannelLaws.{channel-below}

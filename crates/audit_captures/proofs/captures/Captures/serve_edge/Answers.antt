@@ -1,6 +1,6 @@
 use Rattle.std.proofs.Common.{ap, subst, sym, ◌∙◌, refl, Some, None}
-use Rattle.icu_machine.specs.Machine.{Capture, capture_at}
-use Rattle.icu_machine.specs.Table.{channel_of}
+use Rattle.module_machines.specs.icu.Machine.{Capture, capture_at}
+use Rattle.module_machines.specs.icu.Table.{channel_of}
 use Rattle.audit_base.specs.Comes.{ComesIf}
 use Rattle.audit_captures.specs.Stands.{ChannelStands, StandsFor, edge_of, edges_of, served_if}
 use Rattle.audit_captures.proofs.ServeLaws.{split-some, split-none}

@@ -1,8 +1,8 @@
 use Rattle.std.proofs.Common.{◌≡◌, ◌+◌, length, ap, subst, sym, ◌∙◌, refl, Some}
 use Rattle.std.proofs.Math.Nat.{le_refl}
 use Rattle.audit_base.specs.Tells.{gives}
-use Rattle.icu_machine.specs.Machine.{with_capture, served_by, kinds_by, notices_of, index_by}
-use Rattle.icu_machine.specs.Table.{is_timestamp}
+use Rattle.module_machines.specs.icu.Machine.{with_capture, served_by, kinds_by, notices_of, index_by}
+use Rattle.module_machines.specs.icu.Table.{is_timestamp}
 use Rattle.std.specs.Prelude.{option_map}
 use Rattle.audit_captures.specs.Stands.{CapturesKept, ChannelStands, StandsFor, edge_of, start_of, keeps_edge, more_served, more_stored, stored_if, with_kept}
 use Rattle.audit_captures.proofs.ModuleLaws.{set-stands, more-stamps}

@@ -1,6 +1,6 @@
 use Rattle.std.proofs.Common.{◌≡◌, ap, subst, sym, ◌∙◌, ◌&&◌, true, false}
-use Rattle.icu_machine.specs.Machine.{Capture, capture_at, waits}
-use Rattle.icu_machine.specs.Table.{channel_of}
+use Rattle.module_machines.specs.icu.Machine.{Capture, capture_at, waits}
+use Rattle.module_machines.specs.icu.Table.{channel_of}
 use Rattle.audit_captures.specs.Stands.{CapturesKept, ChannelStands}
 use Rattle.audit_captures.proofs.captures.Captures.waits_at.Goals as goal
 

@@ -1,5 +1,5 @@
 use Rattle.std.proofs.Common.{subst, sym}
-use Rattle.icu_machine.specs.Machine.{work}
+use Rattle.module_machines.specs.icu.Machine.{work}
 use Rattle.audit_base.specs.Comes.{Gives}
 use Rattle.audit_captures.specs.Stands.{StandsFor}
 use Rattle.audit_captures.proofs.captures.Captures.work.Goals as goal

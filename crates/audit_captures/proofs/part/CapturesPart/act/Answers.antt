@@ -1,5 +1,5 @@
 use Rattle.run_model.specs.Machine.{Acts}
-use Rattle.icu_machine.specs.Machine.{happens}
+use Rattle.module_machines.specs.icu.Machine.{happens}
 use Rattle.audit_base.proofs.Leaves.{comes_follow}
 use Rattle.audit_captures.specs.Stands.{StandsFor}
 use Rattle.audit_captures.proofs.part.CapturesPart.act.Goals as goal

@@ -1,6 +1,6 @@
 use Rattle.std.proofs.Common.{subst, sym}
 use Rattle.run_model.specs.Machine.{Serves}
-use Rattle.icu_machine.specs.Machine.{happens}
+use Rattle.module_machines.specs.icu.Machine.{happens}
 use Rattle.audit_base.proofs.Leaves.{served_follow}
 use Rattle.audit_captures.specs.Stands.{StandsFor}
 use Rattle.audit_captures.proofs.part.CapturesPart.serve.Goals as goal

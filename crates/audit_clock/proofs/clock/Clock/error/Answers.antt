@@ -1,7 +1,7 @@
 use Rattle.std.proofs.Common.{ap, ◌∙◌, not}
-use Rattle.det_errors.specs.Rows.{first_error}
-use Rattle.mcu_machine.specs.Checks.{service_of, facts_by}
-use Rattle.mcu_machine.specs.Machine.{is_locked}
+use Rattle.mcal_base.specs.det_errors.Rows.{first_error}
+use Rattle.module_machines.specs.mcu.Checks.{service_of, facts_by}
+use Rattle.module_machines.specs.mcu.Machine.{is_locked}
 use Rattle.audit_clock.specs.ClockStands.{ClockKept}
 use Rattle.audit_clock.proofs.clock.Clock.error.Goals as goal
 

@@ -1,6 +1,6 @@
 use Rattle.std.proofs.Common.{ap, subst, ◌∙◌}
-use Rattle.mcu_machine.specs.Machine.{filled}
-use Rattle.mcu_machine.specs.Table.{section_of}
+use Rattle.module_machines.specs.mcu.Machine.{filled}
+use Rattle.module_machines.specs.mcu.Table.{section_of}
 use Rattle.audit_clock.specs.ClockStands.{ClockKept, StandsFor}
 use Rattle.audit_clock.proofs.clock.Clock.fill_numbered.Goals as goal
 

@@ -1,6 +1,6 @@
 use Rattle.std.proofs.Common.{ap, ◌∙◌, ◌+◌, slice_index_or}
 use Rattle.std.specs.Prelude.{if◌then◌else◌}
-use Rattle.mcu_machine.specs.Table.{is_within}
+use Rattle.module_machines.specs.mcu.Table.{is_within}
 use Rattle.audit_clock.specs.ClockStands.{ClockKept, is_between}
 use Rattle.audit_clock.proofs.Fills.{within_room}
 use Rattle.audit_clock.proofs.clock.Clock.fill_section.Goals as goal

@@ -1,5 +1,5 @@
 use Rattle.std.proofs.Common.{refl, subst, sym}
-use Rattle.mcu_machine.specs.Machine.{work}
+use Rattle.module_machines.specs.mcu.Machine.{work}
 use Rattle.audit_base.specs.Comes.{Gives}
 use Rattle.audit_clock.specs.ClockStands.{StandsFor}
 use Rattle.audit_clock.proofs.clock.Clock.work.Goals as goal

@@ -1,5 +1,5 @@
 use Rattle.run_model.specs.Machine.{Acts}
-use Rattle.mcu_machine.specs.Machine.{happens}
+use Rattle.module_machines.specs.mcu.Machine.{happens}
 use Rattle.audit_base.proofs.Leaves.{comes_follow}
 use Rattle.audit_clock.specs.ClockStands.{StandsFor}
 use Rattle.audit_clock.proofs.clock_part.ClockPart.act.Goals as goal

@@ -1,6 +1,6 @@
 use Rattle.std.proofs.Common.{◌∙◌, ◌==◌, ap, sym, slice_index_or}
 use Rattle.std.specs.Prelude.{if◌then◌else◌}
-use Rattle.port_machine.specs.Machine.{Inverted, PinState, after_change, untouched}
+use Rattle.module_machines.specs.port.Machine.{Inverted, PinState, after_change, untouched}
 use Rattle.audit_clock.specs.PinStands.{state_of}
 use Rattle.audit_clock.proofs.PortPlaces.{inverted_there}
 use Rattle.audit_clock.proofs.pins.Pins.invert.Goals as goal

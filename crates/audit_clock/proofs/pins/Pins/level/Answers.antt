@@ -1,5 +1,5 @@
 use Rattle.std.proofs.Common.{ap, ◌∙◌}
-use Rattle.port_machine.specs.Machine.{PinState, level_of}
+use Rattle.module_machines.specs.port.Machine.{PinState, level_of}
 use Rattle.audit_clock.proofs.pins.Pins.level.Goals as goal
 
 pub returns-clause-kept : goal.returns-clause-kept

@@ -1,6 +1,6 @@
 use Rattle.std.proofs.Common.{◌≡◌, ◌+◌, ◌*◌, ◌/◌, ◌%◌, ◌∙◌, ap, sym, refl, arith, slice_index_or, nat_lt, ◌==◌, ◌&&◌}
 use Rattle.std.specs.Prelude.{if◌then◌else◌}
-use Rattle.port_machine.specs.Machine.{Put, PinState, after_change, untouched}
+use Rattle.module_machines.specs.port.Machine.{Put, PinState, after_change, untouched}
 use Rattle.audit_clock.specs.PinStands.{latched, state_of}
 use Rattle.audit_clock.proofs.PortPlaces.{put_none, put_next, put_all}
 use Rattle.audit_clock.proofs.pins.Pins.put.Goals as goal

@@ -1,6 +1,6 @@
 use Rattle.std.proofs.Common.{◌≡◌, ℕ, ◌/◌, ◌%◌, ◌<◌, ◌==◌, ◌&&◌, nat_lt, slice_index_or}
 use Rattle.std.specs.Prelude.{if◌then◌else◌}
-use Rattle.port_machine.specs.Machine.{untouched}
+use Rattle.module_machines.specs.port.Machine.{untouched}
 use Rattle.audit_clock.specs.PinStands.{latched}
 use Rattle.audit_clock.proofs.pins.Pins.put.Given as goal
 

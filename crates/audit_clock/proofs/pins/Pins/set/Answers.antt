@@ -1,6 +1,6 @@
 use Rattle.std.proofs.Common.{◌≡◌, ◌<◌, ◌∙◌, sym, ap, subst, length, slice_index_or, false}
 use Rattle.std.specs.Prelude.{◌==◌, if◌then◌else◌}
-use Rattle.port_machine.specs.Machine as spec
+use Rattle.module_machines.specs.port.Machine as spec
 use Rattle.audit_clock.specs.PinStands.{state_of}
 use Rattle.audit_clock.specs.declared.pin_state.PinState.{PinState}
 use Rattle.mcal_base.specs.declared.config.port.PortPinDirection.TheVariants.{In}

@@ -1,8 +1,8 @@
 use Rattle.std.proofs.Common.{◌≡◌, ℕ, ◌<◌, ◌∙◌, sym, ap, subst, length, slice_index_or, nat_lt, false, map}
 use Rattle.std.specs.Prelude.{if◌then◌else◌}
-use Rattle.port_machine.specs.Machine as spec
+use Rattle.module_machines.specs.port.Machine as spec
 use Rattle.audit_clock.specs.PinStands.{state_of, turned}
-use Rattle.port_machine.specs.Table.{pin_of}
+use Rattle.module_machines.specs.port.Table.{pin_of}
 use Rattle.audit_clock.specs.declared.pin_state.PinState.{PinState}
 use Rattle.mcal_base.specs.declared.config.port.PortPinDirection.TheVariants.{In}
 use Rattle.mcal_base.specs.declared.config.port.PortPinMode.TheVariants.{Adc}

@@ -1,8 +1,8 @@
 use Rattle.std.proofs.Common.{◌≡◌, ℕ, ◌<◌, slice_index_or, nat_lt}
 use Rattle.std.specs.Prelude.{if◌then◌else◌}
-use Rattle.port_machine.specs.Machine as spec
+use Rattle.module_machines.specs.port.Machine as spec
 use Rattle.audit_clock.specs.PinStands.{turned}
-use Rattle.port_machine.specs.Table.{pin_of}
+use Rattle.module_machines.specs.port.Table.{pin_of}
 use Rattle.audit_clock.proofs.pins.Pins.turn.Given as goal
 
 abbrev pub invariant-loop-number : goal.invariant-loop-number

@@ -1,5 +1,5 @@
 use Rattle.run_model.specs.Machine.{Acts}
-use Rattle.port_machine.specs.Machine.{happens}
+use Rattle.module_machines.specs.port.Machine.{happens}
 use Rattle.audit_base.proofs.Leaves.{comes_follow}
 use Rattle.audit_clock.specs.PinStands.{StandsFor}
 use Rattle.audit_clock.proofs.pins_part.PinsPart.act.Goals as goal

@@ -2,7 +2,7 @@
 use Rattle.std.proofs.Common.{◌∙◌, ap, refl, None}
 use Rattle.std.specs.Prelude.{map}
 use Rattle.mcal_base.specs.Bits.{has_bit}
-use Rattle.port_machine.specs.Bounds.{must_by}
+use Rattle.module_machines.specs.port.Bounds.{must_by}
 use Rattle.audit_subject.specs.Marks.{is_met, marks}
 use Rattle.audit_subject.proofs.Masks.{bit_is, all_set}
 use Rattle.audit_clock.proofs.pins_subject.PinsSubject.duties.Goals as goal

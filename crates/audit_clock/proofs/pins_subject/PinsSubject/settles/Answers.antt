@@ -4,7 +4,7 @@ use Rattle.std.specs.Prelude.{map}
 use Rattle.std.proofs.lemmas.List.{get_or-map}
 use Rattle.mcal_base.specs.Bits.{has_bit}
 use Rattle.mcal_base.specs.declared.moves.Move.{Move}
-use Rattle.port_machine.specs.Bounds.{must_by}
+use Rattle.module_machines.specs.port.Bounds.{must_by}
 use Rattle.audit_subject.specs.Marks.{is_met, marks}
 use Rattle.audit_subject.proofs.Masks.{bit_is}
 use Rattle.audit_clock.proofs.pins_subject.PinsSubject.settles.Goals as goal

@@ -1,5 +1,5 @@
 use Rattle.std.proofs.Common.{subst}
-use Rattle.dio_machine.specs.Machine.{does_by}
+use Rattle.module_machines.specs.dio.Machine.{does_by}
 use Rattle.audit_base.specs.Comes.{Gives}
 use Rattle.audit_clock.specs.PinStands.{StandsFor}
 use Rattle.audit_clock.specs.PortPins.{pins_seeing}

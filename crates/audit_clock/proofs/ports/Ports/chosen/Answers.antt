@@ -1,5 +1,5 @@
 use Rattle.std.proofs.Common.{sym, ◌∙◌}
-use Rattle.dio_machine.specs.Table.{pins_of}
+use Rattle.module_machines.specs.dio.Table.{pins_of}
 use Rattle.audit_clock.proofs.PortPlaces.{low_port}
 use Rattle.audit_clock.proofs.ports.Ports.chosen.Goals as goal
 

@@ -1,6 +1,6 @@
 use Rattle.std.proofs.Common.{◌≡◌, subst, sym, refl, Some}
-use Rattle.dio_machine.specs.Machine.{puts_value, work}
-use Rattle.dio_machine.specs.Table.{pins_of}
+use Rattle.module_machines.specs.dio.Machine.{puts_value, work}
+use Rattle.module_machines.specs.dio.Table.{pins_of}
 use Rattle.audit_base.specs.Comes.{Gives}
 use Rattle.audit_clock.specs.PinStands.{StandsFor}
 use Rattle.audit_clock.specs.PortPins.{pins_seeing}

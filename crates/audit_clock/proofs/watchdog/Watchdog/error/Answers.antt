@@ -1,6 +1,6 @@
 use Rattle.std.proofs.Common.{ap, ◌∙◌, is_some, not}
-use Rattle.det_errors.specs.Rows.{first_error}
-use Rattle.wdg_machine.specs.Checks.{service_of, facts_by}
+use Rattle.mcal_base.specs.det_errors.Rows.{first_error}
+use Rattle.module_machines.specs.wdg.Checks.{service_of, facts_by}
 use Rattle.audit_clock.specs.WatchdogKept.{WatchdogKept}
 use Rattle.audit_clock.proofs.watchdog.Watchdog.error.Goals as goal
 

@@ -1,6 +1,6 @@
 use Rattle.std.proofs.Common.{Some, subst, sym}
 use Rattle.std.specs.Prelude.{IfOk}
-use Rattle.dio_machine.specs.Machine.{does}
+use Rattle.module_machines.specs.dio.Machine.{does}
 use Rattle.run_model.specs.Machine.{Acts}
 use Rattle.audit_base.proofs.Leaves.{comes_follow}
 use Rattle.audit_base.specs.Deeds.{Follows, quiet}

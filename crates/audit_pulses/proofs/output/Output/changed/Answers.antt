@@ -1,7 +1,7 @@
 use Rattle.std.proofs.Common.{◌≡◌, ℕ, ◌+◌, ◌-◌, ap, sym, subst, ◌∙◌, arith}
-use Rattle.chip_pulses.specs.Pulses.{changed_between}
-use Rattle.chip_pulses.specs.Regime.{changed_by_turn}
-use Rattle.pwm_machine.specs.Units.{output_in, regime_in}
+use Rattle.chip_blocks.specs.pulses.Pulses.{changed_between}
+use Rattle.chip_blocks.specs.pulses.Regime.{changed_by_turn}
+use Rattle.module_machines.specs.pwm.Units.{output_in, regime_in}
 use Rattle.audit_pulses.specs.Stands.{output_of, regime_of}
 use Rattle.audit_pulses.specs.declared.output.Output.{Output}
 use Rattle.audit_pulses.proofs.output.Output.changed.Goals as goal

@@ -1,7 +1,7 @@
 use Rattle.std.proofs.Common.{ap, ◌∙◌, true}
-use Rattle.chip_pulses.specs.Pulses.{changed_between}
-use Rattle.pwm_machine.specs.Units.{chosen, output_in}
-use Rattle.pwm_machine.specs.laws.Relation.{chosen_same}
+use Rattle.chip_blocks.specs.pulses.Pulses.{changed_between}
+use Rattle.module_machines.specs.pwm.Units.{chosen, output_in}
+use Rattle.module_machines.specs.pwm.laws.Relation.{chosen_same}
 use Rattle.audit_pulses.specs.Stands.{output_of}
 use Rattle.audit_pulses.proofs.output.Output.turns.Goals as goal
 

@@ -2,7 +2,7 @@ use Rattle.std.proofs.Common.{◌≡◌, ◌≤◌, ◌∙◌, subst, sym, Some}
 use Rattle.run_model.specs.Machine.{Acts}
 use Rattle.audit_base.proofs.Leaves.{act_follows}
 use Rattle.audit_base.specs.Deeds.{Follows, quiet}
-use Rattle.pwm_machine.specs.Machine.{happens}
+use Rattle.module_machines.specs.pwm.Machine.{happens}
 use Rattle.audit_pulses.proofs.Times.{acts_same}
 use Rattle.audit_pulses.specs.Stands.{times_of}
 use Rattle.audit_pulses.proofs.part.PulsesPart.act.Goals as goal

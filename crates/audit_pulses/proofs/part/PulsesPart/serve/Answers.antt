@@ -2,7 +2,7 @@ use Rattle.std.proofs.Common.{◌≡◌, ◌≤◌, subst, sym}
 use Rattle.run_model.specs.Machine.{Serves}
 use Rattle.audit_base.proofs.Leaves.{serve_follows}
 use Rattle.audit_base.specs.Deeds.{Follows}
-use Rattle.pwm_machine.specs.Machine.{happens}
+use Rattle.module_machines.specs.pwm.Machine.{happens}
 use Rattle.audit_pulses.proofs.part.PulsesPart.serve.Goals as goal
 
 pub returns-clause-follows : goal.returns-clause-follows

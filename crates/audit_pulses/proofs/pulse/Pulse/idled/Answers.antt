@@ -1,5 +1,5 @@
 use Rattle.std.proofs.Common.{sym, subst, arith}
-use Rattle.pwm_machine.specs.Units.{IsBegun}
+use Rattle.module_machines.specs.pwm.Units.{IsBegun}
 use Rattle.audit_pulses.specs.Stands.{output_of}
 use Rattle.audit_pulses.proofs.pulse.Pulse.idled.Goals as goal
 

@@ -1,6 +1,6 @@
 use Rattle.std.proofs.Common.{ap, sym, subst, ◌∙◌, arith}
-use Rattle.pwm_machine.specs.Units.{IsBegun}
-use Rattle.pwm_machine.specs.laws.Relation.{with_new_begun}
+use Rattle.module_machines.specs.pwm.Units.{IsBegun}
+use Rattle.module_machines.specs.pwm.laws.Relation.{with_new_begun}
 use Rattle.audit_pulses.specs.Stands.{output_of}
 use Rattle.audit_pulses.proofs.pulse.Pulse.set_to.Goals as goal
 

@@ -1,6 +1,6 @@
 use Rattle.std.proofs.Common.{ap, ◌∙◌, not}
-use Rattle.det_errors.specs.Rows.{first_error}
-use Rattle.pwm_machine.specs.Checks.{service_of, facts_by}
+use Rattle.mcal_base.specs.det_errors.Rows.{first_error}
+use Rattle.module_machines.specs.pwm.Checks.{service_of, facts_by}
 use Rattle.audit_pulses.specs.Stands.{Kept}
 use Rattle.audit_pulses.proofs.pulses.Pulses.error.Goals as goal
 

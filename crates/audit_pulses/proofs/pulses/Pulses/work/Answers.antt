@@ -1,6 +1,6 @@
 use Rattle.std.proofs.Common.{◌≡◌, subst, sym}
 use Rattle.run_model.specs.Machine.{outcome}
-use Rattle.pwm_machine.specs.Machine.{work}
+use Rattle.module_machines.specs.pwm.Machine.{work}
 use Rattle.audit_pulses.specs.Stands.{times_of}
 use Rattle.audit_pulses.proofs.pulses.Pulses.work.Goals as goal
 

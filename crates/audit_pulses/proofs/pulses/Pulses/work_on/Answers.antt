@@ -1,7 +1,7 @@
 use Rattle.std.proofs.Common.{◌≡◌, ap, sym, ◌∙◌}
 use Rattle.run_model.specs.Machine.{outcome}
-use Rattle.pwm_machine.specs.Machine.{channel_work, pulse_at, with_pulse}
-use Rattle.pwm_machine.specs.Table.{channel_of}
+use Rattle.module_machines.specs.pwm.Machine.{channel_work, pulse_at, with_pulse}
+use Rattle.module_machines.specs.pwm.Table.{channel_of}
 use Rattle.audit_pulses.specs.Stands.{Kept, pulse_of}
 use Rattle.audit_pulses.proofs.pulses.Pulses.work_on.Goals as goal
 

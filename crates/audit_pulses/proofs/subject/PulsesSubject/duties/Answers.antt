@@ -2,7 +2,7 @@
 use Rattle.std.proofs.Common.{◌∙◌, ap, refl, None}
 use Rattle.std.specs.Prelude.{map}
 use Rattle.mcal_base.specs.Bits.{has_bit}
-use Rattle.pwm_machine.specs.Bounds.{must_by}
+use Rattle.module_machines.specs.pwm.Bounds.{must_by}
 use Rattle.audit_subject.specs.Marks.{is_met, marks}
 use Rattle.audit_subject.proofs.Masks.{bit_is, all_set}
 use Rattle.audit_pulses.proofs.subject.PulsesSubject.duties.Goals as goal

@@ -2,7 +2,7 @@ use Rattle.std.proofs.Common.{◌≡◌, subst, Some}
 use Rattle.run_model.specs.Machine.{Acts}
 use Rattle.audit_base.proofs.Leaves.{act_follows}
 use Rattle.audit_base.specs.Deeds.{Follows, quiet}
-use Rattle.gpt_machine.specs.Machine.{happens}
+use Rattle.module_machines.specs.gpt.Machine.{happens}
 use Rattle.audit_timers.proofs.part.TimersPart.act.Goals as goal
 
 pub returns-clause-follows : goal.returns-clause-follows

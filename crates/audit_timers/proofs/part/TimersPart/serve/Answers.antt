@@ -2,7 +2,7 @@ use Rattle.std.proofs.Common.{◌≡◌, ap, subst}
 use Rattle.run_model.specs.Machine.{Serves}
 use Rattle.audit_base.proofs.Leaves.{serve_follows}
 use Rattle.audit_base.specs.Deeds.{Follows}
-use Rattle.gpt_machine.specs.Machine.{happens}
+use Rattle.module_machines.specs.gpt.Machine.{happens}
 use Rattle.audit_timers.proofs.part.TimersPart.serve.Goals as goal
 
 pub returns-clause-follows : goal.returns-clause-follows

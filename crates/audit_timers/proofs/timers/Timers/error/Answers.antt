@@ -1,8 +1,8 @@
 use Rattle.std.proofs.Common.{ap, ◌∙◌, sym, refl, false, []}
 use Rattle.run_model.specs.World.{World}
-use Rattle.det_errors.specs.Rows.{first_error}
-use Rattle.gpt_machine.specs.Checks.{service_of, facts_by}
-use Rattle.gpt_machine.specs.Machine.{is_off, is_asleep, is_busy}
+use Rattle.mcal_base.specs.det_errors.Rows.{first_error}
+use Rattle.module_machines.specs.gpt.Checks.{service_of, facts_by}
+use Rattle.module_machines.specs.gpt.Machine.{is_off, is_asleep, is_busy}
 use Rattle.audit_timers.specs.Stands.{Kept}
 use Rattle.audit_timers.proofs.Errors.{takes-what}
 use Rattle.audit_timers.proofs.timers.Timers.error.Goals as goal

@@ -4,7 +4,7 @@ use Rattle.mcal_base.specs.Layout.{length_of}
 use Rattle.mcal_base.specs.declared.layout.Array.TheVariants.{Source}
 use Rattle.shown_rows.specs.Shows.{serial_channel}
 use Rattle.shown_rows.proofs.SoundSerial.{channel_words}
-use Rattle.spi_jobs.specs.declared.channel.Channel.{Channel}
+use Rattle.word_shapes.specs.declared.jobs.channel.Channel.{Channel}
 use Rattle.spi_machine.specs.Table.{channel_of, table_of}
 use Rattle.spi_machine.specs.declared.table.SpiTable.{SpiTable}
 use Rattle.audit_whole.specs.Resting.{Resting}

@@ -1,7 +1,7 @@
 -- A word that begins comes from the selected device, or else from those that wait.
 use Rattle.std.proofs.Common.{◌≡◌, ◌≤◌, ◌∙◌, sym, subst}
 use Rattle.std.specs.Prelude.{MatchBool}
-use Rattle.chip_units.specs.Serials.{unit_at}
+use Rattle.chip_blocks.specs.units.Serials.{unit_at}
 use Rattle.chip_model.specs.Chip.{next_word}
 use Rattle.chip_model.proofs.DeviceLaws.{masked-fits, next_in}
 use Rattle.chip_model.proofs.bus.Bus.begin_word.Goals as goal

@@ -1,11 +1,11 @@
 -- The flags are those of the line's block.
 use Rattle.std.proofs.Common.{◌∙◌, ap, arith}
 use Rattle.mcal_base.specs.Bits.{has_bit}
-use Rattle.chip_timers.specs.Timers as timers
-use Rattle.chip_pulses.specs.Pulses as pulses
-use Rattle.chip_captures.specs.Captures as captures
-use Rattle.chip_converter.specs.Converters as converters
-use Rattle.chip_units.specs.Serials as serials
+use Rattle.chip_blocks.specs.timers.Timers as timers
+use Rattle.chip_blocks.specs.pulses.Pulses as pulses
+use Rattle.chip_blocks.specs.captures.Captures as captures
+use Rattle.chip_blocks.specs.converter.Converters as converters
+use Rattle.chip_blocks.specs.units.Serials as serials
 use Rattle.chip_model.specs.Chip.{Chip}
 use Rattle.chip_model.proofs.LineLaws.{flag-timer, flag-pulse, flag-capture, flag-converter, flag-serial, flag-trigger}
 use Rattle.chip_model.proofs.bus.Bus.flags_with.Goals as goal

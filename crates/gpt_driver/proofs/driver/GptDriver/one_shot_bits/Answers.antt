@@ -2,7 +2,7 @@
 use Rattle.std.proofs.Common.{ℕ, ◌<◌, Bool, sym, ◌∙◌, ap, arith}
 use Rattle.std.specs.Prelude.{bit_or}
 use Rattle.mcal_base.proofs.BitLaws.{bits_of-zero, bits_of-marked, bits_of-left}
-use Rattle.gpt_machine.specs.Table as spec
+use Rattle.module_machines.specs.gpt.Table as spec
 use Rattle.gpt_driver.specs.laws.Parts.{bit_shifted}
 use Rattle.gpt_driver.proofs.driver.GptDriver.one_shot_bits.Goals as goal
 use Rattle.gpt_driver.proofs.driver.GptDriver.one_shot_bits.Goals.{then-is_one_shot, else-is_one_shot}

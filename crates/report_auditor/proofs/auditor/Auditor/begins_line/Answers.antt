@@ -3,7 +3,7 @@ use Rattle.std.proofs.Common.{◌∷◌, subst}
 use Rattle.std.specs.Prelude.{IfOk}
 use Rattle.run_model.specs.Frame.{Entered}
 use Rattle.run_model.specs.Moment.{after}
-use Rattle.report_reading.specs.Steps.{Comes}
+use Rattle.report_text.specs.reading.Steps.{Comes}
 use Rattle.report_auditor.specs.Auditing.{Stands}
 use Rattle.report_auditor.specs.Deeds.{Judges, beginning}
 use Rattle.report_auditor.proofs.HeldLaws.{purpose_entered}

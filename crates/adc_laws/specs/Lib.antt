@@ -1,0 +1,2 @@
+pub mod serving
+pub mod turns

@@ -1,4 +1,0 @@
-pub mod Counted
-pub mod Cuts
-pub mod Feeds
-pub mod Judging

@@ -1,7 +1,0 @@
-use Rattle.std.proofs.Common.{◌≡◌}
-use Rattle.mcal_base.specs.Bits.{bits_of}
-use Rattle.chip_captures.specs.Captures.{capture_at, is_waiting}
-use Rattle.chip_captures.proofs.block.CaptureBlock.waiting_channels.Given as goal
-
-abbrev pub invariant-loop-channel : goal.invariant-loop-channel
-invariant-loop-channel l = l.bits ≡ bits_of (λ c. is_waiting (capture_at l.self c)) l.channel

@@ -1,6 +1,0 @@
--- The law is proved over the definitions.
-use Rattle.chip_captures.proofs.QueueLaws.{gap-after_loss}
-use Rattle.chip_captures.proofs.laws.gap_after_loss.Goals as goal
-
-pub returns : goal.returns
-returns _ = gap-after_loss

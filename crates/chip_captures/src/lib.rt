@@ -1,9 +1,0 @@
-//! The capture block of the reference chip: eight channels, each with a queue of edges and a count.
-#![tactic(auto)]
-
-mod block;
-mod capture;
-pub mod laws;
-mod queue;
-
-pub use block::CaptureBlock;

@@ -1,6 +1,0 @@
--- The laws are proved over the definitions.
-use Rattle.chip_converter.proofs.StateLaws.{pulse-gated, pulse-ignored}
-use Rattle.chip_converter.proofs.laws.pulse_at_a_gate.Goals as goal
-
-pub returns : goal.returns
-returns _ = record { on = pulse-gated; off = pulse-ignored }

@@ -1,6 +1,0 @@
--- The law is proved over the definitions.
-use Rattle.chip_converter.proofs.StateLaws.{result-until_ended}
-use Rattle.chip_converter.proofs.laws.result_until_ended.Goals as goal
-
-pub returns : goal.returns
-returns _ = result-until_ended

@@ -1,6 +1,0 @@
--- The laws are proved over the definitions.
-use Rattle.chip_pulses.proofs.PulseLaws.{level-high, level-low}
-use Rattle.chip_pulses.proofs.laws.output_since_idle.Goals as goal
-
-pub returns : goal.returns
-returns _ = record { high = level-high; low = level-low }

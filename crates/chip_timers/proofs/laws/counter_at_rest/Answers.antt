@@ -1,6 +1,0 @@
--- The laws are proved over the definitions.
-use Rattle.chip_timers.proofs.HistoryLaws.{running-gate_clear, counter-gate_clear, counter-rests}
-use Rattle.chip_timers.proofs.laws.counter_at_rest.Goals as goal
-
-pub returns : goal.returns
-returns _ = record { stopped = running-gate_clear; value = counter-gate_clear; rests = counter-rests }

@@ -1,6 +1,0 @@
--- The law is proved over the definitions.
-use Rattle.chip_timers.proofs.HistoryLaws.{counter-since_start}
-use Rattle.chip_timers.proofs.laws.counter_since_start.Goals as goal
-
-pub returns : goal.returns
-returns _ = counter-since_start

@@ -1,6 +1,0 @@
--- The law is proved over the definitions.
-use Rattle.chip_units.proofs.ClockLaws.{locked-since_start}
-use Rattle.chip_units.proofs.laws.locked_since_start.Goals as goal
-
-pub returns : goal.returns
-returns _ = locked-since_start

@@ -1,5 +1,0 @@
-use Rattle.chip_units.proofs.BegunLaws.{begun-later}
-use Rattle.chip_units.proofs.serials.SerialBlock.tick.Goals as goal
-
-pub invariant_of-self : goal.invariant_of-self
-invariant_of-self c = (c.self.invariant.0, begun-later c.self.inside.time c.args.ticks c.self.inside.units c.self.invariant.1)

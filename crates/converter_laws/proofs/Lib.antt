@@ -1,4 +1,0 @@
-pub mod GroupLaws
-pub mod GroupSteps
-pub mod PulseLaws
-pub mod RoundLaws

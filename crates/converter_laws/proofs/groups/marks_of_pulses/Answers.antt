@@ -1,5 +1,0 @@
-use Rattle.converter_laws.proofs.GroupLaws.{pulse_marks}
-use Rattle.converter_laws.proofs.groups.marks_of_pulses.Goals as goal
-
-pub returns-clause-marks : goal.returns-clause-marks
-returns-clause-marks _ = pulse_marks

@@ -1,5 +1,0 @@
-use Rattle.converter_laws.proofs.PulseLaws.{flag_by_pulses}
-use Rattle.converter_laws.proofs.triggers.flags_by_pulses.Goals as goal
-
-pub returns : goal.returns
-returns _ = flag_by_pulses

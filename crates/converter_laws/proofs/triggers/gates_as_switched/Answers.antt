@@ -1,5 +1,0 @@
-use Rattle.converter_laws.proofs.PulseLaws.{gate_on, gate_off}
-use Rattle.converter_laws.proofs.triggers.gates_as_switched.Goals as goal
-
-pub returns : goal.returns
-returns _ = record { on = gate_on; off = gate_off }

@@ -1,6 +1,0 @@
-//! What converter units and groups do: laws over the converter block and over the machine of the converter driver.
-#![tactic(auto)]
-
-pub mod chip;
-pub mod groups;
-pub mod triggers;

@@ -1,0 +1,3 @@
+pub mod guest
+pub mod held
+pub mod three

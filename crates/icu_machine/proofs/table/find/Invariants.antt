@@ -1,6 +1,0 @@
-use Rattle.std.proofs.Common.{◌≡◌, drop}
-use Rattle.icu_machine.specs.Table as spec
-use Rattle.icu_machine.proofs.table.find.Given as goal
-
-abbrev pub invariant-loop-channel : goal.invariant-loop-channel
-invariant-loop-channel l = spec.channel_in l.channels l.number ≡ spec.channel_in (drop l.channel-index l.channels) l.number

@@ -1,0 +1,3 @@
+pub mod converters
+pub mod serial
+pub mod timers

@@ -1,8 +1,0 @@
-use Rattle.mcu_machine.proofs.RunLaws.{unlocked_before, locked_from}
-use Rattle.mcu_machine.proofs.laws.locked_after_a_hundred_ticks.Goals as goal
-
-pub returns-clause-before : goal.returns-clause-before
-returns-clause-before _ = unlocked_before
-
-pub returns-clause-from : goal.returns-clause-from
-returns-clause-from _ = locked_from

@@ -1,6 +1,0 @@
-use Rattle.std.proofs.Common.{◌≡◌, drop}
-use Rattle.mcu_machine.specs.Table as spec
-use Rattle.mcu_machine.proofs.table.find_mode.Given as goal
-
-abbrev pub invariant-loop-mode : goal.invariant-loop-mode
-invariant-loop-mode l = spec.has_mode_in l.modes l.number ≡ spec.has_mode_in (drop l.mode-index l.modes) l.number

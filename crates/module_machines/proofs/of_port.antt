@@ -1,0 +1,4 @@
+pub mod ByNumber
+pub mod GuestLaws
+pub mod ModeLaws
+pub mod RunLaws

@@ -1,4 +1,0 @@
-mod ByNumber
-mod GuestLaws
-mod ModeLaws
-mod RunLaws

@@ -1,8 +1,0 @@
-use Rattle.std.proofs.Common.{◌≡◌, ◌-◌, ◌++◌, None, replicate}
-use Rattle.std.specs.Prelude.{map}
-use Rattle.std.specs.List.{range_with_len}
-use Rattle.port_machine.specs.Table as spec
-use Rattle.port_machine.proofs.table.by_number.Given as goal
-
-abbrev pub invariant-loop-number : goal.invariant-loop-number
-invariant-loop-number l = l.found ≡ map (λ p. spec.pin_in l.pins p) (range_with_len 0 l.number) ++ replicate (64 - l.number) None

@@ -1,5 +1,0 @@
-use Rattle.pwm_machine.proofs.StateLaws.{others_stay}
-use Rattle.pwm_machine.proofs.laws.other_channels_stay.Goals as goal
-
-pub returns : goal.returns
-returns _ = others_stay

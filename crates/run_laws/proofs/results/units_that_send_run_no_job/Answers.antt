@@ -1,5 +1,0 @@
-use Rattle.run_laws.proofs.WordStories.{never_runs}
-use Rattle.run_laws.proofs.results.units_that_send_run_no_job.Goals as goal
-
-pub returns : goal.returns
-returns _ = λ d past unit allowed sync. never_runs d unit past sync

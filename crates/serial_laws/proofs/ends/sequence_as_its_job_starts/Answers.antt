@@ -1,5 +1,0 @@
-use Rattle.serial_laws.proofs.Sequels.{has_started}
-use Rattle.serial_laws.proofs.ends.sequence_as_its_job_starts.Goals as goal
-
-pub returns : goal.returns
-returns _ d w s unit made_by received out u next p = has_started d w s unit made_by received out u next p

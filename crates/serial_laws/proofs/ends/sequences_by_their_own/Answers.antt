@@ -1,5 +1,0 @@
-use Rattle.serial_laws.proofs.Sequels.{happens_comes}
-use Rattle.serial_laws.proofs.ends.sequences_by_their_own.Goals as goal
-
-pub returns : goal.returns
-returns _ d w s h out q p made kept plain there = happens_comes d s q p there plain w h out made kept

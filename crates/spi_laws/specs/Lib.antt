@@ -1,0 +1,3 @@
+pub mod sending
+pub mod serving
+pub mod starting

@@ -1,8 +1,0 @@
-use Rattle.timer_laws.proofs.ChannelRests.{sleep_mark, sleep_value}
-use Rattle.timer_laws.proofs.channels.after_a_sleep.Goals as goal
-
-pub returns-clause-mark : goal.returns-clause-mark
-returns-clause-mark _ = sleep_mark
-
-pub returns-clause-value : goal.returns-clause-value
-returns-clause-value _ = sleep_value

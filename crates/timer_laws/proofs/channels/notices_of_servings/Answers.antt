@@ -1,5 +1,0 @@
-use Rattle.timer_laws.proofs.ChannelSwitches.{normal_notices}
-use Rattle.timer_laws.proofs.channels.notices_of_servings.Goals as goal
-
-pub returns-clause-normal : goal.returns-clause-normal
-returns-clause-normal _ d w later s c received on out history = normal_notices d w later s c on out history

@@ -1,5 +1,0 @@
-use Rattle.timer_laws.proofs.CountLaws.{one_shot_counts, full_counts, continuous_counts}
-use Rattle.timer_laws.proofs.counts.counts_by_times.Goals as goal
-
-pub returns : goal.returns
-returns _ = record { one_shot = one_shot_counts; full = full_counts; continuous = continuous_counts }

@@ -1,5 +1,0 @@
-use Rattle.timer_laws.proofs.CountLaws.{runs_until}
-use Rattle.timer_laws.proofs.counts.runs_until_expiry.Goals as goal
-
-pub returns-clause-one_shot : goal.returns-clause-one_shot
-returns-clause-one_shot _ = runs_until

@@ -1,4 +1,0 @@
-pub mod Balance
-pub mod MomentLaws
-pub mod MoreSigns
-pub mod Shows

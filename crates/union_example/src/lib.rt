@@ -1,8 +1,0 @@
-//! Three small drivers as one: each has one driver word, a call that stores it and a call that gives it.
-#![tactic(auto)]
-
-mod cell;
-mod trio;
-
-pub use cell::{Cell, CellCall, CellFrame};
-pub use trio::{Three, three};

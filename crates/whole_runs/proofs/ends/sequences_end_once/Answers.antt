@@ -1,9 +1,0 @@
--- The laws are proved over the definitions.
-use Rattle.whole_runs.proofs.EndsOnce.{all_end, end_once}
-use Rattle.whole_runs.proofs.ends.sequences_end_once.Goals as goal
-
-pub returns-clause-results : goal.returns-clause-results
-returns-clause-results c = all_end
-
-pub returns-clause-ends : goal.returns-clause-ends
-returns-clause-ends c = end_once
